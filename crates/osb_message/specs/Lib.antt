@@ -1,0 +1,3 @@
+pub mod Catalogue
+pub mod IdText
+pub mod Rows

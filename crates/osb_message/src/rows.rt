@@ -1,0 +1,157 @@
+//! A finite map from instance ids, which the cores keep their rows in.
+ghost use Rattle.std.specs.Prelude.{◌≡◌, ℕ, OnOk, OnErr, IsSome, IsNone, IsOk, IfOk, option_map, map};
+ghost use Rattle.std.specs.FinMap as finite;
+ghost use Rattle.std.specs.BTreeMap as tree;
+ghost use Rattle.std.specs.List.Sorted.{IsStrictlySortedBy};
+ghost use Rattle.std.specs.Ordering.{nat_cmp};
+ghost use Rattle.osb_message.specs.Rows.{set_at};
+
+use crate::{InstanceId, Memory};
+use std::alloc::Global;
+use std::collections::BTreeMap;
+use std::marker::Model;
+
+// Writes over the value at a key that is there.
+fn write_at<V: Copy>(rows: &mut BTreeMap<InstanceId, V>, id: InstanceId, value: V)
+    requires { IsSome (tree.get nat_cmp rows.old id) }
+    ensures { tree.Updates nat_cmp rows.old rows.new id (Some value) }
+{
+    if let Some(place) = rows.get_mut(&id) {
+        *place = value;
+    }
+}
+
+// Writes over the value at each key.
+fn write_all<V: Copy>(rows: &mut BTreeMap<InstanceId, V>, value: V)
+    ensures { rows.new.entries ≡ map (λ e. (e.0, value)) rows.old.entries }
+{
+    rows.retain(|_, place| {
+        *place = value;
+        true
+    });
+}
+
+// The keys, ascending.
+fn keys_of<V>(alloc: Global, rows: &BTreeMap<InstanceId, V>) -> Result<Vec<InstanceId>, Memory>
+    ensures keys { IfOk result (λ ids. ids.items ≡ tree.keys rows.now) }
+    ensures ascending { IfOk result (λ ids. IsStrictlySortedBy nat_cmp ids.items) }
+    ensures ordered { tree.IsOrdered nat_cmp rows.now }
+{
+    let Ok(ids) = rows.keys().copied().collect(alloc) else {
+        return Err(Memory);
+    };
+    Ok(ids)
+}
+
+/// What is kept for each of some instances: at most one value for an id.
+///
+/// Contracts see a finite map from ids to values.
+#[derive(Drop)]
+pub struct Rows<V> {
+    tree: BTreeMap<InstanceId, V>,
+}
+
+impl<V> Model for Rows<V> {
+    ghost use Rattle.std.specs.FinMap as map;
+    ghost use Rattle.std.specs.Ordering.{nat_cmp};
+    ghost use Rattle.std.specs.Coded.{coded_ℕ};
+
+    ghost Value = { map.FinMap nat_cmp V };
+
+    ghost coded = { map.code coded_ℕ V.code };
+
+    ghost view = { λ a. map.from_entries a.tree.entries };
+}
+
+impl<V: Copy> Rows<V> {
+    /// A map with nothing in it. It keeps the allocator for later entries, and takes no memory.
+    pub fn new(alloc: Global) -> Self
+        ensures { result ≡ finite.empty }
+    {
+        Rows {
+            tree: BTreeMap::new(alloc),
+        }
+    }
+
+    /// The value at the id, or none. It takes no memory.
+    pub fn get(&self, id: InstanceId) -> Option<V>
+        ensures { result ≡ finite.get self.now id }
+    {
+        self.tree.get(&id).copied()
+    }
+
+    /// Puts a value at the id, in place of any other.
+    ///
+    /// # Errors
+    ///
+    /// [`Memory`] where a growth was refused. The map is then as before.
+    pub fn insert(&mut self, id: InstanceId, value: V) -> Result<(), Memory>
+        ensures ok { OnOk result (self.new ≡ finite.insert self.old id value) }
+        ensures err { OnErr result (self.new ≡ self.old) }
+    {
+        let Ok(_) = self.tree.insert(id, value) else {
+            return Err(Memory);
+        };
+        Ok(())
+    }
+
+    /// Puts a value in the place of the one that is at the id. It takes no memory.
+    pub fn replace(&mut self, id: InstanceId, value: V)
+        requires { IsSome (finite.get self.old id) }
+        ensures { self.new ≡ finite.insert self.old id value }
+    {
+        write_at(&mut self.tree, id, value);
+    }
+
+    /// Takes away what is at the id, if there is anything. It takes no memory.
+    pub fn remove(&mut self, id: InstanceId)
+        ensures { self.new ≡ finite.remove self.old id }
+    {
+        self.tree.remove(&id);
+    }
+
+    /// Puts a value at the id in place of any other, or nothing.
+    ///
+    /// # Errors
+    ///
+    /// [`Memory`] where a growth was refused, which only a new entry asks for. The map is then as
+    /// before.
+    pub fn set(&mut self, id: InstanceId, value: Option<V>) -> Result<(), Memory>
+        ensures ok { OnOk result (self.new ≡ set_at self.old id value) }
+        ensures err { OnErr result (self.new ≡ self.old) }
+        ensures written { IsSome (finite.get self.old id) → IsOk result }
+        ensures removed { IsNone value → IsOk result }
+    {
+        let Some(value) = value else {
+            self.remove(id);
+            return Ok(());
+        };
+        if self.get(id).is_some() {
+            self.replace(id, value);
+            return Ok(());
+        }
+        self.insert(id, value)
+    }
+
+    /// The ids that have a value, ascending.
+    ///
+    /// # Errors
+    ///
+    /// [`Memory`] where a growth was refused.
+    pub fn ids(&self, alloc: Global) -> Result<Vec<InstanceId>, Memory>
+        ensures keys { IfOk result (λ ids. ids.items ≡ finite.keys self.now) }
+        ensures ascending { IfOk result (λ ids. IsStrictlySortedBy nat_cmp ids.items) }
+    {
+        keys_of(alloc, &self.tree)
+    }
+
+    /// Puts the value at each id that has one. It takes no memory.
+    pub fn fill(&mut self, value: V)
+        ensures { (q : ℕ) → finite.get self.new q ≡ option_map (λ _. value) (finite.get self.old q) }
+    {
+        write_all(&mut self.tree, value);
+    }
+}
+
+#[cfg(test)]
+mod tests;

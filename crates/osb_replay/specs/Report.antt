@@ -1,0 +1,60 @@
+-- The report of a schedule (this project's choice).
+use Rattle.std.specs.Prelude.{◌≡◌, ℕ, ◌+◌, ◌-◌, ◌==◌, cond, List, [], ◌∷◌, ◌++◌, length, Option, Some, None, codes}
+use Rattle.std.specs.Fmt.{decimal}
+use Rattle.std.specs.List.{flat_map, list_any}
+use Rattle.std.specs.List.Sorted.{IsStrictlySortedBy}
+use Rattle.std.specs.Ordering.{nat_cmp}
+use Rattle.osb_message.specs.IdText.{id_text}
+use Rattle.osb_replay.specs.declared.broker.BrokerRow.{BrokerRow}
+use Rattle.osb_replay.specs.declared.events.Event.{Event}
+use Rattle.osb_replay.specs.declared.platform.PlatformRow.{PlatformRow}
+use Rattle.osb_replay.specs.Cell.{Catalogue, Cell, applies, cell_after, creates, event_id}
+use Rattle.osb_replay.specs.Lines.{lines}
+use Rattle.osb_replay.specs.Platform.{state_word}
+use Rattle.osb_replay.specs.Schedule.{catalogue_of, events_in}
+
+-- what the platform records, in a word
+abbrev pub record_word : Option PlatformRow → List ℕ
+record_word None = []
+record_word (Some row) = state_word row.state
+
+-- what the broker holds, in a word
+abbrev pub broker_word : Option BrokerRow → List ℕ
+broker_word None = codes "none"
+broker_word (Some row) = codes "ready"
+
+-- the line of an instance: ID STATE BROKER
+abbrev pub id_line : ℕ → Cell → List ℕ
+id_line id cell = id_text id ++ 32 ∷ record_word cell.platform ++ 32 ∷ broker_word cell.broker ++ 10 ∷ []
+
+-- the line of a count
+abbrev pub count_line : List ℕ → ℕ → List ℕ
+count_line name count = name ++ 32 ∷ decimal count ++ 10 ∷ []
+
+-- how many of the events that follow these apply to their instance, each after all before it
+abbrev pub applied_after : Catalogue → List Event → List Event → ℕ
+applied_after cat before [] = 0
+applied_after cat before (event ∷ events) =
+    cond (applies (cell_after cat (event_id event) before) event) 1 0 + applied_after cat (before ++ event ∷ []) events
+
+-- how many of the events apply
+abbrev pub applied_count : Catalogue → List Event → ℕ
+applied_count cat events = applied_after cat [] events
+
+-- the ids that some Create names, ascending and once
+pub record AreCreated (events : List Event) (ids : List ℕ) : Type 0 where
+  pub ascending : IsStrictlySortedBy nat_cmp ids
+  pub created : (q : ℕ) → list_any (λ id. id == q) ids ≡ list_any (creates q) events
+
+-- a line for each of these ids, then the two counts
+abbrev pub report_text : Catalogue → List Event → List ℕ → List ℕ
+report_text cat events ids =
+    flat_map (λ id. id_line id (cell_after cat id events)) ids
+    ++ count_line (codes "applied") (applied_count cat events)
+    ++ count_line (codes "skipped") (length events - applied_count cat events)
+
+-- the report of a schedule without a fault: its lines are for exactly the created ids
+abbrev pub IsReport : List ℕ → List ℕ → Type 0
+IsReport bytes text =
+    (ids : List ℕ) × AreCreated (events_in (lines bytes)) ids
+    × (text ≡ report_text (catalogue_of (lines bytes)) (events_in (lines bytes)) ids)

@@ -1,0 +1,66 @@
+//! `osb-replay`: a schedule of what happens between a platform and a broker, replayed.
+//!
+//! `osb-replay replay` reads a schedule on standard input and writes on standard output what the
+//! platform records and what the broker holds in the end.
+#![tactic(auto)]
+
+mod broker;
+pub mod devices;
+mod events;
+pub mod faults;
+mod gathering;
+mod language;
+mod platform;
+pub mod replaying;
+mod report;
+mod scanner;
+mod tally;
+mod words;
+pub mod world;
+mod writing;
+
+use devices::{Input, Output};
+use faults::{ReplayFault, status_of};
+use replaying::replay;
+use std::env;
+use std::process::ExitCode;
+
+/// The status of a command line that isn't understood (this project's choice).
+const NOT_UNDERSTOOD: u8 = 2;
+
+/// Whether the words after the program's name are the one word `replay`.
+fn asks_replay(mut words: env::Args) -> bool {
+    let _program = words.next();
+    let asked = words.next().is_some_and(|word| word.as_str() == "replay");
+    asked && words.next().is_none()
+}
+
+/// Replays standard input to standard output.
+fn replay_streams(rt: &HostRuntime) -> Result<(), ReplayFault> {
+    let mut reader = Input::new(rt.stdin());
+    let mut writer = Output::new(rt.stdout());
+    replay(rt.alloc(), &mut reader, &mut writer)
+}
+
+/// Says what went wrong on standard error, and gives the status for it.
+fn failed(rt: &HostRuntime, fault: ReplayFault) -> ExitCode {
+    // Where standard error fails too, the status says it all.
+    let _ = eprintln!(rt; "osb-replay: {fault}");
+    ExitCode::from(status_of(&fault))
+}
+
+fn main(rt: HostRuntime) -> ExitCode {
+    let Ok(words) = env::args(&rt) else {
+        return failed(&rt, ReplayFault::Memory);
+    };
+    if !asks_replay(words) {
+        return ExitCode::from(NOT_UNDERSTOOD);
+    }
+    match replay_streams(&rt) {
+        Ok(()) => ExitCode::SUCCESS,
+        Err(fault) => failed(&rt, fault),
+    }
+}
+
+#[cfg(test)]
+mod tests;
