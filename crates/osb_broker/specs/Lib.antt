@@ -1,0 +1,10 @@
+pub mod Answers
+pub mod Change
+pub mod Deprovision
+pub mod Finished
+pub mod Handled
+pub mod Held
+pub mod Holding
+pub mod Poll
+pub mod Provision
+pub mod Words

@@ -1,0 +1,62 @@
+//! What a broker holds of one instance.
+ghost use Rattle.std.specs.Prelude.{◌≡◌};
+ghost use Rattle.osb_broker.specs.Answers.{same_plan};
+ghost use Rattle.osb_broker.specs.Words.{phase_word};
+
+use osb_message::{PlanId, Request, ServiceId};
+
+/// How far an instance is in its life.
+///
+/// A Poll is told of it as the state of the last operation (section Polling Last Operation for
+/// Service Instances). That a broker goes on holding an instance that failed, is being deleted or
+/// could not be deleted is this project's choice; the platform has it deleted (section Orphan
+/// Mitigation).
+#[derive(Clone, Copy, Debug, PartialEq, Eq, Hash)]
+pub enum Phase {
+    /// It is being made. The plan is asynchronous, as in all phases but `Ready`.
+    Making,
+    /// It is there, complete.
+    Ready,
+    /// It could not be made. What is left of it waits for a Deprovision.
+    Failed,
+    /// It is being deleted.
+    Deleting,
+    /// It could not be deleted. What is left of it waits for another Deprovision.
+    DeleteFailed,
+}
+
+impl Phase {
+    /// The word of the phase: `making`, `ready`, `failed`, `deleting` or `delete-failed` (this
+    /// project's choice). It takes no memory.
+    pub fn word(self) -> &'static str
+        ensures { result.now ≡ phase_word self }
+    {
+        match self {
+            Phase::Making => "making",
+            Phase::Ready => "ready",
+            Phase::Failed => "failed",
+            Phase::Deleting => "deleting",
+            Phase::DeleteFailed => "delete-failed",
+        }
+    }
+}
+
+/// What a broker holds of an instance: the service and plan that it was made with, and its phase.
+#[derive(Clone, Copy, Debug, PartialEq, Eq, Hash)]
+pub struct BrokerRow {
+    /// The instance's service (`service_id`).
+    pub service: ServiceId,
+    /// The instance's plan (`plan_id`).
+    pub plan: PlanId,
+    /// How far the instance is in its life.
+    pub phase: Phase,
+}
+
+impl BrokerRow {
+    // Whether the request names the service and plan that the instance was made with.
+    pub(crate) fn is_of_plan(&self, request: &Request) -> bool
+        ensures { result ≡ same_plan self.now request.now }
+    {
+        self.service == request.service && self.plan == request.plan
+    }
+}
