@@ -14,5 +14,5 @@ mod rows;
 pub use catalogue::{AddFault, Catalogue, Mode};
 pub use ids::{Id, IdFault, Instance, InstanceId, Plan, PlanId, Service, ServiceId};
 pub use memory::Memory;
-pub use messages::{Answer, Body, ErrorCode, Kind, LastState, Request};
+pub use messages::{Answer, Body, ErrorCode, Kind, LastState, Request, well_formed};
 pub use rows::Rows;

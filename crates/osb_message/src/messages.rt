@@ -1,4 +1,7 @@
 //! Requests and answers, as far as the life of a service instance needs them.
+ghost use Rattle.std.specs.Prelude.{◌≡◌};
+ghost use Rattle.osb_message.specs.Messages.{well_formed};
+
 use crate::{InstanceId, PlanId, ServiceId};
 
 /// Which of the three requests a platform makes.
@@ -74,3 +77,23 @@ pub enum ErrorCode {
     /// Any other code, or none.
     Other,
 }
+
+/// Whether an answer to a request of this kind is a success, or work in progress, that can be read
+/// whole.
+///
+/// It is for status 200, 201 or 202 with body [`Body::Empty`] where the kind is Provision or
+/// Deprovision, and for status 200 with body [`Body::State`] where the kind is Poll (sections
+/// Provisioning, Deprovisioning and Polling Last Operation for Service Instances; that nothing else
+/// in a body is read is this project's choice). It takes no memory.
+pub fn well_formed(kind: Kind, answer: Answer) -> bool
+    ensures { result ≡ well_formed kind answer }
+{
+    match (kind, answer.status, answer.body) {
+        (Kind::Provision | Kind::Deprovision, 200..=202, Body::Empty) => true,
+        (Kind::Poll, 200, Body::State(_)) => true,
+        _ => false,
+    }
+}
+
+#[cfg(test)]
+mod tests;

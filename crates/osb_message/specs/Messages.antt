@@ -1,0 +1,28 @@
+-- What an answer says.
+use Rattle.std.specs.Prelude.{Bool, true, false, ◌&&◌, ◌||◌, ◌==◌}
+use Rattle.osb_message.specs.declared.messages.Answer.{Answer}
+use Rattle.osb_message.specs.declared.messages.Body.{Body}
+use Rattle.osb_message.specs.declared.messages.Body.TheVariants.{Malformed, Empty, State, Error}
+use Rattle.osb_message.specs.declared.messages.Kind.{Kind}
+use Rattle.osb_message.specs.declared.messages.Kind.TheVariants.{Provision, Poll, Deprovision}
+
+-- whether the body can be read, and nothing in it is
+abbrev pub is_empty : Body → Bool
+is_empty Malformed = false
+is_empty Empty = true
+is_empty (State state) = false
+is_empty (Error code) = false
+
+-- whether the body is the state of a last operation
+abbrev pub is_state : Body → Bool
+is_state Malformed = false
+is_state Empty = false
+is_state (State state) = true
+is_state (Error code) = false
+
+-- whether an answer to a request of a kind is a success, or work in progress, that can be read whole
+-- (sections Provisioning, Polling Last Operation for Service Instances, Deprovisioning)
+abbrev pub well_formed : Kind → Answer → Bool
+well_formed Provision a = (a.status == 200 || a.status == 201 || a.status == 202) && is_empty a.body
+well_formed Poll a = (a.status == 200) && is_state a.body
+well_formed Deprovision a = (a.status == 200 || a.status == 201 || a.status == 202) && is_empty a.body

@@ -1,0 +1,7 @@
+use Rattle.osb_platform.proofs.Sound.{timed_out_sound, insert_sound}
+use Rattle.osb_platform.proofs.platform.Platform.timeout.Goals as goal
+
+pub invariant_of-self : goal.invariant_of-self
+invariant_of-self c =
+    rw (c.replace.ensures, c.in_state.ensures, c.decide_timeout.ensures)
+    (insert_sound c.self.inside.rows c.args.id _ c.self.invariant (timed_out_sound c.in-Some.row))

@@ -1,0 +1,3 @@
+pub mod Mitigation
+pub mod PlatformRow
+pub mod State

@@ -1,0 +1,321 @@
+//! The platform: what it records of each instance, and the requests that it makes.
+ghost use Rattle.std.specs.Prelude.{◌≡◌, ◌≢◌, ◌↔◌, ℕ, false, IsTrue, IsSome, IsNone, Contains, IsOk, IfOk, IfSome, IsSomeAnd, OnOk, OnErr};
+ghost use Rattle.std.specs.FinMap as map;
+ghost use Rattle.std.specs.List.Sorted.{IsStrictlySortedBy};
+ghost use Rattle.std.specs.Ordering.{nat_cmp};
+ghost use Rattle.osb_platform.specs.State.{state_after, due, is_polling, is_removable};
+ghost use Rattle.osb_platform.specs.PlatformRow.{IsSound, kind_out, wanted_row, first_request, next_request, sent, answered, timed_out, cleaned_up, can_send, can_expire, can_remove};
+
+use crate::{
+    CreateFault, ExpireFault, NoRequest, PlatformRow, RemoveFault, SendFault, State,
+    decide_deprovision, decide_poll, decide_provision, decide_timeout,
+};
+use osb_message::{Answer, InstanceId, Kind, Memory, PlanId, Request, Rows, ServiceId};
+use std::alloc::Global;
+use std::marker::Model;
+
+// The request that a platform sends next, if one is due.
+fn kind_due(state: State) -> Option<Kind>
+    ensures { result ≡ due state }
+{
+    match state {
+        State::Polling | State::CleaningPolling => Some(Kind::Poll),
+        State::Cleaning => Some(Kind::Deprovision),
+        State::Wanted | State::Ready | State::Gone | State::Unsettled => None,
+    }
+}
+
+// The record after the answer to a request of the kind.
+fn decide(state: State, kind: Kind, answer: Answer) -> State
+    ensures { result ≡ state_after state kind answer }
+{
+    match kind {
+        Kind::Provision => decide_provision(answer),
+        Kind::Poll => decide_poll(state, answer),
+        Kind::Deprovision => decide_deprovision(answer),
+    }
+}
+
+/// What a platform records of its instances. It is the source of truth: the broker is expected to
+/// hold all that the platform knows, and none that it doesn't.
+///
+/// Contracts see a finite map from ids to rows. In each row a wanted instance has a Provision
+/// outstanding; in every other state nothing is outstanding, or the request that is due there.
+#[derive(Drop)]
+pub struct Platform {
+    rows: Rows<PlatformRow>,
+}
+
+impl Model for Platform {
+    ghost use Rattle.std.specs.Ordering.{nat_cmp};
+    ghost use Rattle.std.specs.FinMap as map;
+    ghost use Rattle.std.specs.Coded.{coded_ℕ};
+    ghost use Rattle.osb_platform.specs.declared.row.PlatformRow.{PlatformRow};
+    ghost use Rattle.osb_platform.specs.contracts.row.PlatformRow as row;
+    ghost use Rattle.osb_platform.specs.PlatformRow.{IsSound};
+
+    ghost Value = { map.FinMap nat_cmp PlatformRow };
+
+    ghost coded = { map.code coded_ℕ row.the_row.coded };
+
+    ghost view = { λ p. p.rows };
+
+    ghost invariant = { λ p. IsSound p.rows };
+}
+
+impl Platform {
+    /// A platform with no instances. It keeps the allocator for later instances, and takes no memory.
+    #[tactic(auto, using(osb_message::proofs::Maps::row_steps))]
+    pub fn new(alloc: Global) -> Self
+        ensures { result ≡ map.empty }
+    {
+        Platform {
+            rows: Rows::new(alloc),
+        }
+    }
+
+    /// What is recorded of the instance, or none where its id was never recorded. It takes no memory.
+    pub fn row(&self, id: InstanceId) -> Option<PlatformRow>
+        ensures row { result ≡ map.get self.now id }
+        ensures sound { IsSound self.now }
+    {
+        self.rows.get(id)
+    }
+
+    /// The recorded ids, ascending.
+    ///
+    /// # Errors
+    ///
+    /// [`Memory`] where a growth was refused.
+    pub fn ids(&self, alloc: Global) -> Result<Vec<InstanceId>, Memory>
+        ensures keys { IfOk result (λ ids. ids.items ≡ map.keys self.now) }
+        ensures recorded { IfOk result (λ ids.
+            (q : ℕ) → Contains ids.items q ↔ IsSome (map.get self.now q)) }
+        ensures ascending { IfOk result (λ ids. IsStrictlySortedBy nat_cmp ids.items) }
+    {
+        self.rows.ids(alloc)
+    }
+
+    /// Records a new instance as `wanted` and gives its Provision, which is then outstanding (section
+    /// Provisioning).
+    ///
+    /// `accepts` says whether the platform takes an asynchronous operation.
+    ///
+    /// # Errors
+    ///
+    /// [`CreateFault::IdUsed`] exactly where the id is recorded, in any state: an id is never used
+    /// again (this project's choice). It takes no memory to say so. [`CreateFault::Memory`] where a
+    /// growth was refused. The platform is then as before.
+    #[tactic(auto, using(osb_message::proofs::Maps::row_steps))]
+    pub fn create(
+        &mut self,
+        id: InstanceId,
+        service: ServiceId,
+        plan: PlanId,
+        accepts: bool,
+    ) -> Result<Request, CreateFault>
+        ensures request { IfOk result (λ r. r ≡ first_request id service plan accepts) }
+        ensures row { OnOk result (map.get self.new id ≡ Some (wanted_row service plan)) }
+        ensures others { (q : ℕ) → q ≢ id → map.get self.new q ≡ map.get self.old q }
+
+        ensures id_used { (result ≡ Err CreateFault.IdUsed) ↔ IsSome (map.get self.old id) }
+        ensures new { OnOk result (map.get self.old id ≡ None) }
+        ensures memory { result ≡ Err CreateFault.Memory → map.get self.old id ≡ None }
+        ensures err { OnErr result (self.new ≡ self.old) }
+    {
+        if self.row(id).is_some() {
+            return Err(CreateFault::IdUsed);
+        }
+        let row = PlatformRow {
+            service,
+            plan,
+            state: State::Wanted,
+            out: Some(Kind::Provision),
+        };
+        let Ok(()) = self.rows.insert(id, row) else {
+            return Err(CreateFault::Memory);
+        };
+        Ok(Request {
+            kind: Kind::Provision,
+            id,
+            service,
+            plan,
+            accepts_incomplete: accepts,
+        })
+    }
+
+    /// Gives the request that is due, which is then outstanding: a Poll in `polling` and
+    /// `cleaning-polling` (section Polling Last Operation for Service Instances), a Deprovision in
+    /// `cleaning` (section Deprovisioning). It has the recorded service and plan, and accepts an
+    /// asynchronous operation. It takes no memory.
+    ///
+    /// # Errors
+    ///
+    /// In this order, with the platform as before: [`SendFault::Unknown`] where the id isn't recorded,
+    /// [`SendFault::Busy`] where a request is outstanding, [`SendFault::NothingDue`] in `ready`, `gone`
+    /// and `unsettled`.
+    #[tactic(auto, using(osb_message::proofs::Maps::row_steps))]
+    pub fn send(&mut self, id: InstanceId) -> Result<Request, SendFault>
+        ensures request { IfOk result (λ r. next_request id (map.get self.old id) ≡ Some r) }
+        ensures row { OnOk result (map.get self.new id ≡ sent (map.get self.old id)) }
+        ensures others { (q : ℕ) → q ≢ id → map.get self.new q ≡ map.get self.old q }
+
+        ensures ok { IsOk result ↔ IsTrue (can_send (map.get self.old id)) }
+        ensures unknown { (result ≡ Err SendFault.Unknown) ↔ IsNone (map.get self.old id) }
+        ensures busy { (result ≡ Err SendFault.Busy) ↔ IsSome (kind_out (map.get self.old id)) }
+        ensures nothing_due { (result ≡ Err SendFault.NothingDue) ↔ IsSomeAnd (map.get self.old id)
+            (λ row. (row.out ≡ None) × (due row.state ≡ None)) }
+        ensures err { OnErr result (self.new ≡ self.old) }
+    {
+        let Some(row) = self.row(id) else {
+            return Err(SendFault::Unknown);
+        };
+        if row.out.is_some() {
+            return Err(SendFault::Busy);
+        }
+        let Some(kind) = kind_due(row.state) else {
+            return Err(SendFault::NothingDue);
+        };
+        self.rows.replace(
+            id,
+            PlatformRow {
+                out: Some(kind),
+                ..row
+            },
+        );
+        Ok(Request {
+            kind,
+            id,
+            service: row.service,
+            plan: row.plan,
+            accepts_incomplete: true,
+        })
+    }
+
+    /// Takes the answer to the outstanding request: the state becomes what the table of its kind
+    /// gives, and nothing is outstanding. It takes no memory.
+    ///
+    /// # Errors
+    ///
+    /// [`NoRequest`] exactly where the id isn't recorded or no request is outstanding. The platform is
+    /// then as before.
+    #[tactic(auto, using(osb_message::proofs::Maps::row_steps))]
+    pub fn answer(&mut self, id: InstanceId, answer: Answer) -> Result<(), NoRequest>
+        ensures row { IfSome (kind_out (map.get self.old id)) (λ kind.
+            map.get self.new id ≡ answered kind answer (map.get self.old id)) }
+        ensures others { (q : ℕ) → q ≢ id → map.get self.new q ≡ map.get self.old q }
+
+        ensures ok { IsOk result ↔ IsSome (kind_out (map.get self.old id)) }
+        ensures err { OnErr result (self.new ≡ self.old) }
+    {
+        let Some(row) = self.row(id) else {
+            return Err(NoRequest);
+        };
+        let Some(kind) = row.out else {
+            return Err(NoRequest);
+        };
+        self.rows
+            .replace(id, row.in_state(decide(row.state, kind, answer)));
+        Ok(())
+    }
+
+    /// Gives up the outstanding request: `wanted` becomes `cleaning`, since its Provision may have
+    /// made an instance (section Orphan Mitigation), every other state stays, and nothing is
+    /// outstanding. It takes no memory.
+    ///
+    /// # Errors
+    ///
+    /// [`NoRequest`] exactly where the id isn't recorded or no request is outstanding. The platform is
+    /// then as before.
+    #[tactic(auto, using(osb_message::proofs::Maps::row_steps))]
+    pub fn timeout(&mut self, id: InstanceId) -> Result<(), NoRequest>
+        ensures row { OnOk result (map.get self.new id ≡ timed_out (map.get self.old id)) }
+        ensures others { (q : ℕ) → q ≢ id → map.get self.new q ≡ map.get self.old q }
+
+        ensures ok { IsOk result ↔ IsSome (kind_out (map.get self.old id)) }
+        ensures err { OnErr result (self.new ≡ self.old) }
+    {
+        let Some(row) = self.row(id) else {
+            return Err(NoRequest);
+        };
+        if row.out.is_none() {
+            return Err(NoRequest);
+        }
+        self.rows
+            .replace(id, row.in_state(decide_timeout(row.state)));
+        Ok(())
+    }
+
+    /// Gives up polling: the maximum polling duration has passed, and `polling` becomes `cleaning`
+    /// (sections Polling Last Operation for Service Instances and Orphan Mitigation). It takes no
+    /// memory.
+    ///
+    /// # Errors
+    ///
+    /// In this order, with the platform as before: [`ExpireFault::Unknown`] where the id isn't
+    /// recorded, [`ExpireFault::Busy`] where a request is outstanding, [`ExpireFault::NotPolling`] in
+    /// every state but `polling`.
+    #[tactic(auto, using(osb_message::proofs::Maps::row_steps))]
+    pub fn expire(&mut self, id: InstanceId) -> Result<(), ExpireFault>
+        ensures row { OnOk result (map.get self.new id ≡ cleaned_up (map.get self.old id)) }
+        ensures others { (q : ℕ) → q ≢ id → map.get self.new q ≡ map.get self.old q }
+
+        ensures ok { IsOk result ↔ IsTrue (can_expire (map.get self.old id)) }
+        ensures unknown { (result ≡ Err ExpireFault.Unknown) ↔ IsNone (map.get self.old id) }
+        ensures busy { (result ≡ Err ExpireFault.Busy) ↔ IsSome (kind_out (map.get self.old id)) }
+        ensures not_polling { (result ≡ Err ExpireFault.NotPolling) ↔ IsSomeAnd (map.get self.old id)
+            (λ row. (row.out ≡ None) × (is_polling row.state ≡ false)) }
+        ensures err { OnErr result (self.new ≡ self.old) }
+    {
+        let Some(row) = self.row(id) else {
+            return Err(ExpireFault::Unknown);
+        };
+        if row.out.is_some() {
+            return Err(ExpireFault::Busy);
+        }
+        match row.state {
+            State::Polling => {}
+            _ => return Err(ExpireFault::NotPolling),
+        }
+        self.rows.replace(id, row.in_state(State::Cleaning));
+        Ok(())
+    }
+
+    /// Has an instance deleted, as an operator asks: `polling`, `ready` and `unsettled` become
+    /// `cleaning` (section Deprovisioning; from which states is this project's choice). It takes no
+    /// memory.
+    ///
+    /// # Errors
+    ///
+    /// In this order, with the platform as before: [`RemoveFault::Unknown`] where the id isn't
+    /// recorded, [`RemoveFault::Busy`] where a request is outstanding, [`RemoveFault::NotRemovable`] in
+    /// every other state.
+    #[tactic(auto, using(osb_message::proofs::Maps::row_steps))]
+    pub fn remove(&mut self, id: InstanceId) -> Result<(), RemoveFault>
+        ensures row { OnOk result (map.get self.new id ≡ cleaned_up (map.get self.old id)) }
+        ensures others { (q : ℕ) → q ≢ id → map.get self.new q ≡ map.get self.old q }
+
+        ensures ok { IsOk result ↔ IsTrue (can_remove (map.get self.old id)) }
+        ensures unknown { (result ≡ Err RemoveFault.Unknown) ↔ IsNone (map.get self.old id) }
+        ensures busy { (result ≡ Err RemoveFault.Busy) ↔ IsSome (kind_out (map.get self.old id)) }
+        ensures not_removable { (result ≡ Err RemoveFault.NotRemovable) ↔ IsSomeAnd (map.get self.old id)
+            (λ row. (row.out ≡ None) × (is_removable row.state ≡ false)) }
+        ensures err { OnErr result (self.new ≡ self.old) }
+    {
+        let Some(row) = self.row(id) else {
+            return Err(RemoveFault::Unknown);
+        };
+        if row.out.is_some() {
+            return Err(RemoveFault::Busy);
+        }
+        match row.state {
+            State::Polling | State::Ready | State::Unsettled => {}
+            _ => return Err(RemoveFault::NotRemovable),
+        }
+        self.rows.replace(id, row.in_state(State::Cleaning));
+        Ok(())
+    }
+}
+
+#[cfg(test)]
+mod tests;

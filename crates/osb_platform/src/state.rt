@@ -1,0 +1,42 @@
+//! The state of an instance, as the platform records it.
+ghost use Rattle.std.specs.Prelude.{◌≡◌};
+ghost use Rattle.osb_platform.specs.State.{state_word};
+
+/// What a platform records of an instance (this project's choice; the standard leaves the record to
+/// the platform).
+#[derive(Clone, Copy, Debug, PartialEq, Eq, Hash)]
+pub enum State {
+    /// A Provision was sent, and nothing is known yet.
+    Wanted,
+    /// The broker makes the instance, and is polled.
+    Polling,
+    /// The instance is there, whole.
+    Ready,
+    /// The instance is to be deleted, or may be an orphan: a Deprovision is sent until the broker
+    /// says that there is none (section Orphan Mitigation).
+    Cleaning,
+    /// The broker deletes the instance, and is polled.
+    CleaningPolling,
+    /// There is no such instance. Its id isn't used again.
+    Gone,
+    /// The Provision failed, and nothing is sent until an operator has the instance removed.
+    Unsettled,
+}
+
+impl State {
+    /// The word of the state, as it is saved and printed: `wanted`, `polling`, `ready`, `cleaning`,
+    /// `cleaning-polling`, `gone` or `unsettled` (this project's choice). It takes no memory.
+    pub fn word(self) -> &'static str
+        ensures { result.now ≡ state_word self }
+    {
+        match self {
+            State::Wanted => "wanted",
+            State::Polling => "polling",
+            State::Ready => "ready",
+            State::Cleaning => "cleaning",
+            State::CleaningPolling => "cleaning-polling",
+            State::Gone => "gone",
+            State::Unsettled => "unsettled",
+        }
+    }
+}
