@@ -1,9 +1,7 @@
 pub mod Cutting
 pub mod Explaining
-pub mod Kept
 pub mod Reporting
 pub mod Runs
 pub mod Scanning
-pub mod Sound
 pub mod Splitting
 pub mod Tallying

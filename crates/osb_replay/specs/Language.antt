@@ -6,7 +6,8 @@ use Rattle.std.specs.Str.Lines.{strip_carriage_return}
 use Rattle.osb_message.specs.IdText.{id_of}
 use Rattle.osb_message.specs.declared.catalogue.Mode.{Mode}
 use Rattle.osb_message.specs.declared.catalogue.Mode.TheVariants.{Sync, Async}
-use Rattle.osb_replay.specs.declared.events.Event.TheVariants.{Create, Deliver, Answer}
+use Rattle.osb_broker.specs.declared.outcome.Outcome.TheVariants.{Done}
+use Rattle.osb_world.specs.declared.event.Event.TheVariants.{Create, Deliver, Answer}
 use Rattle.osb_replay.specs.declared.language.Line.{Line}
 use Rattle.osb_replay.specs.declared.language.Line.TheVariants.{Nothing, Plan, Event}
 use Rattle.osb_replay.specs.Words.{words_of}
@@ -24,14 +25,14 @@ plan_line (Some service) None mode = None
 plan_line None plan mode = None
 
 abbrev pub create_line : Option ℕ → Option ℕ → Option ℕ → Bool → Option Line
-create_line (Some id) (Some service) (Some plan) true = Some (Event (Create id service plan))
+create_line (Some id) (Some service) (Some plan) true = Some (Event (Create id service plan false))
 create_line (Some id) (Some service) (Some plan) false = None
 create_line (Some id) (Some service) None refused = None
 create_line (Some id) None plan refused = None
 create_line None service plan refused = None
 
 abbrev pub deliver_line : Option ℕ → Bool → Option Line
-deliver_line (Some id) true = Some (Event (Deliver id))
+deliver_line (Some id) true = Some (Event (Deliver id Done))
 deliver_line (Some id) false = None
 deliver_line None done = None
 

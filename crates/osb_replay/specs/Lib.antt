@@ -1,17 +1,12 @@
-pub mod Agreement
-pub mod Broker
-pub mod Cell
 pub mod Conversions
 pub mod Device
 pub mod Faults
 pub mod Gather
 pub mod Language
 pub mod Lines
-pub mod Platform
 pub mod Replay
 pub mod Report
 pub mod Scan
 pub mod Schedule
 pub mod Tally
-pub mod Views
 pub mod Words

@@ -1,17 +1,21 @@
 -- The report of a schedule (this project's choice).
-use Rattle.std.specs.Prelude.{◌≡◌, ℕ, ◌+◌, ◌-◌, ◌==◌, cond, List, [], ◌∷◌, ◌++◌, length, Option, Some, None, codes}
+use Rattle.std.specs.Prelude.{◌≡◌, ◌↔◌, Bool, false, Contains, IsTrue, ℕ, ◌+◌, ◌-◌, ◌==◌, cond, List, [], ◌∷◌, ◌++◌, length, Option, Some, None, codes}
 use Rattle.std.specs.Fmt.{decimal}
 use Rattle.std.specs.List.{flat_map, list_any}
 use Rattle.std.specs.List.Sorted.{IsStrictlySortedBy}
 use Rattle.std.specs.Ordering.{nat_cmp}
 use Rattle.osb_message.specs.IdText.{id_text}
-use Rattle.osb_replay.specs.declared.broker.BrokerRow.{BrokerRow}
-use Rattle.osb_replay.specs.declared.events.Event.{Event}
-use Rattle.osb_replay.specs.declared.platform.PlatformRow.{PlatformRow}
-use Rattle.osb_replay.specs.Cell.{Catalogue, Cell, applies, cell_after, creates, event_id}
+use Rattle.osb_broker.specs.declared.row.BrokerRow.{BrokerRow}
+use Rattle.osb_broker.specs.Answers.{Catalogue}
+use Rattle.osb_broker.specs.Words.{phase_word}
+use Rattle.osb_platform.specs.declared.row.PlatformRow.{PlatformRow}
+use Rattle.osb_platform.specs.State.{state_word}
+use Rattle.osb_world.specs.declared.cell.Cell.{Cell}
+use Rattle.osb_world.specs.declared.event.Event.{Event}
+use Rattle.osb_world.specs.Events.{cell_after, event_id}
+use Rattle.osb_world.specs.Steps.{applies}
 use Rattle.osb_replay.specs.Lines.{lines}
-use Rattle.osb_replay.specs.Platform.{state_word}
-use Rattle.osb_replay.specs.Schedule.{catalogue_of, events_in}
+use Rattle.osb_replay.specs.Schedule.{catalogue_in, events_in}
 
 -- what the platform records, in a word
 abbrev pub record_word : Option PlatformRow → List ℕ
@@ -21,7 +25,7 @@ record_word (Some row) = state_word row.state
 -- what the broker holds, in a word
 abbrev pub broker_word : Option BrokerRow → List ℕ
 broker_word None = codes "none"
-broker_word (Some row) = codes "ready"
+broker_word (Some row) = phase_word row.phase
 
 -- the line of an instance: ID STATE BROKER
 abbrev pub id_line : ℕ → Cell → List ℕ
@@ -41,10 +45,15 @@ applied_after cat before (event ∷ events) =
 abbrev pub applied_count : Catalogue → List Event → ℕ
 applied_count cat events = applied_after cat [] events
 
+-- whether the event asks for an instance of the id
+abbrev pub creates : ℕ → Event → Bool
+creates q (Event.Create id service plan accepts) = id == q
+creates q event = false
+
 -- the ids that some Create names, ascending and once
 pub record AreCreated (events : List Event) (ids : List ℕ) : Type 0 where
   pub ascending : IsStrictlySortedBy nat_cmp ids
-  pub created : (q : ℕ) → list_any (λ id. id == q) ids ≡ list_any (creates q) events
+  pub created : (q : ℕ) → Contains ids q ↔ IsTrue (list_any (creates q) events)
 
 -- a line for each of these ids, then the two counts
 abbrev pub report_text : Catalogue → List Event → List ℕ → List ℕ
@@ -57,4 +66,4 @@ report_text cat events ids =
 abbrev pub IsReport : List ℕ → List ℕ → Type 0
 IsReport bytes text =
     (ids : List ℕ) × AreCreated (events_in (lines bytes)) ids
-    × (text ≡ report_text (catalogue_of (lines bytes)) (events_in (lines bytes)) ids)
+    × (text ≡ report_text (catalogue_in (lines bytes)) (events_in (lines bytes)) ids)

@@ -2,11 +2,11 @@
 use Rattle.std.specs.Prelude.{ℕ, ◌||◌, List, [], ◌∷◌, Option, Some, None, if◌then◌else◌, is_some, length, nat_lt}
 use Rattle.std.specs.FinMap as map
 use Rattle.std.specs.List.{flat_map, fold}
-use Rattle.osb_replay.specs.declared.events.Event.{Event}
+use Rattle.osb_world.specs.declared.event.Event.{Event}
 use Rattle.osb_replay.specs.declared.faults.LineFault.{LineFault}
 use Rattle.osb_replay.specs.declared.faults.LineFault.TheVariants.{UnknownWord}
 use Rattle.osb_replay.specs.declared.language.Line.{Line}
-use Rattle.osb_replay.specs.Cell.{Catalogue}
+use Rattle.osb_broker.specs.Answers.{Catalogue}
 use Rattle.osb_replay.specs.Language.{line_of}
 
 -- a plan line adds its plan to the catalogue
@@ -17,8 +17,8 @@ with_plan cat (Some (Line.Plan service plan mode)) = map.insert cat (service, pl
 with_plan cat (Some (Line.Event event)) = cat
 
 -- the catalogue of the plan lines
-abbrev pub catalogue_of : List (List ℕ) → Catalogue
-catalogue_of lines = fold (λ cat line. with_plan cat (line_of line)) map.empty lines
+abbrev pub catalogue_in : List (List ℕ) → Catalogue
+catalogue_in lines = fold (λ cat line. with_plan cat (line_of line)) map.empty lines
 
 abbrev pub event_in : Option Line → List Event
 event_in None = []
@@ -44,4 +44,4 @@ fault_after cat events (Some (Line.Event event)) = None
 
 -- the fault of what a line says, after earlier lines
 unfoldable pub said_fault : List (List ℕ) → List ℕ → Option LineFault
-said_fault earlier line = fault_after (catalogue_of earlier) (events_in earlier) (line_of line)
+said_fault earlier line = fault_after (catalogue_in earlier) (events_in earlier) (line_of line)

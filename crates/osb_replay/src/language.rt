@@ -5,9 +5,10 @@ ghost use Rattle.osb_replay.specs.Language.{begins_comment, is_ascii, line_of, m
 ghost use Rattle.osb_replay.specs.Words.{words_of};
 ghost use Rattle.std.specs.Str.Lines.{strip_carriage_return};
 
-use crate::events::Event;
 use crate::words::{four_words, one_word, split_word, three_words, two_words};
+use osb_broker::Outcome;
 use osb_message::{Id, Mode, PlanId, ServiceId};
+use osb_world::Event;
 
 /// What a line of a schedule says.
 #[derive(Clone, Copy, Debug, PartialEq, Eq)]
@@ -87,7 +88,12 @@ fn read_create(words: &[u8]) -> Option<Line>
     if accepts != b"no".as_slice() {
         return None;
     }
-    Some(Line::Event(Event::Create { id, service, plan }))
+    Some(Line::Event(Event::Create {
+        id,
+        service,
+        plan,
+        accepts: false,
+    }))
 }
 
 /// `deliver ID done`, after its first word.
@@ -99,7 +105,10 @@ fn read_deliver(words: &[u8]) -> Option<Line>
     if outcome != b"done".as_slice() {
         return None;
     }
-    Some(Line::Event(Event::Deliver { id }))
+    Some(Line::Event(Event::Deliver {
+        id,
+        outcome: Outcome::Done,
+    }))
 }
 
 /// `answer ID`, after its first word.

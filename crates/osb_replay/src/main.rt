@@ -4,19 +4,15 @@
 //! platform records and what the broker holds in the end.
 #![tactic(auto)]
 
-mod broker;
 pub mod devices;
-mod events;
 pub mod faults;
 mod gathering;
 mod language;
-mod platform;
 pub mod replaying;
 mod report;
 mod scanner;
 mod tally;
 mod words;
-pub mod world;
 mod writing;
 
 use devices::{Input, Output};

@@ -4,13 +4,13 @@ ghost use Rattle.std.specs.List.{flat_map};
 ghost use Rattle.osb_replay.specs.Lines.{lines};
 ghost use Rattle.osb_replay.specs.Report.{broker_word, count_line, id_line, record_word, IsReport};
 ghost use Rattle.osb_replay.specs.Tally.{AreIdLines, Tallies};
-ghost use Rattle.osb_replay.specs.Views.{cell_at};
+ghost use Rattle.osb_world.specs.Views.{cell_at};
 
-use crate::broker::BrokerRow;
-use crate::platform::PlatformRow;
 use crate::tally::Tally;
-use crate::world::World;
+use osb_broker::BrokerRow;
 use osb_message::{InstanceId, Memory};
+use osb_platform::PlatformRow;
+use osb_world::World;
 use std::alloc::Global;
 
 fn record_word(row: Option<PlatformRow>) -> &'static str
@@ -26,7 +26,7 @@ fn broker_word(row: Option<BrokerRow>) -> &'static str
     ensures { result.now ≡ broker_word row }
 {
     match row {
-        Some(_) => "ready",
+        Some(row) => row.phase.word(),
         None => "none",
     }
 }

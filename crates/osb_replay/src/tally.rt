@@ -1,17 +1,16 @@
 //! What the lines of a schedule leave, line by line.
 ghost use Rattle.std.specs.Prelude.{◌≡◌, ◌+◌, ◌<◌, ◌≤◌, ℕ, cond, List, [], ◌∷◌, ◌++◌, None, Some, IfErr, IfSome, IsSome, OnErr, OnOk};
 ghost use Rattle.std.specs.FinMap as map;
-ghost use Rattle.osb_replay.specs.Cell.{Catalogue as Plans, applies, cell_after, event_id};
+ghost use Rattle.osb_broker.specs.Answers.{Catalogue as Plans};
 ghost use Rattle.osb_replay.specs.Schedule.{plan_fault, said_fault};
 ghost use Rattle.osb_replay.specs.Tally.{IsStepFault, IsTallyOf, IsWorldAfter, Tallies};
-ghost use Rattle.osb_replay.specs.declared.events.Event.{Event as Happening};
+ghost use Rattle.osb_world.specs.declared.event.Event.{Event as Happening};
 ghost use Rattle.osb_replay.specs.declared.faults.StepFault.TheVariants.{OutOfMemory};
 
-use crate::events::{Event, Step};
 use crate::faults::{LineFault, StepFault};
 use crate::language::{Line, read_line};
-use crate::world::World;
 use osb_message::{AddFault, Catalogue, Memory, Mode, PlanId, ServiceId};
+use osb_world::{Event, Step, World};
 use std::alloc::Global;
 use std::mem;
 
@@ -84,7 +83,7 @@ impl Tally {
         let Some(world) = &mut self.world else {
             unreachable!()
         };
-        match world.step(event) {
+        match world.step(self.alloc, event) {
             Ok(Step::Applied) => self.applied += 1,
             Ok(Step::Skipped) => self.skipped += 1,
             Err(Memory) => return Err(StepFault::OutOfMemory),

@@ -2,7 +2,7 @@
 use Rattle.std.proofs.Common.{◌≡◌, ◌++◌, take}
 use Rattle.std.specs.List.{flat_map}
 use Rattle.osb_replay.specs.Report.{id_line}
-use Rattle.osb_replay.specs.Views.{cell_at}
+use Rattle.osb_world.specs.Views.{cell_at}
 use Rattle.osb_replay.proofs.report.push_id_lines.Given as goal
 
 abbrev pub invariant-loop-id : goal.invariant-loop-id

@@ -9,7 +9,7 @@ returns-in-Ok-Applied-clause-good c = λ cat events told.
     let event = c.args.event in
     let before = c.begin.ensures.world cat events told in
     let after : IsWorldAfter cat events c.in-Some.world = rw c.in-Some.is at before in
-    let stepped = rw c.in-Ok-Applied.field-0-is at c.in-Ok-Applied.ensures.step in
+    let stepped = rw c.in-Ok-Applied.field-0-is at c.in-Ok-Applied.ensures.applied in
     let counted = counts-applied cat events event c.in-Some.world after stepped in
     let longer = length-more events event in
     record {
@@ -23,7 +23,7 @@ returns-in-Ok-Skipped-clause-good c = λ cat events told.
     let event = c.args.event in
     let before = c.begin.ensures.world cat events told in
     let after : IsWorldAfter cat events c.in-Some.world = rw c.in-Some.is at before in
-    let stepped = rw c.in-Ok-Skipped.field-0-is at c.in-Ok-Skipped.ensures.step in
+    let stepped = rw c.in-Ok-Skipped.field-0-is at c.in-Ok-Skipped.ensures.applied in
     let counted = counts-skipped cat events event c.in-Some.world after stepped in
     let longer = length-more events event in
     record {

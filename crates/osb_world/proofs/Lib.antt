@@ -1,0 +1,12 @@
+pub mod Agreements
+pub mod Commands
+pub mod Deliveries
+pub mod Deprovisions
+pub mod Finishes
+pub mod Kept
+pub mod LostAnswers
+pub mod Polls
+pub mod Possibility
+pub mod Provisions
+pub mod Sound
+pub mod TakenAnswers

@@ -1,0 +1,11 @@
+use Rattle.std.proofs.Common.{◌≡◌, ℕ, drop}
+use Rattle.osb_world.specs.Events.{events_of, cell_steps, cell_after}
+use Rattle.osb_world.specs.Views.{catalogue_of, cell_at}
+use Rattle.osb_world.proofs.running.run.Given as goal
+
+-- each cell so far, stepped through what is left of its events, is its cell in the end
+abbrev pub invariant-loop-event : goal.invariant-loop-event
+invariant-loop-event l = record {
+  cells : (id : ℕ) → cell_steps l.fn.catalogue (cell_at l.world id) (events_of id (drop l.event-index l.events)) ≡ cell_after l.fn.catalogue id l.events;
+  catalogue : catalogue_of l.world ≡ l.fn.catalogue;
+}

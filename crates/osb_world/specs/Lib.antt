@@ -1,0 +1,6 @@
+pub mod Agreement
+pub mod Cell
+pub mod Events
+pub mod Possible
+pub mod Steps
+pub mod Views

@@ -1,0 +1,35 @@
+//! A world after a list of events.
+ghost use Rattle.std.specs.Prelude.{◌≡◌, ℕ, IfOk};
+ghost use Rattle.osb_world.specs.Agreement.{Agrees};
+ghost use Rattle.osb_world.specs.Events.{cell_after};
+ghost use Rattle.osb_world.specs.Views.{catalogue_of, cell_at};
+
+use crate::{Event, World};
+use osb_message::{Catalogue, Memory};
+use std::alloc::Global;
+
+/// A new world with this catalogue, stepped through the events (this project's choice).
+///
+/// The cell of each id is that of its own events alone. Whatever the events are, and in whatever
+/// order, platform and broker agree on every id then: where the platform records `ready`, the broker
+/// holds the instance, complete, with that service and plan; where the platform records `gone`, or
+/// nothing, the broker holds none.
+///
+/// # Errors
+///
+/// [`Memory`](osb_message::Memory) at the first step where a growth was refused.
+#[tactic(auto, using(crate::proofs::Sound::agrees_after))]
+pub fn run(alloc: Global, catalogue: Catalogue, events: &[Event]) -> Result<World, Memory>
+    ensures cells { IfOk result (λ world. (id : ℕ) →
+        cell_at world id ≡ cell_after catalogue id events.now) }
+    ensures catalogue { IfOk result (λ world. catalogue_of world ≡ catalogue) }
+    ensures agrees { IfOk result (λ world. (id : ℕ) → Agrees (cell_at world id)) }
+    ensures always { (id : ℕ) → Agrees (cell_after catalogue id events.now) }
+{
+    let mut world = World::new(alloc, catalogue);
+    for event in events {
+        world.step(alloc, *event)?;
+    }
+    world.agreement();
+    Ok(world)
+}

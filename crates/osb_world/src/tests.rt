@@ -1,0 +1,142 @@
+//! Stories told event by event, and what both sides have in the end.
+mod stories;
+
+use crate::{Cell, Event, Step, World, run};
+use osb_broker::{Outcome, Phase};
+use osb_message::{AddFault, Answer, Catalogue, InstanceId, Mode, PlanId, ServiceId};
+use osb_platform::State;
+use std::alloc::Global;
+use std::process::Abort;
+use std::test::Fail;
+
+// Numbers of ids: a service, a synchronous and an asynchronous plan of it, and a plan that isn't on
+// sale.
+const SERVICE: u128 = 0xa0;
+
+const SYNC: u128 = 0xb1;
+
+const ASYNC: u128 = 0xb2;
+
+const UNKNOWN: u128 = 0xb3;
+
+fn service() -> ServiceId {
+    ServiceId::from_value(SERVICE)
+}
+
+fn instance() -> InstanceId {
+    InstanceId::from_value(1)
+}
+
+// The two plans on sale.
+fn new_catalogue(alloc: Global) -> Result<Catalogue, AddFault> {
+    let mut catalogue = Catalogue::new(alloc);
+    catalogue.add(service(), PlanId::from_value(SYNC), Mode::Sync)?;
+    catalogue.add(service(), PlanId::from_value(ASYNC), Mode::Async)?;
+    Ok(catalogue)
+}
+
+fn create(id: InstanceId, plan: u128, accepts: bool) -> Event {
+    Event::Create {
+        id,
+        service: service(),
+        plan: PlanId::from_value(plan),
+        accepts,
+    }
+}
+
+// The event of the instance that a word of a story stands for.
+fn event_of(word: &str) -> Option<Event> {
+    let id = instance();
+    let event = match word {
+        "create-sync" => create(id, SYNC, false),
+        "create-async" => create(id, ASYNC, true),
+        "create-not-accepting" => create(id, ASYNC, false),
+        "create-unknown" => create(id, UNKNOWN, false),
+        "remove" => Event::Remove { id },
+        "send" => Event::Send { id },
+        "deliver" => Event::Deliver {
+            id,
+            outcome: Outcome::Done,
+        },
+        "deliver-before" => Event::Deliver {
+            id,
+            outcome: Outcome::Before,
+        },
+        "deliver-after" => Event::Deliver {
+            id,
+            outcome: Outcome::After,
+        },
+        "repeat" => Event::Repeat {
+            id,
+            outcome: Outcome::Done,
+        },
+        "lose" => Event::Lose { id },
+        "garble" => Event::Garble { id },
+        "answer" => Event::Answer { id },
+        "timeout" => Event::Timeout { id },
+        "expire" => Event::Expire { id },
+        "finish-ok" => Event::Finish { id, ok: true },
+        "finish-fail" => Event::Finish { id, ok: false },
+        _ => return None,
+    };
+    Some(event)
+}
+
+// The events of a story, which is told in words.
+fn events_of(rt: &impl Abort, alloc: Global, story: &str) -> Result<Vec<Event>, Fail> {
+    let mut events = Vec::new(alloc);
+    for word in story.split_whitespace() {
+        let event = event_of(word);
+        assert!(rt; event.is_some(), "{word}");
+        if let Some(event) = event {
+            events.push(event)?;
+        }
+    }
+    Ok(events)
+}
+
+// What the platform records and what the broker holds.
+type Sides = (Option<State>, Option<Phase>);
+
+fn sides(cell: Cell) -> Sides {
+    (
+        cell.platform.map(|row| row.state),
+        cell.broker.map(|row| row.phase),
+    )
+}
+
+// What is seen of the instance once it is stepped through its events: both sides, the answer that
+// travelled last, and how many events were applied and skipped.
+#[derive(Clone, Copy)]
+struct Ending {
+    sides: Sides,
+    travelled: Option<Answer>,
+    applied: usize,
+    skipped: usize,
+}
+
+fn told_through(alloc: Global, events: &[Event]) -> Result<Ending, Fail> {
+    let mut world = World::new(alloc, new_catalogue(alloc)?);
+    let mut end = Ending {
+        sides: (None, None),
+        travelled: None,
+        applied: 0,
+        skipped: 0,
+    };
+    for event in events {
+        match world.step(alloc, *event)? {
+            Step::Applied => end.applied = end.applied.saturating_add(1),
+            Step::Skipped => end.skipped = end.skipped.saturating_add(1),
+        }
+        let cell = world.cell(instance());
+        end.sides = sides(cell);
+        end.travelled = cell.travelling.or(end.travelled);
+    }
+    Ok(end)
+}
+
+// Both sides of the instance in a world that is run through the events.
+fn sides_of_run(alloc: Global, events: &[Event]) -> Result<Sides, Fail> {
+    let world = run(alloc, new_catalogue(alloc)?, events)?;
+    Ok(sides(world.cell(instance())))
+}
