@@ -17,7 +17,15 @@ use Rattle.std.specs.Int.{bytes_high_first}
 use Rattle.uuid.proofs.TextLemmas.{by_index_length}
 use Rattle.uuid.proofs.RoundTrips.{parses_hyphenated}
 use Rattle.uuid.proofs.OrderLemmas.{from_be_bytes-to_be_bytes_16}
-use Rattle.osb_message.specs.IdText.{digit_places, hyphen_places, bytes_at, id_of, id_text, nibble_of, hyphen_if, low_digits}
+use Rattle.std.specs.Str.{bytes_eq}
+use Rattle.std.proofs.lemmas.Slice.Eq.{bytes_eq-Decides}
+use Rattle.std.proofs.Common.{option_and_then, unwrap_or, is_some}
+use Rattle.std.specs.Int.Digits.{AllBelowBase}
+use Rattle.std.proofs.lemmas.Int.Digits.{number_lt}
+use Rattle.std.specs.Ordering.{ordering_reverse}
+use Rattle.std.proofs.lemmas.Cmp.{nat_list_cmp_total, tied_itself}
+use Rattle.std.proofs.Common.{Greater}
+use Rattle.osb_message.specs.IdText.{id_if_text, id_of_lower, digit_places, hyphen_places, bytes_at, id_of, id_text, nibble_of, hyphen_if, low_digits}
 
 sum_of_digits : (v0 v1 v2 v3 v4 v5 v6 v7 v8 v9 v10 v11 v12 v13 v14 v15 v16 v17 v18 v19 v20 v21 v22 v23 v24 v25 v26 v27 v28 v29 v30 v31 : ℕ)
     → (v0 * 16 + v1) * 256 ^ 15 + (v2 * 16 + v3) * 256 ^ 14 + (v4 * 16 + v5) * 256 ^ 13 + (v6 * 16 + v7) * 256 ^ 12 + (v8 * 16 + v9) * 256 ^ 11 + (v10 * 16 + v11) * 256 ^ 10 + (v12 * 16 + v13) * 256 ^ 9 + (v14 * 16 + v15) * 256 ^ 8 + (v16 * 16 + v17) * 256 ^ 7 + (v18 * 16 + v19) * 256 ^ 6 + (v20 * 16 + v21) * 256 ^ 5 + (v22 * 16 + v23) * 256 ^ 4 + (v24 * 16 + v25) * 256 ^ 3 + (v26 * 16 + v27) * 256 ^ 2 + (v28 * 16 + v29) * 256 ^ 1 + (v30 * 16 + v31) ≡ (((((((((((((((((((((((((((((((0 * 16 + v0) * 16 + v1) * 16 + v2) * 16 + v3) * 16 + v4) * 16 + v5) * 16 + v6) * 16 + v7) * 16 + v8) * 16 + v9) * 16 + v10) * 16 + v11) * 16 + v12) * 16 + v13) * 16 + v14) * 16 + v15) * 16 + v16) * 16 + v17) * 16 + v18) * 16 + v19) * 16 + v20) * 16 + v21) * 16 + v22) * 16 + v23) * 16 + v24) * 16 + v25) * 16 + v26) * 16 + v27) * 16 + v28) * 16 + v29) * 16 + v30) * 16 + v31
@@ -208,3 +216,96 @@ rises (suc k) m n h =
 pub text_rises : (m n : ℕ) → m < n → n < 2 ^ 128 → slice_cmp nat_cmp (id_text m) (id_text n) ≡ Less
 unfolding id_text
 text_rises m n h fits = rises 32 m n (omega arith)
+
+-- ---- the texts in lower case
+
+same_bytes : (text : List ℕ) → bytes_eq text text ≡ true
+same_bytes text = (bytes_eq-Decides text text).1 refl
+
+-- the text of an id names it
+pub lower_reads : (n : ℕ) → n < 2 ^ 128 → id_of_lower (id_text n) ≡ Some n
+unfolding id_of_lower
+lower_reads n fits =
+    ap (option_and_then (id_if_text (id_text n))) (text_reads n fits)
+    ∙ ap (λ (b : Bool). if b then Some n else None) (same_bytes (id_text n))
+
+-- a text names what it spells exactly where it is that id's text
+pub lower_by_test : (text : List ℕ) (n : ℕ) (b : Bool) → id_of text ≡ Some n → bytes_eq text (id_text n) ≡ b
+    → id_of_lower text ≡ (if b then Some n else None)
+unfolding id_of_lower
+lower_by_test text n b is_n is_b =
+    ap (option_and_then (id_if_text text)) is_n ∙ ap (λ (b : Bool). if b then Some n else None) is_b
+
+-- what is no id's text in either case is none in lower case
+pub lower_none : (text : List ℕ) → id_of text ≡ None → id_of_lower text ≡ None
+unfolding id_of_lower
+lower_none text none = ap (option_and_then (id_if_text text)) none
+
+same_or_none : (b : Bool) (n m : ℕ) (P : Type 0) → (b ≡ true → P) → (if b then Some n else None) ≡ Some m → (n ≡ m) × P
+same_or_none true n m P is e = (ap (λ (o : Option ℕ). unwrap_or o 0) e, is refl)
+same_or_none false n m P is e = absurd (true≢false (sym (ap is_some e)))
+
+go_text : (o : Option ℕ) (text : List ℕ) (m : ℕ) → option_and_then (id_if_text text) o ≡ Some m → text ≡ id_text m
+go_text None text m e = absurd (true≢false (sym (ap is_some e)))
+go_text (Some n) text m e =
+    let p = same_or_none (bytes_eq text (id_text n)) n m (text ≡ id_text n) (λ h. (bytes_eq-Decides text (id_text n)).0 h) e in
+    p.1 ∙ ap id_text p.0
+
+-- a text that names an id in lower case is the id's text
+pub text_of_lower : (text : List ℕ) (n : ℕ) → id_of_lower text ≡ Some n → text ≡ id_text n
+unfolding id_of_lower
+text_of_lower text n e = go_text (id_of text) text n e
+
+-- ---- the numbers that a text can name
+
+digit_small : (c : ℕ) → is_hex_digit c ≡ true → value_of c < 16
+digit_small c hex = grind (arith, nat_tests)
+
+and_parts : (a b : Bool) → (a && b) ≡ true → (a ≡ true) × (b ≡ true)
+and_parts true b e = (refl, e)
+and_parts false b e = absurd (true≢false (sym e))
+
+digits_small : (cs : List ℕ) → list_all is_hex_digit cs ≡ true → AllBelowBase 16 (map value_of cs)
+digits_small [] e = tt
+digits_small (c ∷ cs) e = let p = and_parts (is_hex_digit c) (list_all is_hex_digit cs) e in (digit_small c p.0, digits_small cs p.1)
+
+bound_by_tests : (a b c : Bool) (n m : ℕ) → (c ≡ true → n < 2 ^ 128) → (if a && b && c then Some n else None) ≡ Some m → m < 2 ^ 128
+bound_by_tests true true true n m k e = let same : n ≡ m = ap (λ (o : Option ℕ). unwrap_or o 0) e in rw (← same) (k refl)
+bound_by_tests true true false n m k e = absurd (true≢false (sym (ap is_some e)))
+bound_by_tests true false c n m k e = absurd (true≢false (sym (ap is_some e)))
+bound_by_tests false b c n m k e = absurd (true≢false (sym (ap is_some e)))
+
+-- an id has 128 bits
+pub id_fits : (text : List ℕ) (n : ℕ) → id_of text ≡ Some n → n < 2 ^ 128
+id_fits text n e =
+    bound_by_tests (length text == 36) (list_all (λ c. c == 45) (bytes_at hyphen_places text)) (list_all is_hex_digit (bytes_at digit_places text)) _ n
+    (λ hex. number_lt 16 (map value_of (bytes_at digit_places text)) (digits_small (bytes_at digit_places text) hex))
+    (sym (id_by_tests text _ _ _ refl refl refl) ∙ e)
+
+go_fits : (o : Option ℕ) (text : List ℕ) (m : ℕ) → ((n : ℕ) → o ≡ Some n → n < 2 ^ 128) → option_and_then (id_if_text text) o ≡ Some m → m < 2 ^ 128
+go_fits None text m k e = absurd (true≢false (sym (ap is_some e)))
+go_fits (Some n) text m k e =
+    let p = same_or_none (bytes_eq text (id_text n)) n m (Unit {0}) (λ h. tt) e in
+    rw (← p.0) (k n refl)
+
+pub lower_fits : (text : List ℕ) (n : ℕ) → id_of_lower text ≡ Some n → n < 2 ^ 128
+unfolding id_of_lower
+lower_fits text n e = go_fits (id_of text) text n (id_fits text) e
+
+-- the order of the texts is the order of the numbers
+pub less_from_texts : (m n : ℕ) → m < 2 ^ 128 → slice_cmp nat_cmp (id_text m) (id_text n) ≡ Less → m < n
+less_from_texts m n fits less =
+    elim (cases_lt m n) [
+      | inl under ↦ under
+      | inr over ↦
+          elim (cases_lt n m) [
+            | inl above ↦
+                let flipped : slice_cmp nat_cmp (id_text m) (id_text n) ≡ Greater =
+                nat_list_cmp_total.antisymm (id_text m) (id_text n) ∙ ap ordering_reverse (text_rises n m above fits) in
+                cc
+            | inr same ↦
+                let equal : m ≡ n = omega arith in
+                let level : slice_cmp nat_cmp (id_text m) (id_text n) ≡ Equal = rw equal (tied_itself nat_list_cmp_total (id_text n)) in
+                cc
+          ]
+    ]

@@ -1,7 +1,8 @@
 -- The text form of an id: 8, 4, 4, 4 and 12 hexadecimal digits, joined by hyphens.
-use Rattle.std.specs.Prelude.{ℕ, zero, suc, ◌*◌, ◌/◌, ◌%◌, ◌^◌, Bool, true, false, ◌&&◌, ◌||◌, ◌==◌, List, [], ◌∷◌, ◌++◌, length, map, slice_index, Option, Some, None, if◌then◌else◌}
+use Rattle.std.specs.Prelude.{ℕ, zero, suc, ◌*◌, ◌/◌, ◌%◌, ◌^◌, Bool, true, false, ◌&&◌, ◌||◌, ◌==◌, List, [], ◌∷◌, ◌++◌, length, map, slice_index, Option, Some, None, if◌then◌else◌, option_and_then}
 use Rattle.std.specs.Int.Digits.{number_from_digits}
 use Rattle.std.specs.List.{list_all}
+use Rattle.std.specs.Str.{bytes_eq}
 use Rattle.uuid.specs.Text.{is_hex_digit, value_of, hex_digit, lower}
 
 -- n places, one after another
@@ -47,3 +48,11 @@ low_digits (suc k) n = hex_digit lower (nibble_of n k) ∷ hyphen_if ((k == 24) 
 -- the text of an id, in lower case
 unfoldable pub id_text : ℕ → List ℕ
 id_text n = low_digits 32 n
+
+-- the id, if this is its text in lower case
+abbrev pub id_if_text : List ℕ → ℕ → Option ℕ
+id_if_text text n = if bytes_eq text (id_text n) then Some n else None
+
+-- the id that a text in lower case names
+unfoldable pub id_of_lower : List ℕ → Option ℕ
+id_of_lower text = option_and_then (id_if_text text) (id_of text)

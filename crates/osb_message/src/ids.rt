@@ -2,7 +2,7 @@
 //!
 //! The standard recommends GUIDs and allows other strings; that other strings are refused is this
 //! project's choice.
-ghost use Rattle.std.specs.Prelude.{◌≡◌, ◌==◌, ◌<◌, ℕ, Some, None, MatchResult};
+ghost use Rattle.std.specs.Prelude.{◌≡◌, ◌==◌, ◌<◌, ◌^◌, ℕ, Some, None, MatchResult};
 ghost use Rattle.std.specs.Cmp.Lexicographic.{slice_cmp};
 ghost use Rattle.std.proofs.Common.{rules};
 ghost use Rattle.std.specs.Cmp.{partial_order_from_own_ties};
@@ -10,7 +10,7 @@ ghost use Rattle.std.specs.Cmp.Rules.{comparing, hashing};
 ghost use Rattle.std.specs.Hash as fed;
 ghost use Rattle.std.specs.Ordering.{as_partial_cmp, nat_cmp};
 ghost use Rattle.std.specs.declared.cmp.Ordering.TheVariants.{Less};
-ghost use Rattle.osb_message.specs.IdText.{id_of, id_text};
+ghost use Rattle.osb_message.specs.IdText.{id_of, id_of_lower, id_text};
 
 use std::cmp::Ordering;
 use std::hash::{Hash, Hasher};
@@ -157,6 +157,36 @@ impl<K> Id<K> {
         }
     }
 
+    /// Reads the text form of an id in lower case alone: exactly the texts that [`Id::to_text`] gives.
+    ///
+    /// It gives none for every other text, one with a digit in upper case among them, and takes no
+    /// memory.
+    pub fn from_lower_text(text: &str) -> Option<Self>
+        ensures { result ≡ id_of_lower text.now }
+    {
+        let Ok(id) = Self::from_text(text) else {
+            return None;
+        };
+        let mut buffer = [0u8; 36];
+        if text == id.text_in(&mut buffer) {
+            Some(id)
+        } else {
+            None
+        }
+    }
+
+    /// The text form of the id, in lower case, as a text in the given bytes, all of which it fills. It
+    /// takes no memory.
+    pub fn text_in<'b>(&self, buffer: &'b mut [u8; 36]) -> &'b str
+        ensures text { result.now ≡ id_text self.now }
+        ensures reads { id_of_lower result.now ≡ Some self.now }
+        ensures fits { self.now < 2 ^ 128 }
+    {
+        Uuid::from_u128(self.number)
+            .hyphenated()
+            .encode_lower(buffer)
+    }
+
     /// The text form of the id, in lower case: 36 bytes of ASCII, which read as the id again and
     /// stand in the order of the ids. It takes no memory.
     pub fn to_text(&self) -> [u8; 36]
@@ -168,10 +198,7 @@ impl<K> Id<K> {
         let _number = self.number;
         let mut buffer = [0u8; 36];
         let mut text = [0u8; 36];
-        let written = Uuid::from_u128(self.number)
-            .hyphenated()
-            .encode_lower(&mut buffer);
-        text.copy_from_slice(written.as_bytes());
+        text.copy_from_slice(self.text_in(&mut buffer).as_bytes());
         text
     }
 }

@@ -9,6 +9,7 @@ ghost use Rattle.osb_message.specs.Rows.{set_at};
 use crate::{InstanceId, Memory};
 use std::alloc::Global;
 use std::collections::BTreeMap;
+use std::collections::btree_map::Iter;
 use std::marker::Model;
 
 // Writes over the value at a key that is there.
@@ -143,6 +144,14 @@ impl<V: Copy> Rows<V> {
         ensures ascending { IfOk result (λ ids. IsStrictlySortedBy nat_cmp ids.items) }
     {
         keys_of(alloc, &self.tree)
+    }
+
+    /// The ids that have a value, each with its value, in ascending order of the ids. It takes no
+    /// memory.
+    pub fn iter(&self) -> Iter<'_, InstanceId, V>
+        ensures { result ≡ finite.entries self.now }
+    {
+        self.tree.iter()
     }
 
     /// Puts the value at each id that has one. It takes no memory.

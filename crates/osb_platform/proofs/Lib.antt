@@ -1,2 +1,5 @@
-mod Recorded
+mod Ascending
+mod LoadedRows
+mod RowText
+mod SavedRows
 mod Sound

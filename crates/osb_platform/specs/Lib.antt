@@ -1,3 +1,4 @@
 pub mod Mitigation
 pub mod PlatformRow
+pub mod SavedRecord
 pub mod State

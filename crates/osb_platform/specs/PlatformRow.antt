@@ -7,7 +7,7 @@ use Rattle.osb_message.specs.declared.messages.Answer.{Answer}
 use Rattle.osb_message.specs.declared.messages.Kind.{Kind}
 use Rattle.osb_message.specs.declared.messages.Kind.TheVariants.{Provision}
 use Rattle.osb_message.specs.declared.messages.Request.{Request}
-use Rattle.osb_platform.specs.State.{state_after, after_timeout, due, is_polling, is_removable}
+use Rattle.osb_platform.specs.State.{state_after, after_timeout, after_restart, due, is_polling, is_removable}
 use Rattle.osb_platform.specs.declared.row.PlatformRow.{PlatformRow}
 use Rattle.osb_platform.specs.declared.state.State.{State}
 use Rattle.osb_platform.specs.declared.state.State.TheVariants.{Wanted, Cleaning}
@@ -58,6 +58,21 @@ answered kind a row = option_map (λ r. in_state (state_after r.state kind a) r)
 -- the record after a request that got no answer
 abbrev pub timed_out : Option PlatformRow → Option PlatformRow
 timed_out row = option_map (λ r. in_state (after_timeout r.state) r) row
+
+-- the record with nothing outstanding, as it is saved
+abbrev pub at_rest : PlatformRow → PlatformRow
+at_rest row = in_state row.state row
+
+-- the record after a restart, which forgets what was outstanding
+abbrev pub restarted_row : PlatformRow → PlatformRow
+restarted_row row = in_state (after_restart row.state) row
+
+abbrev pub restarted : Option PlatformRow → Option PlatformRow
+restarted row = option_map restarted_row row
+
+-- the rows after are those before, after a restart
+abbrev pub IsRestarted : map.FinMap nat_cmp PlatformRow → map.FinMap nat_cmp PlatformRow → Type 0
+IsRestarted before after = (q : ℕ) → map.get after q ≡ restarted (map.get before q)
 
 -- the record of an instance that is to be cleaned up
 abbrev pub cleaned_up : Option PlatformRow → Option PlatformRow

@@ -1,5 +1,6 @@
 -- What a platform records of an instance, and what becomes of it.
 use Rattle.std.specs.Prelude.{ℕ, Bool, true, false, not, ◌&&◌, ◌||◌, ◌==◌, if◌then◌else◌, List, Option, Some, None, codes}
+use Rattle.std.specs.Str.{bytes_eq}
 use Rattle.osb_message.specs.declared.messages.Answer.{Answer}
 use Rattle.osb_message.specs.declared.messages.Body.{Body}
 use Rattle.osb_message.specs.declared.messages.ErrorCode.TheVariants.{AsyncRequired, ConcurrencyError, Other}
@@ -20,6 +21,18 @@ state_word Cleaning = codes "cleaning"
 state_word CleaningPolling = codes "cleaning-polling"
 state_word Gone = codes "gone"
 state_word Unsettled = codes "unsettled"
+
+-- the state whose word this is
+abbrev pub state_named : List ℕ → Option State
+state_named word =
+    if bytes_eq word (codes "wanted") then Some Wanted
+    else (if bytes_eq word (codes "polling") then Some Polling
+    else (if bytes_eq word (codes "ready") then Some Ready
+    else (if bytes_eq word (codes "cleaning") then Some Cleaning
+    else (if bytes_eq word (codes "cleaning-polling") then Some CleaningPolling
+    else (if bytes_eq word (codes "gone") then Some Gone
+    else (if bytes_eq word (codes "unsettled") then Some Unsettled
+    else None))))))
 
 -- whether the body says that the plan works asynchronously alone
 abbrev pub is_async_required : Body → Bool

@@ -45,3 +45,26 @@ pub enum RemoveFault {
     /// The state is none of `polling`, `ready` and `unsettled`.
     NotRemovable = 3,
 }
+
+/// Why the records aren't saved.
+#[derive(Clone, Copy, Debug, PartialEq, Eq)]
+pub enum SaveFault {
+    /// A growth was refused.
+    Memory = 1,
+}
+
+/// Why no platform is loaded. Of the first four faults it is the first that fits.
+#[derive(Clone, Copy, Debug, PartialEq, Eq)]
+pub enum LoadFault {
+    /// The text has no reading as JSON. Nesting above 127 has none.
+    NotJson = 1,
+    /// The value isn't an object.
+    NotAnObject = 2,
+    /// Some name isn't the text of an id in lower case.
+    BadKey = 3,
+    /// Some value isn't an object with the members `plan`, `service` and `state` and no other, two
+    /// texts of ids in lower case and the word of a state.
+    BadMember = 4,
+    /// A growth was refused.
+    Memory = 5,
+}

@@ -7,22 +7,30 @@
 //! they are pure and take any answer. A [`Platform`] keeps the records and applies them; the messages
 //! themselves are its caller's to carry. Contracts see a platform as a finite map from ids to rows.
 //!
-//! Only [`Platform::create`] and [`Platform::ids`] take memory.
+//! [`Platform::save`] and [`Platform::load`] write and read the saved record, by which a platform
+//! outlives a crash.
+//!
+//! Only [`Platform::create`], [`Platform::ids`], [`Platform::save`] and [`Platform::load`] take memory.
 #![tactic(auto)]
 
 mod deprovisioning;
 mod faults;
+mod loading;
 mod mitigation;
 mod platform;
 mod polling;
 mod provisioning;
+mod record;
 mod restarts;
 mod row;
+mod saving;
 mod state;
 mod timeouts;
 
 pub use deprovisioning::decide_deprovision;
-pub use faults::{CreateFault, ExpireFault, NoRequest, RemoveFault, SendFault};
+pub use faults::{
+    CreateFault, ExpireFault, LoadFault, NoRequest, RemoveFault, SaveFault, SendFault,
+};
 pub use mitigation::mitigates;
 pub use platform::Platform;
 pub use polling::decide_poll;

@@ -1,14 +1,16 @@
 //! The platform: what it records of each instance, and the requests that it makes.
-ghost use Rattle.std.specs.Prelude.{◌≡◌, ◌≢◌, ◌↔◌, ℕ, false, IsTrue, IsSome, IsNone, Contains, IsOk, IfOk, IfSome, IsSomeAnd, OnOk, OnErr};
+ghost use Rattle.std.specs.Prelude.{◌≡◌, ◌≢◌, ◌↔◌, ◌⊎◌, ℕ, false, Some, Ok, Err, string_bytes, IfErr, IsTrue, IsSome, IsNone, Contains, IsOk, IfOk, IfSome, IsSomeAnd, OnOk, OnErr};
 ghost use Rattle.std.specs.FinMap as map;
 ghost use Rattle.std.specs.List.Sorted.{IsStrictlySortedBy};
 ghost use Rattle.std.specs.Ordering.{nat_cmp};
 ghost use Rattle.osb_platform.specs.State.{state_after, due, is_polling, is_removable};
-ghost use Rattle.osb_platform.specs.PlatformRow.{IsSound, kind_out, wanted_row, first_request, next_request, sent, answered, timed_out, cleaned_up, can_send, can_expire, can_remove};
+ghost use Rattle.osb_platform.specs.PlatformRow.{IsSound, kind_out, wanted_row, first_request, next_request, sent, answered, timed_out, cleaned_up, can_send, can_expire, can_remove, IsRestarted};
+ghost use Rattle.osb_platform.specs.SavedRecord.{saved_value, saved_text, rows_in, IsRecordOf};
+ghost use Rattle.serde_json.specs.Read.{read};
 
 use crate::{
-    CreateFault, ExpireFault, NoRequest, PlatformRow, RemoveFault, SendFault, State,
-    decide_deprovision, decide_poll, decide_provision, decide_timeout,
+    CreateFault, ExpireFault, LoadFault, NoRequest, PlatformRow, RemoveFault, SaveFault, SendFault,
+    State, decide_deprovision, decide_poll, decide_provision, decide_timeout, loading, saving,
 };
 use osb_message::{Answer, InstanceId, Kind, Memory, PlanId, Request, Rows, ServiceId};
 use std::alloc::Global;
@@ -94,6 +96,62 @@ impl Platform {
         ensures ascending { IfOk result (λ ids. IsStrictlySortedBy nat_cmp ids.items) }
     {
         self.rows.ids(alloc)
+    }
+
+    /// The saved record of the platform: what is recorded of each instance, as JSON text.
+    ///
+    /// The text is one object with no spaces. It has a member for each recorded id, in ascending order:
+    /// the name is the id's text in lower case, and the value an object of the texts `plan` and
+    /// `service`, the ids in lower case, and `state`, the word of the state. What is outstanding isn't
+    /// saved. A platform with no instances is saved as `{}`. All of this is this project's choice.
+    ///
+    /// Save after each call, before anything is sent or shown: a platform that is loaded from an older
+    /// record may not know of what its broker holds.
+    ///
+    /// # Errors
+    ///
+    /// [`SaveFault::Memory`] where a growth was refused.
+    pub fn save(&self, alloc: Global) -> Result<String, SaveFault>
+        ensures text { IfOk result (λ text. string_bytes text ≡ saved_text self.now) }
+        ensures reads { IfOk result (λ text.
+            read (string_bytes text) ≡ Some (saved_value self.now)) }
+        ensures record { IfOk result (λ text. IsRecordOf self.now (string_bytes text)) }
+    {
+        let Ok(text) = saving::write_rows(alloc, &self.rows) else {
+            return Err(SaveFault::Memory);
+        };
+        Ok(text)
+    }
+
+    /// The platform that a saved record names, after a restart: each state is taken through
+    /// [`decide_restart`](crate::decide_restart), and nothing is outstanding.
+    ///
+    /// The text may have any spacing, and members in any order. It keeps the allocator for later
+    /// instances. The record of [`Platform::save`] is refused for want of memory alone. All of this is
+    /// this project's choice.
+    ///
+    /// # Errors
+    ///
+    /// The first of these that fits. [`LoadFault::NotJson`] where the text has no reading as JSON,
+    /// [`LoadFault::NotAnObject`] where the value isn't an object, [`LoadFault::BadKey`] where some name
+    /// isn't the text of an id in lower case, [`LoadFault::BadMember`] where some value isn't an object
+    /// with the members `plan`, `service` and `state` and no other, two texts of ids in lower case and
+    /// one of the seven words. [`LoadFault::Memory`] in place of any answer where a growth was refused.
+    pub fn load(alloc: Global, text: &str) -> Result<Platform, LoadFault>
+        ensures ok { IfOk result (λ platform. (named : map.FinMap nat_cmp PlatformRow)
+            × (rows_in text.now ≡ Ok named) × IsRestarted named platform) }
+        ensures err { IfErr result (λ fault.
+            (fault ≡ LoadFault.Memory) ⊎ (rows_in text.now ≡ Err fault)) }
+
+        ensures saved_refusals { (saved : map.FinMap nat_cmp PlatformRow) → IsRecordOf saved text.now
+            → IfErr result (λ fault. fault ≡ LoadFault.Memory) }
+        ensures saved_rows { (saved : map.FinMap nat_cmp PlatformRow) → IsRecordOf saved text.now
+            → IfOk result (λ platform. IsRestarted saved platform) }
+    {
+        match loading::read_rows(alloc, text) {
+            Ok(rows) => Ok(Platform { rows }),
+            Err(fault) => Err(fault),
+        }
     }
 
     /// Records a new instance as `wanted` and gives its Provision, which is then outstanding (section

@@ -1,6 +1,6 @@
 //! The state of an instance, as the platform records it.
 ghost use Rattle.std.specs.Prelude.{◌≡◌};
-ghost use Rattle.osb_platform.specs.State.{state_word};
+ghost use Rattle.osb_platform.specs.State.{state_word, state_named};
 
 /// What a platform records of an instance (this project's choice; the standard leaves the record to
 /// the platform).
@@ -37,6 +37,21 @@ impl State {
             State::CleaningPolling => "cleaning-polling",
             State::Gone => "gone",
             State::Unsettled => "unsettled",
+        }
+    }
+    // The state that a word names.
+    pub(crate) fn from_word(word: &str) -> Option<State>
+        ensures { result ≡ state_named word.now }
+    {
+        match word {
+            "wanted" => Some(State::Wanted),
+            "polling" => Some(State::Polling),
+            "ready" => Some(State::Ready),
+            "cleaning" => Some(State::Cleaning),
+            "cleaning-polling" => Some(State::CleaningPolling),
+            "gone" => Some(State::Gone),
+            "unsettled" => Some(State::Unsettled),
+            _ => None,
         }
     }
 }

@@ -86,6 +86,7 @@ records cat q c (Event.Answer id) m = unchanged cat c (Event.Answer id) (answer_
 records cat q c (Event.Timeout id) m = unchanged cat c (Event.Timeout id) (same_mapped _ c.platform)
 records cat q c (Event.Expire id) m = unchanged cat c (Event.Expire id) (same_mapped _ c.platform)
 records cat q c (Event.Finish id ok) m = unchanged cat c (Event.Finish id ok) refl
+records cat q c Event.Restart m = unchanged cat c Event.Restart (same_mapped _ c.platform)
 
 creates_none : (q : ℕ) (e : Event) → is_of q e ≡ false → creates q e ≡ false
 creates_none q (Event.Create id service plan accepts) m = m
@@ -99,6 +100,7 @@ creates_none q (Event.Answer id) m = refl
 creates_none q (Event.Timeout id) m = refl
 creates_none q (Event.Expire id) m = refl
 creates_none q (Event.Finish id ok) m = refl
+creates_none q Event.Restart m = refl
 
 next_records : (cat : Catalogue) (q : ℕ) (c : Cell) (e : Event) (b : Bool) → is_of q e ≡ b → is_some (next_cell cat q c e).platform ≡ (is_some c.platform || creates q e)
 next_records cat q c e true m = rw m (records cat q c e m)

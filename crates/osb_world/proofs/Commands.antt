@@ -1,5 +1,5 @@
 -- The events of the platform's own: Create, Remove, Expire, Send and Timeout keep a cell possible.
-use Rattle.std.proofs.Common.{◌≡◌, ℕ, Bool, true, refl}
+use Rattle.std.proofs.Common.{◌≡◌, ℕ, Bool, true, refl, sym, subst}
 use Rattle.std.specs.Prelude.{Option, Some, None, option_map, is_some, is_none, ◌&&◌}
 use Rattle.osb_message.specs.declared.messages.Answer.{Answer}
 use Rattle.osb_message.specs.declared.messages.Kind.{Kind}
@@ -11,9 +11,9 @@ use Rattle.osb_platform.specs.declared.row.PlatformRow.{PlatformRow}
 use Rattle.osb_platform.specs.declared.state.State.{State}
 use Rattle.osb_platform.specs.declared.state.State.TheVariants.{Wanted, Polling, Ready, Cleaning, CleaningPolling, Gone, Unsettled}
 use Rattle.osb_platform.specs.PlatformRow.{request_for, is_idle_in, can_send, cleaned_up}
-use Rattle.osb_platform.specs.State.{due, after_timeout}
+use Rattle.osb_platform.specs.State.{due, after_timeout, after_restart}
 use Rattle.osb_world.specs.declared.event.Event.{Event}
-use Rattle.osb_world.specs.Possible.{IsPossible, IsPossibleParts, IsPossibleRow, OutByState, HeldByState}
+use Rattle.osb_world.specs.Possible.{IsPossible, IsPossibleParts, IsPossibleRow, OutByState, HeldByState, mode_at}
 use Rattle.osb_world.specs.Steps.{changed_cell, recorded}
 use Rattle.osb_world.proofs.Possibility.{cell, row_in, idle, and_first}
 
@@ -126,3 +126,21 @@ pub kept_timeout : (cat : Catalogue) (id : ℕ) (p : Option PlatformRow) (b : Op
 kept_timeout cat id None b o t h = (h.0, refl, refl)
 kept_timeout cat id (Some row) b o t h =
     idle cat id row.service row.plan (after_timeout row.state) b (nothing_due row.state) h.same (still_held _ row.state b o h.holds)
+
+-- a restart leaves of a record what a timeout leaves
+restart-timeout : (s : State) → after_restart s ≡ after_timeout s
+restart-timeout Wanted = refl
+restart-timeout Polling = refl
+restart-timeout Ready = refl
+restart-timeout Cleaning = refl
+restart-timeout CleaningPolling = refl
+restart-timeout Gone = refl
+restart-timeout Unsettled = refl
+
+pub kept_restart : (cat : Catalogue) (id : ℕ) (p : Option PlatformRow) (b : Option BrokerRow) (o : Option Request) (t : Option Answer)
+    → IsPossibleParts cat id p b o t → IsPossible cat id (changed_cell cat (cell p b o t) Event.Restart)
+kept_restart cat id None b o t h = (h.0, refl, refl)
+kept_restart cat id (Some row) b o t h =
+    let same : after_timeout row.state ≡ after_restart row.state = sym (restart-timeout row.state) in
+    idle cat id row.service row.plan (after_restart row.state) b (subst (λ s. OutByState s None) same (nothing_due row.state)) h.same
+    (subst (λ s. HeldByState (mode_at cat row.service row.plan) s b None) same (still_held _ row.state b o h.holds))

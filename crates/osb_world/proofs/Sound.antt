@@ -63,3 +63,4 @@ skips_free cat c (Event.Answer id) off = refl
 skips_free cat c (Event.Timeout id) off = refl
 skips_free cat c (Event.Expire id) off = refl
 skips_free cat c (Event.Finish id ok) off = refl
+skips_free cat c Event.Restart off = cc

@@ -59,10 +59,10 @@ none_refused : (cat : Catalogue) (service plan : ℕ) (mode : Option Mode) → m
 none_refused cat service plan mode e None r same holds refused = refl
 none_refused cat service plan None e (Some row) r same holds refused = let f = subst IsSome e (on_sale cat service plan row same) in cc
 none_refused cat service plan (Some Sync) e (Some row) r same holds refused = cc
-none_refused cat service plan (Some Async) e (Some row) r same holds refused = accepted_and_refused r.accepts_incomplete refused holds.1 where
-  accepted_and_refused : {A : Type 0} (x : Bool) → not x ≡ true → x ≡ true → A
-  accepted_and_refused true f g = cc
-  accepted_and_refused false f g = cc
+none_refused cat service plan (Some Async) e (Some row) r same holds refused = cc_accepts r.accepts_incomplete refused holds.1 where
+  cc_accepts : {A : Type 0} (x : Bool) → not x ≡ true → x ≡ true → A
+  cc_accepts true f g = cc
+  cc_accepts false f g = cc
 
 begun : (b : Option BrokerRow) (o : Option Request) (x : Bool) → IsSome b
     → IfSome b (λ row. IsBeforeDeletion row.phase × IsSomeAnd o (λ r. IsTrue (x || r.accepts_incomplete)))

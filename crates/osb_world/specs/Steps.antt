@@ -1,6 +1,6 @@
 -- When an event applies to the cell of its instance, and what it makes of the cell. What the platform
 -- records and the broker answers are their own tables; the rest is this project's choice.
-use Rattle.std.specs.Prelude.{Bool, false, is_some, is_none, Option, Some, None, option_map, if◌then◌else◌}
+use Rattle.std.specs.Prelude.{true, Bool, false, is_some, is_none, Option, Some, None, option_map, if◌then◌else◌}
 use Rattle.osb_message.specs.declared.messages.Answer.{Answer}
 use Rattle.osb_message.specs.declared.messages.Body.TheVariants.{Malformed}
 use Rattle.osb_message.specs.declared.messages.Request.{Request}
@@ -11,7 +11,7 @@ use Rattle.osb_broker.specs.Finished.{finished, is_running}
 use Rattle.osb_broker.specs.Handled.{handled, makes_row}
 use Rattle.osb_platform.specs.declared.row.PlatformRow.{PlatformRow}
 use Rattle.osb_platform.specs.PlatformRow.{wanted_row, first_request, next_request, can_send, can_expire, can_remove}
-use Rattle.osb_platform.specs.PlatformRow.{sent, answered, timed_out, cleaned_up}
+use Rattle.osb_platform.specs.PlatformRow.{sent, answered, timed_out, restarted, cleaned_up}
 use Rattle.osb_world.specs.declared.cell.Cell.{Cell}
 use Rattle.osb_world.specs.declared.event.Event.{Event}
 
@@ -28,6 +28,7 @@ applies cell (Event.Answer id) = is_some cell.travelling
 applies cell (Event.Timeout id) = is_some cell.out
 applies cell (Event.Expire id) = can_expire cell.platform
 applies cell (Event.Finish id ok) = is_running cell.broker
+applies cell Event.Restart = true
 
 -- the cell with another record of the platform's
 abbrev pub recorded : Cell → Option PlatformRow → Cell
@@ -84,6 +85,7 @@ changed_cell catalogue cell (Event.Answer id) = taken cell cell.out cell.travell
 changed_cell catalogue cell (Event.Timeout id) = closed cell (timed_out cell.platform)
 changed_cell catalogue cell (Event.Expire id) = recorded cell (cleaned_up cell.platform)
 changed_cell catalogue cell (Event.Finish id ok) = held cell (finished cell.broker ok)
+changed_cell catalogue cell Event.Restart = closed cell (restarted cell.platform)
 
 -- one step of a cell: the cell itself where the event doesn't apply
 abbrev pub cell_step : Catalogue → Cell → Event → Cell
@@ -94,8 +96,8 @@ abbrev pub makes_row_for : Catalogue → Option BrokerRow → Outcome → Option
 makes_row_for catalogue row outcome None = false
 makes_row_for catalogue row outcome (Some request) = makes_row catalogue row request outcome
 
--- whether a step may ask for memory: a Create that applies, and a delivery or repetition that makes a
--- broker row
+-- whether a step may ask for memory: a Create that applies, a delivery or repetition that makes a
+-- broker row, and a restart
 abbrev pub takes_memory : Catalogue → Cell → Event → Bool
 takes_memory catalogue cell (Event.Create id service plan accepts) = is_none cell.platform
 takes_memory catalogue cell (Event.Remove id) = false
@@ -109,3 +111,4 @@ takes_memory catalogue cell (Event.Answer id) = false
 takes_memory catalogue cell (Event.Timeout id) = false
 takes_memory catalogue cell (Event.Expire id) = false
 takes_memory catalogue cell (Event.Finish id ok) = false
+takes_memory catalogue cell Event.Restart = true

@@ -1,7 +1,9 @@
 -- The cells of a world.
 use Rattle.std.specs.Prelude.{◌≡◌, ◌≢◌, ℕ, Bool, true, false, option_and_then, IsSome}
 use Rattle.std.specs.FinMap as map
+use Rattle.std.specs.Ordering.{nat_cmp}
 use Rattle.osb_broker.specs.Answers.{Catalogue}
+use Rattle.osb_platform.specs.declared.row.PlatformRow.{PlatformRow}
 use Rattle.osb_world.specs.declared.cell.Cell.{Cell}
 use Rattle.osb_world.specs.declared.event.Event.{Event}
 use Rattle.osb_world.specs.declared.parts.Parts.{Parts}
@@ -12,6 +14,10 @@ use Rattle.osb_world.specs.Steps.{cell_step}
 -- the plans that the broker sells
 abbrev pub catalogue_of : Parts → Catalogue
 catalogue_of parts = parts.broker.catalogue
+
+-- what the platform records
+abbrev pub records_of : Parts → map.FinMap nat_cmp PlatformRow
+records_of parts = parts.platform
 
 -- the cell of an id
 abbrev pub cell_at : Parts → ℕ → Cell

@@ -2,11 +2,11 @@
 use osb_broker::Outcome;
 use osb_message::{InstanceId, PlanId, ServiceId};
 
-/// Something that happens to one instance, which each event names.
+/// Something that happens: to the instance that the event names, or at a restart to all of them.
 ///
 /// What each of them does, and when, is this project's choice, as far as it isn't the platform's or
-/// the broker's tables. "Out" is said of a request that was sent and is neither answered nor timed
-/// out.
+/// the broker's tables. "Out" is said of a request that was sent and is neither answered, nor timed
+/// out, nor dropped by a restart.
 #[derive(Clone, Copy, Debug, PartialEq, Eq, Hash)]
 pub enum Event {
     /// An operator asks for a new instance, and its Provision is out (section Provisioning). It
@@ -86,4 +86,8 @@ pub enum Event {
         /// Whether it ends well.
         ok: bool,
     },
+    /// The platform is restarted from its saved record: what was outstanding is forgotten, and a
+    /// wanted instance is cleaned up. In every cell nothing is out and nothing travels. It always
+    /// applies.
+    Restart,
 }

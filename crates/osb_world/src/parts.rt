@@ -6,7 +6,7 @@
 ghost use Rattle.std.specs.Prelude.{◌≡◌, ◌≢◌, ℕ, false, IsOk, IfOk, OnOk, OnErr};
 ghost use Rattle.osb_world.specs.Cell.{empty_cell};
 ghost use Rattle.osb_world.specs.Events.{event_id, next_cell};
-ghost use Rattle.osb_world.specs.Steps.{applies, takes_memory};
+ghost use Rattle.osb_world.specs.Steps.{applies, cell_step, takes_memory};
 ghost use Rattle.osb_world.specs.Views.{catalogue_of, cell_at, step_of};
 ghost use Rattle.osb_world.specs.Views.{IsPlaced, IsSame, IsSound, IsStepOf};
 
@@ -272,7 +272,29 @@ impl Parts {
         }
     }
 
-    pub(crate) fn step(&mut self, event: Event) -> Result<Step, Memory>
+    // A refusal comes before anything has changed.
+    #[tactic(auto, using(osb_message::proofs::Maps::row_steps))]
+    fn restart(&mut self, alloc: Global) -> Result<Step, Memory>
+        requires { IsSound self.old }
+        ensures cells { OnOk result ((id : ℕ) → cell_at self.new id
+            ≡ cell_step (catalogue_of self.old) (cell_at self.old id) Event.Restart) }
+        ensures catalogue { catalogue_of self.new ≡ catalogue_of self.old }
+        ensures placed { IsPlaced self.new }
+        ensures step { IfOk result (λ step. step ≡ Step.Applied) }
+        ensures err { OnErr result (self.new ≡ self.old) }
+    {
+        let Ok(saved) = self.platform.save(alloc) else {
+            return Err(Memory);
+        };
+        let Ok(loaded) = Platform::load(alloc, saved.as_str()) else {
+            return Err(Memory);
+        };
+        self.platform = loaded;
+        self.messages.fill(SILENCE);
+        Ok(Step::Applied)
+    }
+
+    pub(crate) fn step(&mut self, alloc: Global, event: Event) -> Result<Step, Memory>
         requires { IsSound self.old }
         ensures cells { OnOk result ((id : ℕ) →
             cell_at self.new id ≡ next_cell (catalogue_of self.old) id (cell_at self.old id) event) }
@@ -301,6 +323,7 @@ impl Parts {
             Event::Timeout { id } => Ok(self.timeout(id)),
             Event::Expire { id } => Ok(self.expire(id)),
             Event::Finish { id, ok } => Ok(self.finish(id, ok)),
+            Event::Restart => self.restart(alloc),
         }
     }
 }

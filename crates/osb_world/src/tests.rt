@@ -1,4 +1,5 @@
 //! Stories told event by event, and what both sides have in the end.
+mod restarts;
 mod stories;
 
 use crate::{Cell, Event, Step, World, run};
@@ -77,6 +78,7 @@ fn event_of(word: &str) -> Option<Event> {
         "expire" => Event::Expire { id },
         "finish-ok" => Event::Finish { id, ok: true },
         "finish-fail" => Event::Finish { id, ok: false },
+        "restart" => Event::Restart,
         _ => return None,
     };
     Some(event)

@@ -1,20 +1,21 @@
 //! Both cores, and the messages between them.
-ghost use Rattle.std.specs.Prelude.{◌≡◌, ◌↔◌, ℕ, false, Ok, Contains};
+ghost use Rattle.std.specs.Prelude.{string_bytes, ◌≡◌, ◌↔◌, ℕ, false, Ok, Contains};
 ghost use Rattle.std.specs.Prelude.{IsOk, IsSome, IfOk, OnOk, OnErr};
 ghost use Rattle.std.specs.List.Sorted.{IsStrictlySortedBy};
 ghost use Rattle.std.specs.Ordering.{nat_cmp};
+ghost use Rattle.osb_platform.specs.SavedRecord.{saved_text};
 ghost use Rattle.osb_world.specs.Agreement.{Agrees};
 ghost use Rattle.osb_world.specs.Cell.{empty_cell};
 ghost use Rattle.osb_world.specs.Events.{event_id, next_cell};
 ghost use Rattle.osb_world.specs.Possible.{IsPossible};
 ghost use Rattle.osb_world.specs.Steps.{applies, takes_memory};
-ghost use Rattle.osb_world.specs.Views.{catalogue_of, cell_at, step_of, IsSame, IsSound};
+ghost use Rattle.osb_world.specs.Views.{catalogue_of, cell_at, records_of, step_of, IsSame, IsSound};
 
 use crate::parts::Parts;
 use crate::{Cell, Event, Step};
 use osb_broker::BrokerRow;
 use osb_message::{Catalogue, InstanceId, Memory};
-use osb_platform::PlatformRow;
+use osb_platform::{PlatformRow, SaveFault};
 use std::alloc::Global;
 use std::marker::Model;
 
@@ -57,13 +58,13 @@ impl World {
     /// that it names, which is then one step further. Every other cell and the catalogue are as
     /// before. [`Step::Skipped`] has changed nothing.
     ///
-    /// `alloc` is for events that make a new platform, of which there are none: what these events
-    /// write, they write where the world's own allocator serves.
+    /// A [`Event::Restart`] steps the cell of every id. `alloc` is for its saved text and the platform
+    /// that is read from it; what the other events write, the world's own allocator serves.
     ///
     /// # Errors
     ///
-    /// [`Memory`] where a growth was refused, which only a Create that applies asks for, and a
-    /// Deliver or a Repeat that makes a broker's row. Every cell is then as before.
+    /// [`Memory`] where a growth was refused, which only a Create that applies asks for, a Deliver or
+    /// a Repeat that makes a broker's row, and a Restart. Every cell is then as before.
     #[tactic(auto, using(crate::proofs::Sound::skips_free))]
     pub fn step(&mut self, alloc: Global, event: Event) -> Result<Step, Memory>
         ensures cells { OnOk result ((id : ℕ) →
@@ -79,7 +80,7 @@ impl World {
         ensures no_memory { takes_memory (catalogue_of self.old) (cell_at self.old (event_id event))
             event ≡ false → IsOk result }
     {
-        self.parts.step(event)
+        self.parts.step(alloc, event)
     }
 
     /// All that there is of an instance. It takes no memory.
@@ -120,6 +121,18 @@ impl World {
         ensures ascending { IfOk result (λ ids. IsStrictlySortedBy nat_cmp ids.items) }
     {
         self.parts.platform.ids(alloc)
+    }
+
+    /// The platform's saved record, the text that [`Platform::load`](osb_platform::Platform::load)
+    /// reads (this project's choice).
+    ///
+    /// # Errors
+    ///
+    /// [`SaveFault::Memory`] where a growth was refused.
+    pub fn save(&self, alloc: Global) -> Result<String, SaveFault>
+        ensures { IfOk result (λ text. string_bytes text ≡ saved_text (records_of self.now)) }
+    {
+        self.parts.platform.save(alloc)
     }
 
     /// Does nothing: its contract is that platform and broker agree on every id of every world, in

@@ -30,6 +30,23 @@ fn other_texts_are_no_ids(rt: HostRuntime) {
 }
 
 #[test]
+fn texts_in_lower_case_alone(rt: HostRuntime) {
+    let text = "00000000-0000-0000-0000-00000000abcd";
+    let id = InstanceId::from_value(0xabcd);
+    assert!(rt; InstanceId::from_lower_text(text) == Some(id));
+    let mut buffer = [0u8; 36];
+    assert!(rt; id.text_in(&mut buffer) == text);
+    for other in [
+        "",
+        "00000000-0000-0000-0000-00000000ABCD",
+        "00000000-0000-0000-0000-00000000abcD",
+        "0000000000000000000000000000abcd",
+    ] {
+        assert!(rt; InstanceId::from_lower_text(other).is_none(), "{other}");
+    }
+}
+
+#[test]
 fn the_fault_has_its_name(rt: HostRuntime) -> Result<(), std::test::Fail> {
     assert!(rt; IdFault::NotAnId.to_string(rt.alloc())?.as_str() == "NotAnId");
     Ok(())

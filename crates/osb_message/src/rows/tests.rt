@@ -11,6 +11,18 @@ fn values_by_id(rt: HostRuntime) -> Result<(), Fail> {
     assert!(rt; rows.ids(rt.alloc())?.as_slice() == [low, high].as_slice());
     rows.set(high, Some('c'))?;
     assert!(rt; rows.get(high) == Some('c'));
+    let mut entries = rows.iter();
+    assert!(rt;
+        entries
+            .next()
+            .is_some_and(|(id, value)| *id == low && *value == 'b')
+    );
+    assert!(rt;
+        entries
+            .next()
+            .is_some_and(|(id, value)| *id == high && *value == 'c')
+    );
+    assert!(rt; entries.next().is_none());
     rows.fill('d');
     assert!(rt; rows.get(low) == Some('d'));
     rows.set(low, None)?;

@@ -2,7 +2,7 @@ use Rattle.std.proofs.Common.{subst}
 use Rattle.std.specs.Prelude.{◌↔◌, Contains, IsSome}
 use Rattle.std.specs.FinMap.{get}
 use Rattle.std.proofs.lemmas.Result.{IfOk-weaker}
-use Rattle.osb_platform.proofs.Recorded.{keys_recorded}
+use Rattle.osb_platform.proofs.Ascending.{keys_recorded}
 use Rattle.osb_platform.proofs.platform.Platform.ids.Goals as goal
 
 pub returns-clause-recorded : goal.returns-clause-recorded

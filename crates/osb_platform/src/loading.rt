@@ -1,0 +1,75 @@
+//! The rows that the text of a saved record names.
+ghost use Rattle.std.specs.Prelude.{◌≡◌, ◌⊎◌, true, None, Some, Ok, Err, List, IfOk, IfErr};
+ghost use Rattle.std.specs.FinMap as map;
+ghost use Rattle.std.specs.Ordering.{nat_cmp};
+ghost use Rattle.serde_json.specs.View.{members_view};
+ghost use Rattle.osb_platform.specs.PlatformRow.{IsRestarted};
+ghost use Rattle.osb_platform.specs.SavedRecord as saved;
+
+use crate::record::read_row;
+use crate::{LoadFault, PlatformRow, decide_restart};
+use osb_message::{InstanceId, Rows};
+use serde_json::{Map, Value};
+use std::alloc::Global;
+
+fn are_named_by_ids(members: &Map<String, Value>) -> bool
+    ensures { result ≡ saved.are_named_by_ids (members_view members.now.entries) }
+{
+    for (name, _) in members {
+        if InstanceId::from_lower_text(name.as_str()).is_none() {
+            return false;
+        }
+    }
+    true
+}
+
+// The rows that the members name, after a restart.
+fn read_members(alloc: Global, members: &Map<String, Value>) -> Result<Rows<PlatformRow>, LoadFault>
+    requires { saved.are_named_by_ids (members_view members.now.entries) ≡ true }
+    ensures rows { IfOk result (λ rows. (named : List saved.Entry)
+        × (saved.entries_named (members_view members.now.entries) ≡ Some named)
+        × IsRestarted (map.from_entries named) rows) }
+    ensures err { IfErr result (λ fault. (fault ≡ LoadFault.Memory) ⊎ ((fault ≡ LoadFault.BadMember)
+        × (saved.entries_named (members_view members.now.entries) ≡ None))) }
+{
+    let mut rows = Rows::new(alloc);
+    for (name, value) in members {
+        let Some(id) = InstanceId::from_lower_text(name.as_str()) else {
+            return Err(LoadFault::BadMember);
+        };
+        let Some(row) = read_row(value) else {
+            return Err(LoadFault::BadMember);
+        };
+        let Ok(()) = rows.insert(id, row.in_state(decide_restart(row.state))) else {
+            return Err(LoadFault::Memory);
+        };
+    }
+    Ok(rows)
+}
+
+// The rows that a text names, after a restart.
+pub(crate) fn read_rows(alloc: Global, text: &str) -> Result<Rows<PlatformRow>, LoadFault>
+    ensures rows { IfOk result (λ rows. (named : map.FinMap nat_cmp PlatformRow)
+        × (saved.rows_in text.now ≡ Ok named) × IsRestarted named rows) }
+    ensures err { IfErr result (λ fault.
+        (fault ≡ LoadFault.Memory) ⊎ (saved.rows_in text.now ≡ Err fault)) }
+{
+    let value = match Value::from_str(alloc, text) {
+        Ok(value) => value,
+        Err(error) => {
+            return Err(if error.is_memory() {
+                LoadFault::Memory
+            } else {
+                LoadFault::NotJson
+            });
+        }
+    };
+    let Some(members) = value.as_object() else {
+        return Err(LoadFault::NotAnObject);
+    };
+    // Every name is judged before any row, so that an operator first hears of a bad name.
+    if !are_named_by_ids(members) {
+        return Err(LoadFault::BadKey);
+    }
+    read_members(alloc, members)
+}

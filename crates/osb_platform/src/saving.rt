@@ -1,0 +1,41 @@
+//! The text of the saved record.
+ghost use Rattle.std.specs.Prelude.{◌≡◌, Some, IfOk, string_bytes};
+ghost use Rattle.std.specs.FinMap as map;
+ghost use Rattle.std.specs.List.{AllByRecursion};
+ghost use Rattle.serde_json.specs.Read.{read};
+ghost use Rattle.serde_json.specs.View.{view};
+ghost use Rattle.osb_platform.specs.SavedRecord as saved;
+
+use crate::PlatformRow;
+use crate::record::row_value;
+use osb_message::Rows;
+use serde_json::{Map, Value};
+use std::alloc::{AllocError, Global};
+
+fn rows_value(alloc: Global, rows: &Rows<PlatformRow>) -> Result<Value, AllocError>
+    ensures value { IfOk result (λ v. view v ≡ saved.saved_value rows.now) }
+    ensures readable { IfOk result (λ _. AllByRecursion saved.IsReadable (map.entries rows.now)) }
+{
+    let mut members = Map::new(alloc);
+    for (id, row) in rows.iter() {
+        let mut text = [0u8; 36];
+        let name = id.text_in(&mut text);
+        let value = row_value(alloc, row)?;
+        serde_json::put(&mut members, alloc, name, value)?;
+    }
+    Ok(Value::Object(members))
+}
+
+// The text that is saved of the rows.
+pub(crate) fn write_rows(alloc: Global, rows: &Rows<PlatformRow>) -> Result<String, AllocError>
+    ensures text { IfOk result (λ text. string_bytes text ≡ saved.saved_text rows.now) }
+    ensures reads { IfOk result (λ text.
+        read (string_bytes text) ≡ Some (saved.saved_value rows.now)) }
+    ensures record { IfOk result (λ text. saved.IsRecordOf rows.now (string_bytes text)) }
+{
+    let value = rows_value(alloc, rows)?;
+    match value.to_string(alloc) {
+        Ok(text) => Ok(text),
+        Err(refused) => Err(refused),
+    }
+}

@@ -1,0 +1,124 @@
+use super::{SYNC, create, events_of, instance, new_catalogue, sides, sides_of_run, told_through};
+use crate::{Event, Step, World, run};
+use osb_broker::{Outcome, Phase};
+use osb_message::{Answer, Body, ErrorCode, InstanceId};
+use osb_platform::State;
+use std::test::Fail;
+
+#[test]
+fn stories_with_a_restart(rt: HostRuntime) -> Result<(), Fail> {
+    let gone = Some(State::Gone);
+    for (name, story, applied, skipped, recorded, held) in [
+        (
+            "before the Provision was delivered",
+            "create-sync restart send deliver answer",
+            5,
+            0,
+            gone,
+            None,
+        ),
+        (
+            "while the answer travels, which is dropped",
+            "create-sync deliver restart answer",
+            3,
+            1,
+            Some(State::Cleaning),
+            Some(Phase::Ready),
+        ),
+        (
+            "a gone id, which isn't created again",
+            "create-sync restart send deliver answer create-sync",
+            5,
+            1,
+            gone,
+            None,
+        ),
+        (
+            "with nothing recorded",
+            "send lose finish-ok restart",
+            1,
+            3,
+            None,
+            None,
+        ),
+        (
+            "of what is ready, which stays so",
+            "create-sync deliver answer restart",
+            4,
+            0,
+            Some(State::Ready),
+            Some(Phase::Ready),
+        ),
+        (
+            "while a Poll is out, which is sent again",
+            "create-async deliver answer send restart send finish-ok deliver answer",
+            9,
+            0,
+            Some(State::Ready),
+            Some(Phase::Ready),
+        ),
+    ] {
+        let events = events_of(&rt, rt.alloc(), story)?;
+        let end = told_through(rt.alloc(), &events)?;
+        assert_eq!(rt; (end.applied, end.skipped), (applied, skipped), "{name}");
+        assert_eq!(rt; end.sides, (recorded, held), "{name}");
+        assert_eq!(rt;
+            sides_of_run(rt.alloc(), &events)?,
+            end.sides,
+            "{name}, by run"
+        );
+    }
+    Ok(())
+}
+
+#[test]
+fn a_deprovision_after_a_restart_finds_nothing(rt: HostRuntime) -> Result<(), Fail> {
+    let events = events_of(&rt, rt.alloc(), "create-sync restart send deliver")?;
+    let end = told_through(rt.alloc(), &events)?;
+    let body = Body::Error(ErrorCode::Other);
+    assert_eq!(rt; end.travelled, Some(Answer { status: 410, body }));
+    Ok(())
+}
+
+#[test]
+fn two_instances_and_a_restart(rt: HostRuntime) -> Result<(), Fail> {
+    let (low, high) = (instance(), InstanceId::from_value(2));
+    let outcome = Outcome::Done;
+    let mut world = World::new(rt.alloc(), new_catalogue(rt.alloc())?);
+    for event in [
+        create(low, SYNC, false),
+        create(high, SYNC, false),
+        Event::Deliver { id: low, outcome },
+        Event::Deliver { id: high, outcome },
+        Event::Garble { id: low },
+        Event::Answer { id: low },
+        Event::Answer { id: high },
+        Event::Restart,
+        Event::Send { id: low },
+        Event::Deliver { id: low, outcome },
+        Event::Answer { id: low },
+    ] {
+        assert_eq!(rt; world.step(rt.alloc(), event)?, Step::Applied, "{event:?}");
+    }
+    assert_eq!(rt; sides(world.cell(low)), (Some(State::Gone), None));
+    assert_eq!(rt;
+        sides(world.cell(high)),
+        (Some(State::Ready), Some(Phase::Ready))
+    );
+    assert!(rt; world.ids(rt.alloc())?.as_slice() == [low, high].as_slice());
+    Ok(())
+}
+
+#[test]
+fn the_saved_record_of_one_ready_instance(rt: HostRuntime) -> Result<(), Fail> {
+    let events = events_of(&rt, rt.alloc(), "create-sync deliver answer")?;
+    let world = run(rt.alloc(), new_catalogue(rt.alloc())?, &events)?;
+    let saved = world.save(rt.alloc())?;
+    assert!(rt;
+        saved.as_str()
+            == "{\"00000000-0000-0000-0000-000000000001\":\
+{\"plan\":\"00000000-0000-0000-0000-0000000000b1\",\
+\"service\":\"00000000-0000-0000-0000-0000000000a0\",\"state\":\"ready\"}}"
+    );
+    Ok(())
+}
