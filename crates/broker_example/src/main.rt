@@ -26,13 +26,12 @@ fn method(kind: Kind) -> &'static str {
 // The answer's body as HTTP has it.
 fn json(body: Body) -> &'static str {
     match body {
-        Body::Empty | Body::Malformed => "{}",
+        Body::Empty | Body::Malformed | Body::Error(ErrorCode::Other) => "{}",
         Body::State(LastState::InProgress) => r#"{"state":"in progress"}"#,
         Body::State(LastState::Succeeded) => r#"{"state":"succeeded"}"#,
         Body::State(LastState::Failed) => r#"{"state":"failed"}"#,
         Body::Error(ErrorCode::AsyncRequired) => r#"{"error":"AsyncRequired"}"#,
         Body::Error(ErrorCode::ConcurrencyError) => r#"{"error":"ConcurrencyError"}"#,
-        Body::Error(ErrorCode::Other) => r#"{"description":"refused"}"#,
     }
 }
 

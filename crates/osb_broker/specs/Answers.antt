@@ -1,4 +1,6 @@
--- What a broker does with a request: the row that it has then, and the answer.
+-- What a broker does with a request: the row that it has then, and the answer. What an answer says is the
+-- standard's (sections Polling Last Operation for Service Instances and Service Broker Errors); what a broker
+-- keeps of its plans and its instances is this project's choice.
 use Rattle.std.specs.Prelude.{ℕ, Bool, ◌&&◌, ◌==◌, Option}
 use Rattle.std.specs.FinMap as map
 use Rattle.osb_message.specs.Catalogue.{pair_cmp}

@@ -1,4 +1,5 @@
--- What a decision changes at its instance.
+-- What a decision changes at its instance. What a broker keeps of one, and so what can change, is this
+-- project's choice.
 use Rattle.std.specs.Prelude.{Option, Some, None}
 use Rattle.osb_broker.specs.declared.decision.Change.{Change}
 use Rattle.osb_broker.specs.declared.row.BrokerRow.{BrokerRow}

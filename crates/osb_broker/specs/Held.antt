@@ -1,4 +1,5 @@
--- What holds of each row that a broker has.
+-- What holds of each row that a broker has. That its pair stays on sale, and that the row of a synchronous
+-- plan is always ready, is this project's choice.
 use Rattle.std.specs.Prelude.{◌≡◌, ℕ, Some, IsSome, IfSome}
 use Rattle.std.specs.Ordering.{nat_cmp}
 use Rattle.std.specs.FinMap as map

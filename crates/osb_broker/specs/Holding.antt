@@ -1,4 +1,4 @@
--- What a broker holds.
+-- What a broker holds, which is this project's choice: the standard leaves to the broker what it keeps.
 use Rattle.std.specs.Prelude.{refl}
 use Rattle.std.specs.Ordering.{nat_cmp}
 use Rattle.std.specs.FinMap as map

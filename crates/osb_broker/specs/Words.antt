@@ -1,4 +1,4 @@
--- The words of the phases.
+-- The words of the phases, which are this project's choice.
 use Rattle.std.specs.Prelude.{ℕ, List, codes}
 use Rattle.osb_broker.specs.declared.row.Phase.{Phase}
 

@@ -14,7 +14,8 @@ use osb_message::{Answer, Catalogue, InstanceId, Memory, Request, Rows};
 use std::alloc::Global;
 use std::marker::Model;
 
-/// A broker: the plans that it sells, and a row for each instance that it holds, by instance id.
+/// A broker: the plans that it sells, and a row for each instance that it holds, by instance id (this
+/// project's choice; the standard leaves to the broker what it keeps).
 ///
 /// The pair of service and plan of each row stands in the catalogue, and a row of a synchronous
 /// plan is [`Ready`](crate::Phase::Ready): such an instance is made and deleted within one call.

@@ -7,7 +7,7 @@
 /// one that is there, each where nothing refuses the request first. Everywhere else it is ignored.
 ///
 /// The three outcomes are this project's choice: the standard says what a platform does after a
-/// status of 500 to 599 (section Orphan Mitigation), and not what a broker then holds.
+/// Provision is answered 500 to 599 (section Orphan Mitigation), and not what a broker then holds.
 #[derive(Clone, Copy, Debug, PartialEq, Eq, Hash)]
 pub enum Outcome {
     /// The work is done, or at an asynchronous plan started.

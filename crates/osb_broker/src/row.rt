@@ -41,7 +41,8 @@ impl Phase {
     }
 }
 
-/// What a broker holds of an instance: the service and plan that it was made with, and its phase.
+/// What a broker holds of an instance: the service and plan that it was made with, and its phase
+/// (this project's choice; the standard leaves to the broker what it keeps).
 #[derive(Clone, Copy, Debug, PartialEq, Eq, Hash)]
 pub struct BrokerRow {
     /// The instance's service (`service_id`).

@@ -9,6 +9,9 @@ use std::alloc::Global;
 // Numbers of ids: a service, and a synchronous and an asynchronous plan of it.
 const SERVICE: u128 = 0xa0;
 
+// Another service, which has the synchronous plan too.
+const SECOND_SERVICE: u128 = 0xa1;
+
 const SYNC: u128 = 0xb1;
 
 const ASYNC: u128 = 0xb2;
@@ -23,6 +26,8 @@ fn new_broker(alloc: Global) -> Result<Broker, AddFault> {
     let mut catalogue = Catalogue::new(alloc);
     catalogue.add(service, PlanId::from_value(SYNC), Mode::Sync)?;
     catalogue.add(service, PlanId::from_value(ASYNC), Mode::Async)?;
+    let second = ServiceId::from_value(SECOND_SERVICE);
+    catalogue.add(second, PlanId::from_value(SYNC), Mode::Sync)?;
     Ok(Broker::new(alloc, catalogue))
 }
 

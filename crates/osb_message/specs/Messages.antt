@@ -20,8 +20,9 @@ is_state Empty = false
 is_state (State state) = true
 is_state (Error code) = false
 
--- whether an answer to a request of a kind is a success, or work in progress, that can be read whole
--- (sections Provisioning, Polling Last Operation for Service Instances, Deprovisioning)
+-- whether an answer to a request of a kind has a status of success and a body that can be read whole; a
+-- last operation that failed is read whole too (sections Provisioning, Polling Last Operation for Service
+-- Instances, Deprovisioning; that nothing else in a body is read is this project's choice)
 abbrev pub well_formed : Kind → Answer → Bool
 well_formed Provision a = (a.status == 200 || a.status == 201 || a.status == 202) && is_empty a.body
 well_formed Poll a = (a.status == 200) && is_state a.body

@@ -35,6 +35,10 @@ pub struct Request {
 }
 
 /// The broker's answer to a request, or what arrived of it.
+///
+/// The status and the body are the standard's (sections Provisioning, Polling Last Operation for
+/// Service Instances and Deprovisioning); that nothing else of an answer is read is this project's
+/// choice.
 #[derive(Clone, Copy, Debug, PartialEq, Eq, Hash)]
 pub struct Answer {
     /// The HTTP status. Any number can arrive.
@@ -78,8 +82,8 @@ pub enum ErrorCode {
     Other,
 }
 
-/// Whether an answer to a request of this kind is a success, or work in progress, that can be read
-/// whole.
+/// Whether an answer to a request of this kind has a status of success and a body that can be read
+/// whole. A last operation that failed is read whole too.
 ///
 /// It is for status 200, 201 or 202 with body [`Body::Empty`] where the kind is Provision or
 /// Deprovision, and for status 200 with body [`Body::State`] where the kind is Poll (sections

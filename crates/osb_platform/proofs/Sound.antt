@@ -1,4 +1,4 @@
--- What each row keeps, once a request is answered or given up, and after a restart.
+-- What each row keeps, once a request is answered or given up.
 use Rattle.std.proofs.Common.{◌≡◌, ◌≢◌, ℕ}
 use Rattle.std.specs.Prelude.{Some, Bool, true, false, if◌then◌else◌}
 use Rattle.std.specs.FinMap.{FinMap, get, insert}

@@ -1,6 +1,10 @@
 -- A platform's record of one instance, and when something can be done with it. None stands for an id
 -- that was never recorded.
-use Rattle.std.specs.Prelude.{◌≡◌, ◌≢◌, ℕ, Bool, true, false, ◌&&◌, is_some, is_none, Option, Some, None, IfSome, option_map, option_and_then}
+-- The requests and their attributes are the standard's (sections Provisioning, Polling Last Operation for
+-- Service Instances and Deprovisioning); what is recorded, when something can be done with it, and that a
+-- request after the first always accepts an asynchronous operation are this project's choice.
+use Rattle.std.specs.Prelude.{◌≡◌, ◌≢◌, ℕ, Bool, true, false, ◌&&◌, is_some, is_none}
+use Rattle.std.specs.Prelude.{Option, Some, None, IfSome, option_map, option_and_then}
 use Rattle.std.specs.FinMap as map
 use Rattle.std.specs.Ordering.{nat_cmp}
 use Rattle.osb_message.specs.declared.messages.Answer.{Answer}

@@ -1,6 +1,7 @@
 -- The saved record: the JSON value of a platform's rows, and the rows that a JSON value names. All of it is
 -- this project's choice.
-use Rattle.std.specs.Prelude.{◌≡◌, ℕ, ◌<◌, ◌^◌, Bool, true, ◌&&◌, ◌==◌, List, [], ◌∷◌, Option, Some, None, Result, Ok, Err, if◌then◌else◌, codes, is_some, option_map, option_and_then, unwrap_or}
+use Rattle.std.specs.Prelude.{◌≡◌, ℕ, ◌<◌, ◌^◌, Bool, true, ◌&&◌, ◌==◌, if◌then◌else◌, List, [], ◌∷◌, codes}
+use Rattle.std.specs.Prelude.{Option, Some, None, Result, Ok, Err, is_some, option_map, option_and_then, unwrap_or}
 use Rattle.std.specs.FinMap.{FinMap, get, entries, from_entries}
 use Rattle.std.specs.Ordering.{nat_cmp}
 use Rattle.osb_message.specs.IdText.{id_text, id_of_lower}

@@ -1,5 +1,8 @@
 -- What a platform records of an instance, and what becomes of it.
-use Rattle.std.specs.Prelude.{ℕ, Bool, true, false, not, ◌&&◌, ◌||◌, ◌==◌, if◌then◌else◌, List, Option, Some, None, codes}
+-- The statuses' meaning is the standard's, by the section named; the records, their words, what is due and
+-- what an operator may remove are this project's choice.
+use Rattle.std.specs.Prelude.{ℕ, Bool, true, false, not, ◌&&◌, ◌||◌, ◌==◌, if◌then◌else◌}
+use Rattle.std.specs.Prelude.{List, Option, Some, None, codes}
 use Rattle.std.specs.Str.{bytes_eq}
 use Rattle.osb_message.specs.declared.messages.Answer.{Answer}
 use Rattle.osb_message.specs.declared.messages.Body.{Body}
@@ -8,9 +11,10 @@ use Rattle.osb_message.specs.declared.messages.LastState.TheVariants.{InProgress
 use Rattle.osb_message.specs.declared.messages.Kind.{Kind}
 use Rattle.osb_message.specs.declared.messages.Kind.TheVariants.{Provision, Poll, Deprovision}
 use Rattle.osb_message.specs.Messages.{is_empty}
-use Rattle.osb_platform.specs.Mitigation.{is_within}
+use Rattle.osb_platform.specs.Statuses.{is_within}
 use Rattle.osb_platform.specs.declared.state.State.{State}
-use Rattle.osb_platform.specs.declared.state.State.TheVariants.{Wanted, Polling, Ready, Cleaning, CleaningPolling, Gone, Unsettled}
+use Rattle.osb_platform.specs.declared.state.State.TheVariants.{Wanted, Polling, Ready, Cleaning, CleaningPolling}
+use Rattle.osb_platform.specs.declared.state.State.TheVariants.{Gone, Unsettled}
 
 -- the word of a state
 abbrev pub state_word : State → List ℕ

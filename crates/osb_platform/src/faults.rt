@@ -1,6 +1,6 @@
-//! Why a call of a platform is refused. The platform is then as before.
+//! Why a call of a platform is refused.
 
-/// Why an instance isn't created.
+/// Why an instance isn't created (this project's choice). The platform is then as before.
 #[derive(Clone, Copy, Debug, PartialEq, Eq)]
 pub enum CreateFault {
     /// The id is recorded already, in any state.
@@ -9,7 +9,7 @@ pub enum CreateFault {
     Memory = 2,
 }
 
-/// Why no request is sent.
+/// Why no request is sent (this project's choice). The platform is then as before.
 #[derive(Clone, Copy, Debug, PartialEq, Eq)]
 pub enum SendFault {
     /// The id isn't recorded.
@@ -20,11 +20,12 @@ pub enum SendFault {
     NothingDue = 3,
 }
 
-/// Why an answer or a timeout isn't taken: the id isn't recorded, or no request is outstanding.
+/// Why an answer or a timeout isn't taken: the id isn't recorded, or no request is outstanding (this
+/// project's choice). The platform is then as before.
 #[derive(Clone, Copy, Debug, PartialEq, Eq)]
 pub struct NoRequest;
 
-/// Why polling isn't given up.
+/// Why polling isn't given up (this project's choice). The platform is then as before.
 #[derive(Clone, Copy, Debug, PartialEq, Eq)]
 pub enum ExpireFault {
     /// The id isn't recorded.
@@ -35,7 +36,7 @@ pub enum ExpireFault {
     NotPolling = 3,
 }
 
-/// Why an instance isn't removed.
+/// Why an instance isn't removed (this project's choice). The platform is then as before.
 #[derive(Clone, Copy, Debug, PartialEq, Eq)]
 pub enum RemoveFault {
     /// The id isn't recorded.
@@ -46,14 +47,15 @@ pub enum RemoveFault {
     NotRemovable = 3,
 }
 
-/// Why the records aren't saved.
+/// Why the records aren't saved (this project's choice). The platform is then as before.
 #[derive(Clone, Copy, Debug, PartialEq, Eq)]
 pub enum SaveFault {
     /// A growth was refused.
     Memory = 1,
 }
 
-/// Why no platform is loaded. Of the first four faults it is the first that fits.
+/// Why no platform is loaded (this project's choice). Of the first four faults it is the first that
+/// fits. No platform is then made.
 #[derive(Clone, Copy, Debug, PartialEq, Eq)]
 pub enum LoadFault {
     /// The text has no reading as JSON. Nesting above 127 has none.

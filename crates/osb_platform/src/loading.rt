@@ -35,7 +35,7 @@ fn read_members(alloc: Global, members: &Map<String, Value>) -> Result<Rows<Plat
     let mut rows = Rows::new(alloc);
     for (name, value) in members {
         let Some(id) = InstanceId::from_lower_text(name.as_str()) else {
-            return Err(LoadFault::BadMember);
+            unreachable!()
         };
         let Some(row) = read_row(value) else {
             return Err(LoadFault::BadMember);

@@ -1,10 +1,13 @@
 //! The platform: what it records of each instance, and the requests that it makes.
-ghost use Rattle.std.specs.Prelude.{◌≡◌, ◌≢◌, ◌↔◌, ◌⊎◌, ℕ, false, Some, Ok, Err, string_bytes, IfErr, IsTrue, IsSome, IsNone, Contains, IsOk, IfOk, IfSome, IsSomeAnd, OnOk, OnErr};
+ghost use Rattle.std.specs.Prelude.{◌≡◌, ◌≢◌, ◌↔◌, ◌⊎◌, ℕ, false, Some, Ok, Err, string_bytes, Contains};
+ghost use Rattle.std.specs.Prelude.{IsTrue, IsSome, IsNone, IsSomeAnd, IfSome, IsOk, IfOk, IfErr, OnOk, OnErr};
 ghost use Rattle.std.specs.FinMap as map;
 ghost use Rattle.std.specs.List.Sorted.{IsStrictlySortedBy};
 ghost use Rattle.std.specs.Ordering.{nat_cmp};
 ghost use Rattle.osb_platform.specs.State.{state_after, due, is_polling, is_removable};
-ghost use Rattle.osb_platform.specs.PlatformRow.{IsSound, kind_out, wanted_row, first_request, next_request, sent, answered, timed_out, cleaned_up, can_send, can_expire, can_remove, IsRestarted};
+ghost use Rattle.osb_platform.specs.PlatformRow.{IsSound, IsRestarted, kind_out, can_send, can_expire, can_remove};
+ghost use Rattle.osb_platform.specs.PlatformRow.{wanted_row, sent, answered, timed_out, cleaned_up};
+ghost use Rattle.osb_platform.specs.PlatformRow.{first_request, next_request};
 ghost use Rattle.osb_platform.specs.SavedRecord.{saved_value, saved_text, rows_in, IsRecordOf};
 ghost use Rattle.serde_json.specs.Read.{read};
 
@@ -39,7 +42,8 @@ fn decide(state: State, kind: Kind, answer: Answer) -> State
 }
 
 /// What a platform records of its instances. It is the source of truth: the broker is expected to
-/// hold all that the platform knows, and none that it doesn't.
+/// hold all that the platform knows, and none that it doesn't (section Orphan Mitigation). What is
+/// recorded is this project's choice.
 ///
 /// Contracts see a finite map from ids to rows. In each row a wanted instance has a Provision
 /// outstanding; in every other state nothing is outstanding, or the request that is due there.
@@ -66,7 +70,8 @@ impl Model for Platform {
 }
 
 impl Platform {
-    /// A platform with no instances. It keeps the allocator for later instances, and takes no memory.
+    /// A platform with no instances (this project's choice). It keeps the allocator for later
+    /// instances, and takes no memory.
     #[tactic(auto, using(osb_message::proofs::Maps::row_steps))]
     pub fn new(alloc: Global) -> Self
         ensures { result ≡ map.empty }
@@ -76,7 +81,8 @@ impl Platform {
         }
     }
 
-    /// What is recorded of the instance, or none where its id was never recorded. It takes no memory.
+    /// What is recorded of the instance, or none where its id was never recorded (this project's
+    /// choice). It takes no memory.
     pub fn row(&self, id: InstanceId) -> Option<PlatformRow>
         ensures row { result ≡ map.get self.now id }
         ensures sound { IsSound self.now }
@@ -84,7 +90,7 @@ impl Platform {
         self.rows.get(id)
     }
 
-    /// The recorded ids, ascending.
+    /// The recorded ids, ascending (this project's choice).
     ///
     /// # Errors
     ///
@@ -148,10 +154,8 @@ impl Platform {
         ensures saved_rows { (saved : map.FinMap nat_cmp PlatformRow) → IsRecordOf saved text.now
             → IfOk result (λ platform. IsRestarted saved platform) }
     {
-        match loading::read_rows(alloc, text) {
-            Ok(rows) => Ok(Platform { rows }),
-            Err(fault) => Err(fault),
-        }
+        let rows = loading::read_rows(alloc, text)?;
+        Ok(Platform { rows })
     }
 
     /// Records a new instance as `wanted` and gives its Provision, which is then outstanding (section
@@ -204,8 +208,8 @@ impl Platform {
 
     /// Gives the request that is due, which is then outstanding: a Poll in `polling` and
     /// `cleaning-polling` (section Polling Last Operation for Service Instances), a Deprovision in
-    /// `cleaning` (section Deprovisioning). It has the recorded service and plan, and accepts an
-    /// asynchronous operation. It takes no memory.
+    /// `cleaning` (section Deprovisioning). It has the recorded service and plan, and always accepts an
+    /// asynchronous operation (this project's choice). It takes no memory.
     ///
     /// # Errors
     ///
@@ -253,6 +257,11 @@ impl Platform {
     /// Takes the answer to the outstanding request: the state becomes what the table of its kind
     /// gives, and nothing is outstanding. It takes no memory.
     ///
+    /// The tables are [`decide_provision`](crate::decide_provision) (section Provisioning),
+    /// [`decide_poll`](crate::decide_poll) (section Polling Last Operation for Service Instances) and
+    /// [`decide_deprovision`](crate::decide_deprovision) (section Deprovisioning). What a status means
+    /// is the standard's; the records are this project's choice.
+    ///
     /// # Errors
     ///
     /// [`NoRequest`] exactly where the id isn't recorded or no request is outstanding. The platform is
@@ -278,8 +287,8 @@ impl Platform {
     }
 
     /// Gives up the outstanding request: `wanted` becomes `cleaning`, since its Provision may have
-    /// made an instance (section Orphan Mitigation), every other state stays, and nothing is
-    /// outstanding. It takes no memory.
+    /// made an instance (section Orphan Mitigation), every other state stays (this project's choice),
+    /// and nothing is outstanding. It takes no memory.
     ///
     /// # Errors
     ///

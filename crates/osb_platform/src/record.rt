@@ -43,10 +43,7 @@ fn read_id<K>(value: &Value, name: &str) -> Option<Id<K>>
 fn read_state(value: &Value, name: &str) -> Option<State>
     ensures { result ≡ saved.state_at name.now (view value.now) }
 {
-    match read_text(value, name) {
-        Some(text) => State::from_word(text),
-        None => None,
-    }
+    read_text(value, name).and_then(State::from_word)
 }
 
 fn member_count(value: &Value) -> usize

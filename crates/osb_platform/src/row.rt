@@ -2,7 +2,8 @@
 use crate::State;
 use osb_message::{Kind, PlanId, ServiceId};
 
-/// What a platform keeps of one instance.
+/// What a platform keeps of one instance (this project's choice; the standard leaves the record to
+/// the platform).
 #[derive(Clone, Copy, Debug, PartialEq, Eq, Hash)]
 pub struct PlatformRow {
     /// The instance's service (`service_id`).

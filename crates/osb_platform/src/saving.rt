@@ -34,8 +34,6 @@ pub(crate) fn write_rows(alloc: Global, rows: &Rows<PlatformRow>) -> Result<Stri
     ensures record { IfOk result (λ text. saved.IsRecordOf rows.now (string_bytes text)) }
 {
     let value = rows_value(alloc, rows)?;
-    match value.to_string(alloc) {
-        Ok(text) => Ok(text),
-        Err(refused) => Err(refused),
-    }
+    let text = value.to_string(alloc)?;
+    Ok(text)
 }

@@ -17,7 +17,7 @@ use Rattle.osb_broker.specs.Answers.{Catalogue}
 use Rattle.osb_platform.specs.declared.row.PlatformRow.{PlatformRow}
 use Rattle.osb_platform.specs.declared.state.State.{State}
 use Rattle.osb_platform.specs.declared.state.State.TheVariants.{Wanted, Polling, Ready, Cleaning, CleaningPolling, Gone, Unsettled}
-use Rattle.osb_platform.specs.Mitigation.{is_within}
+use Rattle.osb_platform.specs.Statuses.{is_within}
 use Rattle.osb_platform.specs.State.{state_after, state_after_provision, state_after_poll, state_after_operation, state_after_deprovision, is_async_required}
 use Rattle.osb_world.specs.declared.event.Event.{Event}
 use Rattle.osb_world.specs.Possible.{IsPossible, IsPossibleParts, IsRowOf, IsBeforeDeletion, OutByState, HeldByState, TravelsByState, HoldsReady, IsProvisioned, IsDeprovisioned, IsPolledInDeletion, is_refused, is_sync, mode_at}

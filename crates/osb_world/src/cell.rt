@@ -11,7 +11,7 @@ pub struct Cell {
     pub platform: Option<PlatformRow>,
     /// What the broker holds.
     pub broker: Option<BrokerRow>,
-    /// The request that was sent and is neither answered nor timed out.
+    /// The request that was sent and is neither answered, nor timed out, nor dropped by a restart.
     pub out: Option<Request>,
     /// The broker's answer to it, on its way to the platform.
     pub travelling: Option<Answer>,

@@ -2,7 +2,7 @@
 //! the network does with requests and answers, what the clocks say, and how the broker's work ends.
 //!
 //! A [`World`] is made over a catalogue. [`World::step`] lets an [`Event`] happen to the instance
-//! that it names; [`run`] goes through a list of them. Whatever happens, platform and broker agree:
+//! that it names or, a restart, to all of them; [`run`] goes through a list of them. Whatever happens, platform and broker agree:
 //! where the platform records `ready`, the broker holds the instance, complete, with that service and
 //! plan; where the platform records `gone`, or nothing, the broker holds none.
 //!

@@ -1,7 +1,7 @@
 //! The two cores and the messages between them: one method for each event.
 //!
 //! Each method says the same: where its event applies, the cell of its instance is one step further,
-//! and every other cell and the catalogue are as before. They take for granted what holds of every
+//! and every other cell and the catalogue are as before. A restart is a step of every cell. They take for granted what holds of every
 //! world, and leave it to the world that it holds again.
 ghost use Rattle.std.specs.Prelude.{◌≡◌, ◌≢◌, ℕ, false, IsOk, IfOk, OnOk, OnErr};
 ghost use Rattle.osb_world.specs.Cell.{empty_cell};
@@ -14,7 +14,7 @@ use crate::messages::{Messages, SILENCE};
 use crate::{Cell, Event, Step};
 use osb_broker::{Broker, Outcome};
 use osb_message::{Answer, Body, Catalogue, InstanceId, Memory, PlanId, Rows, ServiceId};
-use osb_platform::Platform;
+use osb_platform::{CreateFault, LoadFault, Platform};
 use std::alloc::Global;
 
 // What a world is made of.
@@ -75,8 +75,10 @@ impl Parts {
             return Ok(Step::Skipped);
         }
         self.messages.set(id, Some(SILENCE))?;
-        let Ok(request) = self.platform.create(id, service, plan, accepts) else {
-            return Err(Memory);
+        let request = match self.platform.create(id, service, plan, accepts) {
+            Ok(request) => request,
+            Err(CreateFault::Memory) => return Err(Memory),
+            Err(CreateFault::IdUsed) => unreachable!(),
         };
         let messages = Messages {
             out: Some(request),
@@ -161,7 +163,7 @@ impl Parts {
             return Ok(Step::Skipped);
         }
         let Some(request) = messages.out else {
-            return Ok(Step::Skipped);
+            unreachable!()
         };
         let _ = self.broker.handle(&request, outcome)?;
         Ok(Step::Applied)
@@ -226,7 +228,7 @@ impl Parts {
             return Step::Skipped;
         };
         let Ok(()) = self.platform.answer(id, answer) else {
-            return Step::Skipped;
+            unreachable!()
         };
         self.messages.replace(id, SILENCE);
         Step::Applied
@@ -286,8 +288,11 @@ impl Parts {
         let Ok(saved) = self.platform.save(alloc) else {
             return Err(Memory);
         };
-        let Ok(loaded) = Platform::load(alloc, saved.as_str()) else {
-            return Err(Memory);
+        let loaded = match Platform::load(alloc, saved.as_str()) {
+            Ok(loaded) => loaded,
+            Err(LoadFault::Memory) => return Err(Memory),
+            // The record that `save` gives has no other fault.
+            Err(_) => unreachable!(),
         };
         self.platform = loaded;
         self.messages.fill(SILENCE);

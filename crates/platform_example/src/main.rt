@@ -1,9 +1,10 @@
 //! A platform's loop: the answer to a Provision is lost, and the platform cleans up what the broker
-//! may have made.
+//! may have made. It saves its records after each call, and before it sends or shows anything.
 #![tactic(auto)]
 
 use osb_message::{Answer, Body, InstanceId, Kind, LastState, PlanId, Request, ServiceId};
-use osb_platform::{CreateFault, NoRequest, Platform, SendFault};
+use osb_platform::{CreateFault, NoRequest, Platform, SaveFault, SendFault};
+use std::alloc::Global;
 use std::io;
 use thiserror::Error;
 
@@ -16,6 +17,8 @@ enum LoopFault {
     Send(#[from] SendFault),
     #[error("no request was outstanding: {0:?}")]
     Answer(#[from] NoRequest),
+    #[error("the records weren't saved: {0:?}")]
+    Save(#[from] SaveFault),
     #[error("nothing could be printed: {0}")]
     Print(#[from] io::Error),
 }
@@ -35,24 +38,31 @@ fn carry(request: &Request, turn: u32) -> Option<Answer> {
     Some(Answer { status, body })
 }
 
+// Stands for writing the text into a new file that then takes the old one's name.
+fn save(rt: &impl Print, alloc: Global, platform: &Platform) -> Result<(), LoopFault> {
+    let text = platform.save(alloc)?;
+    println!(rt; "saved {} bytes", text.len())?;
+    Ok(())
+}
+
 fn main(rt: HostRuntime) -> Result<(), LoopFault> {
     let id = InstanceId::from_value(1);
     let (service, plan) = (ServiceId::from_value(0xa0), PlanId::from_value(0xb2));
     let mut platform = Platform::new(rt.alloc());
     let mut request = platform.create(id, service, plan, true)?;
+    save(&rt, rt.alloc(), &platform)?;
     for turn in 0..TURNS {
         println!(rt; "{:?}", request.kind)?;
-        match carry(&request, turn) {
-            Some(answer) => {
-                println!(rt; "  answered {} {:?}", answer.status, answer.body)?;
-                platform.answer(id, answer)?;
-            }
-            None => {
-                println!(rt; "  timed out")?;
-                platform.timeout(id)?;
-            }
+        let arrived = carry(&request, turn);
+        match arrived {
+            Some(answer) => platform.answer(id, answer)?,
+            None => platform.timeout(id)?,
         }
-        // Here a platform saves its records, before it sends or shows anything.
+        save(&rt, rt.alloc(), &platform)?;
+        match arrived {
+            Some(answer) => println!(rt; "  answered {} {:?}", answer.status, answer.body)?,
+            None => println!(rt; "  timed out")?,
+        }
         if let Some(row) = platform.row(id) {
             println!(rt; "  recorded {}", row.state.word())?;
         }
@@ -61,6 +71,7 @@ fn main(rt: HostRuntime) -> Result<(), LoopFault> {
             Err(SendFault::NothingDue) => break,
             Err(fault) => return Err(fault.into()),
         };
+        save(&rt, rt.alloc(), &platform)?;
     }
     Ok(())
 }

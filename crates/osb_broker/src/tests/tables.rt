@@ -1,5 +1,5 @@
 //! One case for each rule of the three tables, and for each phase and plan that a rule speaks of.
-use super::{ASYNC, SERVICE, SYNC, instance, new_broker, request, row};
+use super::{ASYNC, SECOND_SERVICE, SERVICE, SYNC, instance, new_broker, request, row};
 use crate::Outcome::{After, Before, Done};
 use crate::{Broker, BrokerRow, Outcome, Phase};
 use osb_message::Body::Empty;
@@ -35,6 +35,8 @@ const ACCEPTING: Asked = (SERVICE, SYNC, true);
 const AT_ASYNC: Asked = (SERVICE, ASYNC, true);
 
 const WAITING: Asked = (SERVICE, ASYNC, false);
+
+const AT_SECOND: Asked = (SECOND_SERVICE, SYNC, false);
 
 const NO_SERVICE: Asked = (UNKNOWN, SYNC, true);
 
@@ -93,12 +95,13 @@ fn found(
     Ok((before, answer, broker.row(instance())))
 }
 
-const PROVISION: [Case; 19] = [
+const PROVISION: [Case; 20] = [
     ("1, a service", None, NO_SERVICE, Done, 400, OTHER, None),
     ("1, a plan", READY, NO_PLAN, Done, 400, OTHER, READY),
     ("2", None, WAITING, Done, 422, REQUIRED, None),
     ("2, before 3", READY, WAITING, Done, 422, REQUIRED, READY),
     ("3", READY, AT_ASYNC, Done, 409, OTHER, READY),
+    ("3, a service", READY, AT_SECOND, Done, 409, OTHER, READY),
     ("3, making", MAKING, AT_SYNC, Done, 409, OTHER, MAKING),
     ("4", MAKING, AT_ASYNC, After, 202, Empty, MAKING),
     ("5", READY, AT_SYNC, Before, 200, Empty, READY),

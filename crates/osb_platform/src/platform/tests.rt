@@ -1,3 +1,4 @@
+//! The life of one instance, call by call, and a case for each line of the tables.
 use super::{Platform, PlatformRow, State};
 use crate::{
     CreateFault, ExpireFault, NoRequest, RemoveFault, SendFault, decide_restart, decide_timeout,
@@ -108,6 +109,8 @@ fn is_created_once(rt: &impl Abort, platform: &mut Platform) {
     let created = platform.create(id, service(), plan(), true);
     assert!(rt; created == Ok(request(Kind::Provision)));
     assert!(rt; platform.row(id) == recorded(State::Wanted, Some(Kind::Provision)));
+    let word = platform.row(id).map_or("no record", |row| row.state.word());
+    assert_eq!(rt; word, "wanted");
     let again = platform.create(id, service(), plan(), true);
     assert!(rt; again == Err(CreateFault::IdUsed));
     assert!(rt; platform.send(id) == Err(SendFault::Busy));

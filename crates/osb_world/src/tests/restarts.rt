@@ -5,59 +5,71 @@ use osb_message::{Answer, Body, ErrorCode, InstanceId};
 use osb_platform::State;
 use std::test::Fail;
 
+// A story's name and its words; how many of its events apply and how many are skipped; and what both
+// sides have in the end.
+type Restarted = (
+    &'static str,
+    &'static str,
+    usize,
+    usize,
+    Option<State>,
+    Option<Phase>,
+);
+
+const STORIES: [Restarted; 6] = [
+    (
+        "before the Provision was delivered",
+        "create-sync restart send deliver answer",
+        5,
+        0,
+        Some(State::Gone),
+        None,
+    ),
+    (
+        "while the answer travels, which is dropped",
+        "create-sync deliver restart answer",
+        3,
+        1,
+        Some(State::Cleaning),
+        Some(Phase::Ready),
+    ),
+    (
+        "a gone id, which isn't created again",
+        "create-sync restart send deliver answer create-sync",
+        5,
+        1,
+        Some(State::Gone),
+        None,
+    ),
+    (
+        "with nothing recorded",
+        "send lose finish-ok restart",
+        1,
+        3,
+        None,
+        None,
+    ),
+    (
+        "of what is ready, which stays so",
+        "create-sync deliver answer restart",
+        4,
+        0,
+        Some(State::Ready),
+        Some(Phase::Ready),
+    ),
+    (
+        "while a Poll is out, which is sent again",
+        "create-async deliver answer send restart send finish-ok deliver answer",
+        9,
+        0,
+        Some(State::Ready),
+        Some(Phase::Ready),
+    ),
+];
+
 #[test]
 fn stories_with_a_restart(rt: HostRuntime) -> Result<(), Fail> {
-    let gone = Some(State::Gone);
-    for (name, story, applied, skipped, recorded, held) in [
-        (
-            "before the Provision was delivered",
-            "create-sync restart send deliver answer",
-            5,
-            0,
-            gone,
-            None,
-        ),
-        (
-            "while the answer travels, which is dropped",
-            "create-sync deliver restart answer",
-            3,
-            1,
-            Some(State::Cleaning),
-            Some(Phase::Ready),
-        ),
-        (
-            "a gone id, which isn't created again",
-            "create-sync restart send deliver answer create-sync",
-            5,
-            1,
-            gone,
-            None,
-        ),
-        (
-            "with nothing recorded",
-            "send lose finish-ok restart",
-            1,
-            3,
-            None,
-            None,
-        ),
-        (
-            "of what is ready, which stays so",
-            "create-sync deliver answer restart",
-            4,
-            0,
-            Some(State::Ready),
-            Some(Phase::Ready),
-        ),
-        (
-            "while a Poll is out, which is sent again",
-            "create-async deliver answer send restart send finish-ok deliver answer",
-            9,
-            0,
-            Some(State::Ready),
-            Some(Phase::Ready),
-        ),
-    ] {
+    for (name, story, applied, skipped, recorded, held) in STORIES {
         let events = events_of(&rt, rt.alloc(), story)?;
         let end = told_through(rt.alloc(), &events)?;
         assert_eq!(rt; (end.applied, end.skipped), (applied, skipped), "{name}");

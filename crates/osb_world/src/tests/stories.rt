@@ -4,7 +4,7 @@ use super::{
 use crate::{Event, Step, World, run};
 use osb_broker::{BrokerRow, Phase};
 use osb_message::Body::{Empty, Malformed};
-use osb_message::{Answer, Body, ErrorCode, InstanceId, LastState, PlanId};
+use osb_message::{Answer, Body, Catalogue, ErrorCode, InstanceId, LastState, PlanId};
 use osb_platform::PlatformRow;
 use osb_platform::State::{
     self, Cleaning, CleaningPolling, Gone, Polling, Ready, Unsettled, Wanted,
@@ -146,7 +146,9 @@ fn an_asynchronous_plan(rt: HostRuntime) -> Result<(), Fail> {
 
 #[test]
 fn nothing_happens(rt: HostRuntime) -> Result<(), Fail> {
-    let world = run(rt.alloc(), new_catalogue(rt.alloc())?, &[])?;
+    let end = told_through(rt.alloc(), &[])?;
+    assert_eq!(rt; (end.applied, end.skipped), (0, 0));
+    let world = run(rt.alloc(), Catalogue::new(rt.alloc()), &[])?;
     world.agreement();
     assert!(rt; world.ids(rt.alloc())?.is_empty());
     Ok(())
