@@ -195,7 +195,6 @@ impl<K> Id<K> {
         ensures ordered { (below : ℕ) → below < self.now
             → slice_cmp nat_cmp (id_text below) result ≡ Less }
     {
-        let _number = self.number;
         let mut buffer = [0u8; 36];
         let mut text = [0u8; 36];
         text.copy_from_slice(self.text_in(&mut buffer).as_bytes());

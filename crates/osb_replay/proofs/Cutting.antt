@@ -1,5 +1,5 @@
 -- Where lines begin and end.
-use Rattle.std.proofs.Common.{◌≡◌, ℕ, ◌<◌, ◌≤◌, true, false, cond, eqb, List, [], ◌∷◌, ◌++◌, length, refl, arith}
+use Rattle.std.proofs.Common.{◌≡◌, ℕ, ◌<◌, ◌≤◌, false, eqb, List, [], ◌∷◌, ◌++◌, length, refl, arith}
 use Rattle.std.proofs.lemmas.Grind.{common_steps}
 use Rattle.std.specs.List.{onto_first}
 use Rattle.osb_replay.specs.Lines.{lines, ended_lines}
@@ -34,14 +34,6 @@ lines_unended byte [] h = let (here, after) = head_unended byte [] h in rw here 
 lines_unended byte (next ∷ rest) h =
     let (here, after) = head_unended byte (next ∷ rest) h in
     rw (here, lines_unended next rest after) refl
-
--- where any byte follows, there is a line
-pub lines_any : (byte : ℕ) (more : List ℕ) → 0 < length (lines (byte ∷ more))
-lines_any byte more =
-    elim (eqb byte 10) as (λ here. 0 < length (cond here ([] ∷ lines more) (onto_first byte (lines more)))) [
-      | true ↦ omega arith
-      | false ↦ let (first, after, split, long) = onto_first_front byte (lines more) in rw split (omega arith)
-    ]
 
 -- a held part and one more byte are the front of a line
 pub longer_line : (rest : List ℕ) (byte : ℕ) (more : List ℕ) → ended_lines rest ≡ 0 → eqb byte 10 ≡ false

@@ -5,7 +5,7 @@ use Rattle.std.proofs.lemmas.List.{take_at, get_or_at, take-append-le, get_or_ap
 use Rattle.std.proofs.lemmas.Bool.Decides.{nat_tests}
 use Rattle.std.proofs.lemmas.Bool.{cases_lt, false≢true}
 use Rattle.osb_replay.specs.declared.faults.LineFault.{LineFault}
-use Rattle.osb_replay.specs.declared.faults.LineFault.TheVariants.{TooManyLines, LineTooLong}
+use Rattle.osb_replay.specs.declared.faults.LineFault.TheVariants.{LineTooLong}
 use Rattle.std.specs.Prelude.{Result, Ok, Err, OnOk}
 use Rattle.osb_replay.specs.Lines.{lines, ended_lines, line_at}
 use Rattle.osb_replay.specs.Faults.{fault_of, IsJudged, HasNoFault, IsFirstFault}
@@ -29,9 +29,6 @@ fault_said ended line few short = grind (arith, nat_tests)
 pub fault_long : (ended : List (List ℕ)) (line : List ℕ) → length ended < 100000 → 512 < length line → fault_of ended line ≡ Some LineTooLong
 fault_long ended line few long = grind (arith, nat_tests)
 
-pub fault_many : (ended : List (List ℕ)) (line : List ℕ) → length ended ≡ 100000 → fault_of ended line ≡ Some TooManyLines
-fault_many ended line many = grind (arith, nat_tests)
-
 -- the line after the ended ones has this fault and is judged, so it is the first
 pub first_fault : (bytes more : List ℕ) (ended : List (List ℕ)) (rest line : List ℕ) (after : List (List ℕ)) (fault : LineFault) (stop : Bool)
     → EndedAs bytes ended rest → lines (rest ++ more) ≡ line ∷ after → fault_of ended line ≡ Some fault
@@ -45,15 +42,6 @@ first_fault bytes more ended rest line after fault stop so_far next here judged 
       at_line = rw (all, take_at ended (line ∷ after) (length ended) refl, get_or_at ended line after [] (length ended) refl) here;
       none_before = λ k below. let within : k ≤ length ended = omega arith in rw (all, take-append-le k ended (line ∷ after) within, get_or_append_left ended (line ∷ after) [] k below) (so_far.faultless k below);
     }
-
-pub ended_byte : (bytes : List ℕ) (ended : List (List ℕ)) (rest : List ℕ) (byte : ℕ) → EndedAs bytes ended rest → eqb byte 10 ≡ false
-    → EndedAs (bytes ++ byte ∷ []) ended (rest ++ byte ∷ [])
-ended_byte bytes ended rest byte so_far other = record {
-  cut = λ more. rw (append_assoc bytes (byte ∷ []) more, append_assoc rest (byte ∷ []) more) (so_far.cut (byte ∷ more));
-  count = let after = so_far.count in grind (arith, common_steps);
-  unended = let after = so_far.unended in grind (arith, common_steps);
-  faultless = so_far.faultless;
-}
 
 faultless_more : (ended : List (List ℕ)) (line : List ℕ) → ((n : ℕ) → n < length ended → fault_of (take n ended) (line_at ended n) ≡ None) → fault_of ended line ≡ None
     → (n : ℕ) → n < length ended + 1 → fault_of (take n (ended ++ line ∷ [])) (line_at (ended ++ line ∷ []) n) ≡ None

@@ -19,6 +19,7 @@ use devices::{Input, Output};
 use faults::{ReplayFault, status_of};
 use replaying::replay;
 use std::env;
+use std::io::ErrorKind;
 use std::process::ExitCode;
 
 /// The status of a command line that isn't understood (this project's choice).
@@ -46,8 +47,13 @@ fn failed(rt: &HostRuntime, fault: ReplayFault) -> ExitCode {
 }
 
 fn main(rt: HostRuntime) -> ExitCode {
-    let Ok(words) = env::args(&rt) else {
-        return failed(&rt, ReplayFault::Memory);
+    let words = match env::args(&rt) {
+        Ok(words) => words,
+        // Words that are no UTF-8 are other words.
+        Err(error) if error.kind() == ErrorKind::InvalidData => {
+            return ExitCode::from(NOT_UNDERSTOOD);
+        }
+        Err(_) => return failed(&rt, ReplayFault::Memory),
     };
     if !asks_replay(words) {
         return ExitCode::from(NOT_UNDERSTOOD);

@@ -242,6 +242,69 @@ fn a_writer_that_refuses(rt: HostRuntime) {
     assert!(rt; writer.flush() == Err(DeviceFault));
 }
 
+/// A writer that takes every byte and refuses to pass them on. It claims nothing of its bytes.
+#[derive(Drop)]
+struct Keeping;
+
+impl Write for Keeping {
+    fn write(&mut self, bytes: &[u8]) -> io::Result<usize> {
+        Ok(bytes.len())
+    }
+
+    fn flush(&mut self) -> io::Result<()> {
+        Err(io::Error::from(io::ErrorKind::Other))
+    }
+}
+
+#[test]
+fn a_writer_that_refuses_to_flush(rt: HostRuntime) {
+    let mut reader = Input::new(b"".as_slice());
+    let mut writer = Output::new(Keeping);
+    assert!(rt; replay(rt.alloc(), &mut reader, &mut writer) == Err(ReplayFault::Write));
+    assert!(rt; writer.refused());
+}
+
+/// A reader or writer that is interrupted at its first call and never again. It claims nothing of its
+/// bytes.
+#[derive(Drop)]
+struct Interrupted {
+    before: bool,
+}
+
+impl Read for Interrupted {
+    fn read(&mut self, _buffer: &mut [u8]) -> io::Result<usize> {
+        if self.before {
+            return Ok(0);
+        }
+        self.before = true;
+        Err(io::Error::from(io::ErrorKind::Interrupted))
+    }
+}
+
+impl Write for Interrupted {
+    fn write(&mut self, bytes: &[u8]) -> io::Result<usize> {
+        if self.before {
+            return Ok(bytes.len());
+        }
+        self.before = true;
+        Err(io::Error::from(io::ErrorKind::Interrupted))
+    }
+
+    fn flush(&mut self) -> io::Result<()> {
+        Ok(())
+    }
+}
+
+#[test]
+fn a_device_is_asked_once(rt: HostRuntime) {
+    let mut reader = Input::new(Interrupted { before: false });
+    let mut writer = Output::new(Vec::new(rt.alloc()));
+    assert!(rt; replay(rt.alloc(), &mut reader, &mut writer) == Err(ReplayFault::Read));
+    let mut reader = Input::new(b"".as_slice());
+    let mut writer = Output::new(Interrupted { before: false });
+    assert!(rt; replay(rt.alloc(), &mut reader, &mut writer) == Err(ReplayFault::Write));
+}
+
 #[test]
 fn texts_and_statuses_of_faults(rt: HostRuntime) -> Result<(), Fail> {
     let fault = LineFault::LineTooLong;
@@ -260,5 +323,24 @@ fn texts_and_statuses_of_faults(rt: HostRuntime) -> Result<(), Fail> {
         assert!(rt; status_of(&fault) == status, "{text}");
     }
     assert!(rt; DeviceFault.to_string(rt.alloc())?.as_str() == "DeviceFault");
+    Ok(())
+}
+
+#[test]
+fn faults_of_lines_have_their_names(rt: HostRuntime) -> Result<(), Fail> {
+    let names = [
+        (LineFault::NotAscii, "NotAscii"),
+        (LineFault::LineTooLong, "LineTooLong"),
+        (LineFault::UnknownWord, "UnknownWord"),
+        (LineFault::WordCount, "WordCount"),
+        (LineFault::BadId, "BadId"),
+        (LineFault::BadChoice, "BadChoice"),
+        (LineFault::LatePlan, "LatePlan"),
+        (LineFault::DuplicatePlan, "DuplicatePlan"),
+        (LineFault::TooManyLines, "TooManyLines"),
+    ];
+    for (fault, name) in names {
+        assert!(rt; fault.to_string(rt.alloc())?.as_str() == name, "{name}");
+    }
     Ok(())
 }

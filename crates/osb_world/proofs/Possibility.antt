@@ -32,10 +32,6 @@ pub and_first : (x y : Bool) → (x && y) ≡ true → x ≡ true
 and_first true y e = refl
 and_first false y e = e
 
-pub and_second : (x y : Bool) → (x && y) ≡ true → y ≡ true
-and_second true y e = e
-and_second false y e = cc
-
 -- with nothing out
 pub idle : (cat : Catalogue) (id service plan : ℕ) (s : State) (b : Option BrokerRow) → OutByState s None
     → IfSome b (IsRowOf cat service plan) → HeldByState (mode_at cat service plan) s b None

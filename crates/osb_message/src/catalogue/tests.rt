@@ -1,5 +1,6 @@
 use super::{AddFault, Catalogue, Mode};
-use crate::{PlanId, ServiceId};
+use crate::{Memory, PlanId, ServiceId};
+use std::test::Fail;
 
 #[test]
 fn a_pair_is_added_once(rt: HostRuntime) {
@@ -12,4 +13,12 @@ fn a_pair_is_added_once(rt: HostRuntime) {
     assert!(rt; catalogue.add(service, plan, Mode::Async) == Err(AddFault::AlreadyThere));
     assert!(rt; catalogue.mode(service, plan) == Some(Mode::Sync));
     assert!(rt; catalogue.mode(service, other) == Some(Mode::Async));
+}
+
+#[test]
+fn faults_have_their_names(rt: HostRuntime) -> Result<(), Fail> {
+    assert!(rt; AddFault::AlreadyThere.to_string(rt.alloc())?.as_str() == "AlreadyThere");
+    assert!(rt; AddFault::Memory.to_string(rt.alloc())?.as_str() == "Memory");
+    assert!(rt; Memory.to_string(rt.alloc())?.as_str() == "Memory");
+    Ok(())
 }
