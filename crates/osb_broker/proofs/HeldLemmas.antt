@@ -53,15 +53,12 @@ provision_held cat (Some Mode.Async) b r o e h =
     by_test cat r.accepts_incomplete _ _ (λ _. accepted_held cat Mode.Async b r o e h) h
 
 -- a row's mode is that of a request for the same service and plan
-same_service : (b : BrokerRow) (r : Request) → same_plan b r ≡ true → b.service ≡ r.service
-same_service b r same = grind (arith, nat_tests)
-
-same_own_plan : (b : BrokerRow) (r : Request) → same_plan b r ≡ true → b.plan ≡ r.plan
-same_own_plan b r same = grind (arith, nat_tests)
+same_pair : (b : BrokerRow) (r : Request) → same_plan b r ≡ true → (b.service ≡ r.service) × (b.plan ≡ r.plan)
+same_pair b r same = (grind (arith, nat_tests), grind (arith, nat_tests))
 
 mode_of_row : (cat : Catalogue) (b : BrokerRow) (r : Request)
     → same_plan b r ≡ true → map.get cat (b.service, b.plan) ≡ mode_of cat r
-mode_of_row cat b r same = ap (map.get cat) (λ i. (same_service b r same i, same_own_plan b r same i))
+mode_of_row cat b r same = let e = same_pair b r same in ap (map.get cat) (λ i. (e.0 i, e.1 i))
 
 deletion_held : (cat : Catalogue) (m : Mode) (b : BrokerRow)
     → map.get cat (b.service, b.plan) ≡ Some m → IsHeld cat b → IfSome (row_after_deletion m b) (IsHeld cat)

@@ -11,11 +11,10 @@ use Rattle.osb_broker.specs.Handled.{handled_as, makes_row}
 
 makes_no_row : (cat : Catalogue) (k : Kind) (b : Option BrokerRow) (r : Request) (o : Outcome)
     → k ≢ Provision → (is_none b && is_some (handled_as k cat b r o).row) ≡ false
-makes_no_row cat Provision b r o other = absurd (other refl)
+makes_no_row cat k (Some b) r o other = refl
+makes_no_row cat Provision None r o other = absurd (other refl)
 makes_no_row cat Poll None r o other = refl
-makes_no_row cat Poll (Some b) r o other = refl
 makes_no_row cat Deprovision None r o other = refl
-makes_no_row cat Deprovision (Some b) r o other = refl
 
 pub makes_row_other : (cat : Catalogue) (b : Option BrokerRow) (r : Request) (o : Outcome)
     → r.kind ≢ Provision → makes_row cat b r o ≡ false

@@ -21,13 +21,9 @@ pub record Handled : Type 0 where
   pub row : Option BrokerRow
   pub answer : Answer
 
--- the row is as before, or there is none as before
-abbrev pub unchanged : Option BrokerRow → Answer → Handled
-unchanged row answer = record { row = row; answer = answer }
-
--- the row is this one from now on, or there is none from now on
-abbrev pub changed : Option BrokerRow → Answer → Handled
-changed row answer = record { row = row; answer = answer }
+-- this row from then on, or none, and this answer
+abbrev pub row_and_answer : Option BrokerRow → Answer → Handled
+row_and_answer row answer = record { row = row; answer = answer }
 
 -- a status with a body in which nothing is read
 abbrev pub empty : ℕ → Answer

@@ -1,11 +1,13 @@
 -- What a broker does with a request of any kind.
 use Rattle.std.specs.Prelude.{Bool, ◌&&◌, is_none, is_some, Option}
+use Rattle.std.specs.FinMap as map
 use Rattle.osb_message.specs.declared.messages.Kind.{Kind}
 use Rattle.osb_message.specs.declared.messages.Kind.TheVariants.{Provision, Poll, Deprovision}
 use Rattle.osb_message.specs.declared.messages.Request.{Request}
 use Rattle.osb_broker.specs.declared.outcome.Outcome.{Outcome}
 use Rattle.osb_broker.specs.declared.row.BrokerRow.{BrokerRow}
 use Rattle.osb_broker.specs.Answers.{Catalogue, Handled}
+use Rattle.osb_broker.specs.Holding.{Holding}
 use Rattle.osb_broker.specs.Provision.{provision_answer}
 use Rattle.osb_broker.specs.Deprovision.{deprovision_answer}
 use Rattle.osb_broker.specs.Poll.{poll_answer}
@@ -18,6 +20,10 @@ handled_as Deprovision catalogue row request outcome = deprovision_answer catalo
 -- the table of the request's kind
 abbrev pub handled : Catalogue → Option BrokerRow → Request → Outcome → Handled
 handled catalogue row request outcome = handled_as request.kind catalogue row request outcome
+
+-- the table at the row of the instance that the request names
+abbrev pub handled_by : Holding → Request → Outcome → Handled
+handled_by broker request outcome = handled broker.catalogue (map.get broker.rows request.id) request outcome
 
 -- whether the request makes a row where there was none
 abbrev pub makes_row : Catalogue → Option BrokerRow → Request → Outcome → Bool

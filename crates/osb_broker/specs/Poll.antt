@@ -11,7 +11,7 @@ use Rattle.osb_broker.specs.declared.outcome.Outcome.{Outcome}
 use Rattle.osb_broker.specs.declared.outcome.Outcome.TheVariants.{Done, Before, After}
 use Rattle.osb_broker.specs.declared.row.BrokerRow.{BrokerRow}
 use Rattle.osb_broker.specs.declared.row.Phase.{Phase}
-use Rattle.osb_broker.specs.Answers.{Catalogue, Handled, unchanged, error, last_operation, same_plan}
+use Rattle.osb_broker.specs.Answers.{Catalogue, Handled, row_and_answer, error, last_operation, same_plan}
 
 -- how the last operation goes, by the phase of the row
 abbrev pub last_state : Phase → LastState
@@ -34,4 +34,4 @@ polled (Some row) request outcome = if same_plan row request then own_poll row.p
 
 -- what a broker does with a Poll
 abbrev pub poll_answer : Catalogue → Option BrokerRow → Request → Outcome → Handled
-poll_answer catalogue row request outcome = unchanged row (polled row request outcome)
+poll_answer catalogue row request outcome = row_and_answer row (polled row request outcome)

@@ -11,7 +11,7 @@ use Rattle.osb_broker.specs.declared.outcome.Outcome.{Outcome}
 use Rattle.osb_broker.specs.declared.outcome.Outcome.TheVariants.{Done, Before, After}
 use Rattle.osb_broker.specs.declared.row.BrokerRow.{BrokerRow}
 use Rattle.osb_broker.specs.declared.row.Phase.{Phase}
-use Rattle.osb_broker.specs.Answers.{Catalogue, Handled, unchanged, changed, empty, error, mode_of, same_plan}
+use Rattle.osb_broker.specs.Answers.{Catalogue, Handled, row_and_answer, empty, error, mode_of, same_plan}
 
 -- the row of a new instance: a synchronous plan's is ready, an asynchronous plan's is making
 abbrev pub new_row : Mode → Request → BrokerRow
@@ -20,10 +20,10 @@ new_row Mode.Async request = record { service = request.service; plan = request.
 
 -- rules 8 to 11, where the instance isn't there: the outcome counts
 abbrev pub first_provision : Mode → Request → Outcome → Handled
-first_provision mode request Before = unchanged None (error 500 Other)
-first_provision mode request After = changed (Some (new_row mode request)) (error 500 Other)
-first_provision Mode.Sync request Done = changed (Some (new_row Mode.Sync request)) (empty 201)
-first_provision Mode.Async request Done = changed (Some (new_row Mode.Async request)) (empty 202)
+first_provision mode request Before = row_and_answer None (error 500 Other)
+first_provision mode request After = row_and_answer (Some (new_row mode request)) (error 500 Other)
+first_provision Mode.Sync request Done = row_and_answer (Some (new_row Mode.Sync request)) (empty 201)
+first_provision Mode.Async request Done = row_and_answer (Some (new_row Mode.Async request)) (empty 202)
 
 -- rules 4 to 7, where the instance is there with the same service and plan
 abbrev pub repeated_provision : Phase → Answer
@@ -38,18 +38,18 @@ abbrev pub accepted_provision : Mode → Option BrokerRow → Request → Outcom
 accepted_provision mode None request outcome = first_provision mode request outcome
 accepted_provision mode (Some row) request outcome =
     if same_plan row request
-    then unchanged (Some row) (repeated_provision row.phase)
-    else unchanged (Some row) (error 409 Other)
+    then row_and_answer (Some row) (repeated_provision row.phase)
+    else row_and_answer (Some row) (error 409 Other)
 
 -- rule 1, the pair isn't on sale; rule 2, its plan is asynchronous and the request doesn't accept
 -- that
 abbrev pub provision_at : Option Mode → Option BrokerRow → Request → Outcome → Handled
-provision_at None row request outcome = unchanged row (error 400 Other)
+provision_at None row request outcome = row_and_answer row (error 400 Other)
 provision_at (Some Mode.Sync) row request outcome = accepted_provision Mode.Sync row request outcome
 provision_at (Some Mode.Async) row request outcome =
     if request.accepts_incomplete
     then accepted_provision Mode.Async row request outcome
-    else unchanged row (error 422 AsyncRequired)
+    else row_and_answer row (error 422 AsyncRequired)
 
 -- what a broker does with a Provision
 abbrev pub provision_answer : Catalogue → Option BrokerRow → Request → Outcome → Handled

@@ -1,4 +1,4 @@
-//! The answers that the tables give.
+//! The answers of the tables.
 ghost use Rattle.std.specs.Prelude.{◌≡◌};
 ghost use Rattle.osb_broker.specs.Answers as spec;
 
@@ -6,7 +6,7 @@ use osb_message::{Answer, Body, ErrorCode, LastState};
 
 // An answer with nothing to read in it.
 pub(crate) fn empty(status: u16) -> Answer
-    ensures { result ≡ spec.empty status }
+    ensures answer { result ≡ spec.empty status }
 {
     Answer {
         status,
@@ -16,7 +16,7 @@ pub(crate) fn empty(status: u16) -> Answer
 
 // A service broker error with a code.
 pub(crate) fn error(status: u16, code: ErrorCode) -> Answer
-    ensures { result ≡ spec.error status code }
+    ensures answer { result ≡ spec.error status code }
 {
     Answer {
         status,
@@ -26,7 +26,7 @@ pub(crate) fn error(status: u16, code: ErrorCode) -> Answer
 
 // How the last operation goes.
 pub(crate) fn last_operation(state: LastState) -> Answer
-    ensures { result ≡ spec.last_operation state }
+    ensures answer { result ≡ spec.last_operation state }
 {
     Answer {
         status: 200,

@@ -5,7 +5,7 @@ ghost use Rattle.std.specs.FinMap as map;
 ghost use Rattle.osb_message.specs.declared.messages.Kind.TheVariants.{Provision};
 ghost use Rattle.osb_broker.specs.Change.{row_after};
 ghost use Rattle.osb_broker.specs.Finished.{finished, is_running};
-ghost use Rattle.osb_broker.specs.Handled.{handled, makes_row};
+ghost use Rattle.osb_broker.specs.Handled.{handled_by, makes_row};
 ghost use Rattle.osb_broker.specs.Held.{IsHeld, IsHeldAt};
 
 use crate::decision::{Change, decide};
@@ -52,7 +52,7 @@ fn apply(rows: &mut Rows<BrokerRow>, id: InstanceId, change: Change) -> Result<(
 {
     match change {
         Change::Nothing => Ok(()),
-        Change::Put(row) => rows.set(id, Some(row)),
+        Change::Put(row) => rows.insert(id, row),
         Change::Remove => {
             rows.remove(id);
             Ok(())
@@ -75,7 +75,7 @@ impl Broker {
         }
     }
 
-    /// Handles a request, with the outcome of the work behind it, and gives the answer to send. Of
+    /// Handles a request, with the outcome of the work behind it, and returns the answer to send. Of
     /// the rules for its kind the first that fits counts; the order of the rules is this project's
     /// choice. A status of 200, 201 or 202 comes with an empty body where no state is named, 422
     /// with the error code named, and every other error with the code [`ErrorCode::Other`], which
@@ -127,16 +127,17 @@ impl Broker {
     ///
     /// # Errors
     ///
-    /// [`Memory`] where a growth was refused, which only a new row asks for: every other request
-    /// takes no memory. The broker is then as before.
+    /// [`Memory`] where an allocation failed, which only a new row asks for: every other request
+    /// takes no memory. The broker is then as before. That no Poll and no Deprovision asks for any is a
+    /// clause of its own, for callers that know the kind of a request and nothing of the row.
     ///
     /// [`ErrorCode::Other`]: osb_message::ErrorCode::Other
     #[tactic(auto, using(osb_message::proofs::Maps::row_steps, crate::proofs::MemoryLemmas::makes_row_other))]
     pub fn handle(&mut self, request: &Request, outcome: Outcome) -> Result<Answer, Memory>
-        ensures answer { IfOk result (λ answer. answer ≡ (handled self.old.catalogue
-            (map.get self.old.rows request.now.id) request.now outcome).answer) }
-        ensures row { OnOk result (map.get self.new.rows request.now.id ≡ (handled self.old.catalogue
-            (map.get self.old.rows request.now.id) request.now outcome).row) }
+        ensures answer { let after = handled_by self.old request.now outcome in
+            IfOk result (λ answer. answer ≡ after.answer) }
+        ensures row { let after = handled_by self.old request.now outcome in
+            OnOk result (map.get self.new.rows request.now.id ≡ after.row) }
         ensures others { (id : ℕ) → id ≢ request.now.id
             → map.get self.new.rows id ≡ map.get self.old.rows id }
         ensures catalogue { self.new.catalogue ≡ self.old.catalogue }

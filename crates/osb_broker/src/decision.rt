@@ -51,10 +51,7 @@ pub(crate) fn decide(
             let mode = catalogue.mode(request.service, request.plan);
             provision(mode, row, request, outcome)
         }
-        Kind::Deprovision => {
-            let mode = catalogue.mode(request.service, request.plan);
-            deprovision(mode, row, request, outcome)
-        }
+        Kind::Deprovision => deprovision(catalogue, row, request, outcome),
         Kind::Poll => unchanged(poll(row, request, outcome)),
     }
 }

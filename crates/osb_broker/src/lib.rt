@@ -2,7 +2,7 @@
 //! holds, without the HTTP around it.
 //!
 //! A [`Broker`] is made over a catalogue. [`Broker::handle`] takes each request with the
-//! [`Outcome`] of the work behind it and gives the answer to send; [`Broker::finish`] says how an
+//! [`Outcome`] of the work behind it and returns the answer to send; [`Broker::finish`] says how an
 //! asynchronous operation ended. Sections are those of the Open Service Broker API Specification
 //! 2.17.
 //!

@@ -8,7 +8,7 @@ use osb_message::{Answer, ErrorCode, LastState, Request};
 
 // What is answered to a Poll, which changes no row: the first rule that fits.
 pub(crate) fn poll(row: Option<BrokerRow>, request: &Request, outcome: Outcome) -> Answer
-    ensures { result ≡ polled row request.now outcome }
+    ensures answer { result ≡ polled row request.now outcome }
 {
     match row {
         None => error(410, ErrorCode::Other),

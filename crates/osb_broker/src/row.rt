@@ -1,11 +1,13 @@
 //! What a broker holds of one instance.
-ghost use Rattle.std.specs.Prelude.{◌≡◌};
+ghost use Rattle.std.specs.Prelude.{◌≡◌, Some};
+ghost use Rattle.std.specs.Fmt.{styled_text};
 ghost use Rattle.osb_broker.specs.Answers.{same_plan};
 ghost use Rattle.osb_broker.specs.Words.{phase_word};
 
 use osb_message::{PlanId, Request, ServiceId};
+use std::fmt;
 
-/// How far an instance is in its life.
+/// How far an instance is in its life. It is printed as [`Phase::word`] says.
 ///
 /// A Poll is told of it as the state of the last operation (section Polling Last Operation for
 /// Service Instances). That a broker goes on holding an instance that failed, is being deleted or
@@ -29,7 +31,7 @@ impl Phase {
     /// The word of the phase: `making`, `ready`, `failed`, `deleting` or `delete-failed` (this
     /// project's choice). It takes no memory.
     pub fn word(self) -> &'static str
-        ensures { result.now ≡ phase_word self }
+        ensures word { result.now ≡ phase_word self }
     {
         match self {
             Phase::Making => "making",
@@ -38,6 +40,16 @@ impl Phase {
             Phase::Deleting => "deleting",
             Phase::DeleteFailed => "delete-failed",
         }
+    }
+}
+
+impl fmt::Display for Phase {
+    ghost output = { λ phase. Some (phase_word phase) };
+
+    ghost styled_output = { λ phase style. Some (styled_text style (phase_word phase)) };
+
+    fn fmt<W: fmt::Write>(&self, f: &mut fmt::Formatter<W>) -> fmt::Result {
+        f.pad(self.word())
     }
 }
 
@@ -56,7 +68,7 @@ pub struct BrokerRow {
 impl BrokerRow {
     // Whether the request names the service and plan that the instance was made with.
     pub(crate) fn is_of_plan(&self, request: &Request) -> bool
-        ensures { result ≡ same_plan self.now request.now }
+        ensures same { result ≡ same_plan self.now request.now }
     {
         self.service == request.service && self.plan == request.plan
     }

@@ -1,4 +1,5 @@
-//! Worked examples of a broker's calls, and one case for each rule of its tables.
+//! Worked examples of a broker's calls, one case for each rule of its tables, and brokers of many rows.
+mod many;
 mod tables;
 mod worked;
 

@@ -47,15 +47,14 @@ module _ {K X : Type 0} {R : K → K → Ordering} (o : IsTotalOrder R) where
   pub get-tree : (m : BTreeMap K X) (q : K) → get (from_entries {R = R} m.entries) q ≡ tree.get R m q
   get-tree m q = get-from_entries o m.entries q ∙ found m.entries q
 
-  pub insert-tree : CmpEqualImpliesEq R → (m n : BTreeMap K X) (k : K) (v : X) → Updates R m n k (Some v) → from_entries {R = R} n.entries ≡ insert (from_entries m.entries) k v
-  insert-tree exact m n k v u = same_map o exact _ _ (λ q.
-      get-tree n q ∙ u.0 q ∙ ap (λ b. cond b (Some v) (tree.get R m q)) ((eq_by_cmp_equiv o).symm k q)
-      ∙ sym (get-insert o (from_entries m.entries) k v q ∙ ap (cond (eq_by_cmp R q k) (Some v)) (get-tree m q)))
+  pub get-set_at : (m : FinMap R X) (k : K) (w : Option X) (q : K) → get (set_at m k w) q ≡ cond (eq_by_cmp R q k) w (get m q)
+  get-set_at m k None q = get-remove o m k q
+  get-set_at m k (Some v) q = get-insert o m k v q
 
-  pub remove-tree : CmpEqualImpliesEq R → (m n : BTreeMap K X) (k : K) → Updates R m n k None → from_entries {R = R} n.entries ≡ remove (from_entries m.entries) k
-  remove-tree exact m n k u = same_map o exact _ _ (λ q.
-      get-tree n q ∙ u.0 q ∙ ap (λ b. cond b None (tree.get R m q)) ((eq_by_cmp_equiv o).symm k q)
-      ∙ sym (get-remove o (from_entries m.entries) k q ∙ ap (cond (eq_by_cmp R q k) None) (get-tree m q)))
+  pub updates-tree : CmpEqualImpliesEq R → (m n : BTreeMap K X) (k : K) (w : Option X) → Updates R m n k w → from_entries {R = R} n.entries ≡ set_at (from_entries m.entries) k w
+  updates-tree exact m n k w u = same_map o exact _ _ (λ q.
+      get-tree n q ∙ u.0 q ∙ ap (λ b. cond b w (tree.get R m q)) ((eq_by_cmp_equiv o).symm k q)
+      ∙ sym (get-set_at (from_entries m.entries) k w q ∙ ap (cond (eq_by_cmp R q k) w) (get-tree m q)))
 
 -- at keys that are numbers
 pub get-insert_same : {X : Type 0} (m : FinMap nat_cmp X) (k : ℕ) (v : X) → get (insert m k v) k ≡ Some v
@@ -115,3 +114,11 @@ each-set_at P m k o all one q =
     (λ e. subst (λ r. IfSome r P) (sym (ap (get (set_at m k o)) e ∙ get-set_at_same m k o)) one)
     (λ apart. subst (λ r. IfSome r P) (sym (get-set_at_other m k o q apart)) (all q))
     (cases_eq q k)
+
+-- what is written over a value in the tree is written over it in the finite map
+pub written-tree : {X : Type 0} (o : Option X) (Post : X → X → Type 0) (m n : BTreeMap ℕ X) (before : FinMap nat_cmp X) (k : ℕ) → from_entries m.entries ≡ before
+    → IfSome o (λ old. (new : X) × Post old new × Updates nat_cmp m n k (Some new))
+    → IfSome o (λ old. (new : X) × Post old new × (from_entries {R = nat_cmp} n.entries ≡ insert before k new))
+written-tree None Post m n before k e h = h
+written-tree (Some old) Post m n before k e (new, post, u) =
+    (new, post, updates-tree nat_cmp_total exact_unsigned m n k (Some new) u ∙ ap (λ r. insert r k new) e)

@@ -1,4 +1,4 @@
-//! The catalogue: which plans a broker sells, and how each of them works.
+//! The catalogue: which plans a broker sells, and how each of them works (section Catalog Management).
 ghost use Rattle.std.specs.Prelude.{◌≡◌, ◌↔◌, OnOk, OnErr, IsSome};
 ghost use Rattle.osb_message.specs.Catalogue.{pair_cmp};
 ghost use Rattle.std.specs.FinMap as map;
@@ -19,18 +19,19 @@ pub enum Mode {
     Async,
 }
 
-/// Why a plan isn't added to a catalogue. The catalogue is then as before.
+/// Why a plan isn't added to a catalogue, which is then as before (this project's choice).
 #[derive(Clone, Copy, Debug, PartialEq, Eq, Error)]
 pub enum AddFault {
     /// The pair of service and plan is there, with either mode.
     #[error("AlreadyThere")]
     AlreadyThere = 1,
-    /// A growth was refused.
+    /// An allocation failed.
     #[error("Memory")]
     Memory = 2,
 }
 
-/// The plans that a broker sells, under pairs of service and plan.
+/// The plans that a broker sells, under pairs of service and plan (section Catalog Management; that
+/// a plan works in one way, whatever is asked of it, is this project's choice).
 ///
 /// Contracts see a finite map from pairs of ids to modes.
 #[derive(Drop)]
@@ -55,19 +56,19 @@ impl Model for Catalogue {
 impl Catalogue {
     /// A catalogue with no plans. It keeps the allocator for later additions, and takes no memory.
     pub fn new(alloc: Global) -> Self
-        ensures { result ≡ map.empty }
+        ensures empty { result ≡ map.empty }
     {
         Catalogue {
             modes: BTreeMap::new(alloc),
         }
     }
 
-    /// Adds a plan of a service, with its mode.
+    /// Adds a plan of a service, with its mode. Where that succeeds, it may have taken memory.
     ///
     /// # Errors
     ///
     /// [`AddFault::AlreadyThere`] exactly where the pair is there, with either mode: it takes no
-    /// memory to say so. [`AddFault::Memory`] where a growth was refused. The catalogue is then as
+    /// memory to say so. [`AddFault::Memory`] where an allocation failed. The catalogue is then as
     /// before.
     pub fn add(&mut self, service: ServiceId, plan: PlanId, mode: Mode) -> Result<(), AddFault>
         ensures ok { OnOk result (self.new ≡ map.insert self.old (service, plan) mode) }
@@ -87,7 +88,7 @@ impl Catalogue {
     /// The mode of a plan of a service, or none where the pair isn't in the catalogue. It takes no
     /// memory.
     pub fn mode(&self, service: ServiceId, plan: PlanId) -> Option<Mode>
-        ensures { result ≡ map.get self.now (service, plan) }
+        ensures found { result ≡ map.get self.now (service, plan) }
     {
         self.modes.get(&(service, plan)).copied()
     }

@@ -1,4 +1,4 @@
-//! Ids of instances, services and plans: GUIDs in the hyphenated text form.
+//! Ids of service instances, services and plans: GUIDs in the hyphenated text form.
 //!
 //! The standard recommends GUIDs and allows other strings; that other strings are refused is this
 //! project's choice.
@@ -7,38 +7,43 @@ ghost use Rattle.std.specs.Cmp.Lexicographic.{slice_cmp};
 ghost use Rattle.std.proofs.Common.{rules};
 ghost use Rattle.std.specs.Cmp.{partial_order_from_own_ties};
 ghost use Rattle.std.specs.Cmp.Rules.{comparing, hashing};
+ghost use Rattle.std.specs.Fmt.{styled_text};
 ghost use Rattle.std.specs.Hash as fed;
 ghost use Rattle.std.specs.Ordering.{as_partial_cmp, nat_cmp};
 ghost use Rattle.std.specs.declared.cmp.Ordering.TheVariants.{Less};
 ghost use Rattle.osb_message.specs.IdText.{id_of, id_of_lower, id_text};
 
 use std::cmp::Ordering;
+use std::fmt;
 use std::hash::{Hash, Hasher};
 use std::marker::{Model, PhantomData};
 use thiserror::Error;
 use uuid::Uuid;
 
-/// Why a text is no id.
+/// Why a text is no id: this project's choice, as the standard allows any text.
 #[derive(Clone, Copy, Debug, PartialEq, Eq, Error)]
 pub enum IdFault {
-    /// The text isn't 36 bytes of hexadecimal digits joined by hyphens as 8-4-4-4-12.
+    /// The text isn't 32 hexadecimal digits, joined by hyphens as 8-4-4-4-12.
     #[error("NotAnId")]
     NotAnId = 1,
 }
 
-/// Marks the ids of service instances. It has no values.
+/// Marks the ids of service instances (this project's choice). It has no values.
 pub enum Instance {}
 
-/// Marks the ids of services. It has no values.
+/// Marks the ids of services (this project's choice). It has no values.
 pub enum Service {}
 
-/// Marks the ids of plans. It has no values.
+/// Marks the ids of plans (this project's choice). It has no values.
 pub enum Plan {}
 
-/// An id of what `K` marks: a number of 128 bits, equal and ordered as that number.
+/// An id of what `K` marks, a GUID: a number of 128 bits, equal and ordered as that number, and
+/// printed in the text form of [`Id::to_text`], by `{}` as by `{:?}`.
 ///
+/// The standard recommends a GUID for `instance_id`, `service_id` and `plan_id` (sections
+/// Provisioning and Catalog Management); that one type serves for all three is this project's choice.
 /// Contracts see an id as its number. The order of the numbers is the byte order of the texts.
-#[derive_where(Clone, Copy, Debug)]
+#[derive_where(Clone, Copy)]
 pub struct Id<K> {
     number: u128,
     kind: PhantomData<K>,
@@ -100,6 +105,25 @@ impl<K> Hash for Id<K> {
     }
 }
 
+impl<K> fmt::Display for Id<K> {
+    ghost output = { λ id. Some (id_text id) };
+
+    ghost styled_output = { λ id style. Some (styled_text style (id_text id)) };
+
+    fn fmt<W: fmt::Write>(&self, f: &mut fmt::Formatter<W>) -> fmt::Result {
+        let mut buffer = [0u8; 36];
+        f.pad(self.text_in(&mut buffer))
+    }
+}
+
+impl<K> fmt::Debug for Id<K> {
+    ghost debug_output = { λ id. Some (id_text id) };
+
+    fn fmt<W: fmt::Write>(&self, f: &mut fmt::Formatter<W>) -> fmt::Result {
+        fmt::Display::fmt(self, f)
+    }
+}
+
 /// The id of a service instance (`instance_id`).
 pub type InstanceId = Id<Instance>;
 
@@ -110,9 +134,9 @@ pub type ServiceId = Id<Service>;
 pub type PlanId = Id<Plan>;
 
 impl<K> Id<K> {
-    /// The id with this number.
+    /// The id with this number. It takes no memory.
     pub fn from_value(number: u128) -> Self
-        ensures { result ≡ number }
+        ensures id { result ≡ number }
     {
         Id {
             number,
@@ -120,9 +144,9 @@ impl<K> Id<K> {
         }
     }
 
-    /// The number of the id. The first digit of the text is the most significant.
+    /// The number of the id. The first digit of the text is the most significant. It takes no memory.
     pub fn value(&self) -> u128
-        ensures { result ≡ self.now }
+        ensures number { result ≡ self.now }
     {
         self.number
     }
@@ -135,7 +159,7 @@ impl<K> Id<K> {
     /// [`IdFault::NotAnId`] for every other text, the braced, URN and unhyphenated forms of a GUID
     /// among them. It takes no memory.
     pub fn from_text(text: &str) -> Result<Self, IdFault>
-        ensures { MatchResult result (λ id. id_of text.now ≡ Some id) (λ _. id_of text.now ≡ None) }
+        ensures reads { MatchResult result (λ id. id_of text.now ≡ Some id) (λ _. id_of text.now ≡ None) }
     {
         Id::from_bytes(text.as_bytes())
     }
@@ -146,7 +170,7 @@ impl<K> Id<K> {
     ///
     /// [`IdFault::NotAnId`] for all bytes that aren't the text form of an id. It takes no memory.
     pub fn from_bytes(text: &[u8]) -> Result<Self, IdFault>
-        ensures { MatchResult result (λ id. id_of text.now ≡ Some id) (λ _. id_of text.now ≡ None) }
+        ensures reads { MatchResult result (λ id. id_of text.now ≡ Some id) (λ _. id_of text.now ≡ None) }
     {
         if text.len() != 36 {
             return Err(IdFault::NotAnId);
@@ -157,12 +181,12 @@ impl<K> Id<K> {
         }
     }
 
-    /// Reads the text form of an id in lower case alone: exactly the texts that [`Id::to_text`] gives.
+    /// Reads the text form of an id in lower case alone: exactly the texts that [`Id::to_text`] returns.
     ///
-    /// It gives none for every other text, one with a digit in upper case among them, and takes no
+    /// It returns none for every other text, one with a digit in upper case among them, and takes no
     /// memory.
     pub fn from_lower_text(text: &str) -> Option<Self>
-        ensures { result ≡ id_of_lower text.now }
+        ensures reads { result ≡ id_of_lower text.now }
     {
         let Ok(id) = Self::from_text(text) else {
             return None;
@@ -175,8 +199,7 @@ impl<K> Id<K> {
         }
     }
 
-    /// The text form of the id, in lower case, as a text in the given bytes, all of which it fills. It
-    /// takes no memory.
+    /// The text form of the id, in lower case, written into the given bytes. It takes no memory.
     pub fn text_in<'b>(&self, buffer: &'b mut [u8; 36]) -> &'b str
         ensures text { result.now ≡ id_text self.now }
         ensures reads { id_of_lower result.now ≡ Some self.now }

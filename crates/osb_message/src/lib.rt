@@ -1,5 +1,9 @@
-//! What a platform and a broker of the Open Service Broker API say to one another: ids, requests,
-//! answers, and the catalogue of what a broker sells.
+//! Messages between a platform and a broker, as in the Open Service Broker API Specification 2.17.
+//!
+//! An [`InstanceId`], a [`ServiceId`] and a [`PlanId`] are GUIDs, a [`Request`] is what a platform sends,
+//! an [`Answer`] is what comes back, and a [`Catalogue`] is what a broker sells. [`Rows`] keeps what
+//! either side knows of each instance. Everything here is plain values and maps: there is no HTTP and
+//! no JSON. Sections are those of the specification.
 //!
 //! Contracts see an id as its number, the catalogue as a finite map from pairs of service and plan
 //! to modes, and [`Rows`] as a finite map from instance ids.

@@ -2,7 +2,8 @@
 use std::alloc::{AllocError, AllocFailed};
 use thiserror::Error;
 
-/// A growth was refused during the call. The call has changed nothing that its caller can see.
+/// An allocation failed during the call, which has changed nothing that its caller can see (this
+/// project's choice).
 #[derive(Clone, Copy, Debug, PartialEq, Eq, Error)]
 #[error("Memory")]
 pub struct Memory;

@@ -90,7 +90,7 @@ pub enum ErrorCode {
 /// Provisioning, Deprovisioning and Polling Last Operation for Service Instances; that nothing else
 /// in a body is read is this project's choice). It takes no memory.
 pub fn well_formed(kind: Kind, answer: Answer) -> bool
-    ensures { result ≡ well_formed kind answer }
+    ensures readable { result ≡ well_formed kind answer }
 {
     match (kind, answer.status, answer.body) {
         (Kind::Provision | Kind::Deprovision, 200..=202, Body::Empty) => true,

@@ -1,5 +1,5 @@
-//! A finite map from instance ids, which the cores keep their rows in.
-ghost use Rattle.std.specs.Prelude.{◌≡◌, ℕ, OnOk, OnErr, IsSome, IsNone, IsOk, IfOk, option_map, map};
+//! A finite map from instance ids, in which both sides keep what they know of each instance.
+ghost use Rattle.std.specs.Prelude.{◌≡◌, ℕ, OnOk, OnErr, IsSome, IsNone, IsOk, IfOk, IfSome, option_map, map, Some};
 ghost use Rattle.std.specs.FinMap as finite;
 ghost use Rattle.std.specs.BTreeMap as tree;
 ghost use Rattle.std.specs.List.Sorted.{IsStrictlySortedBy};
@@ -14,22 +14,50 @@ use std::marker::Model;
 
 // Writes over the value at a key that is there.
 fn write_at<V: Copy>(rows: &mut BTreeMap<InstanceId, V>, id: InstanceId, value: V)
-    requires { IsSome (tree.get nat_cmp rows.old id) }
-    ensures { tree.Updates nat_cmp rows.old rows.new id (Some value) }
+    requires present { IsSome (tree.get nat_cmp rows.old id) }
+    ensures written { tree.Updates nat_cmp rows.old rows.new id (Some value) }
 {
     if let Some(place) = rows.get_mut(&id) {
         *place = value;
     }
 }
 
+// Writes what is made of the value at a key over it, if there is one, and returns the value before.
+fn update_at<V: Copy, F: FnOnce(V) -> V>(
+    rows: &mut BTreeMap<InstanceId, V>,
+    id: InstanceId,
+    change: F,
+) -> Option<V>
+    requires callable { F.IsAlwaysCallable change }
+    ensures before { result ≡ tree.get nat_cmp rows.old id }
+    ensures absent { IsNone result → rows.new ≡ rows.old }
+    ensures written { IfSome result (λ before. (after : V) × F.post change before after
+        × tree.Updates nat_cmp rows.old rows.new id (Some after)) }
+{
+    let Some(place) = rows.get_mut(&id) else {
+        return None;
+    };
+    let before = *place;
+    *place = change(before);
+    Some(before)
+}
+
 // Writes over the value at each key.
 fn write_all<V: Copy>(rows: &mut BTreeMap<InstanceId, V>, value: V)
-    ensures { rows.new.entries ≡ map (λ e. (e.0, value)) rows.old.entries }
+    ensures each { rows.new.entries ≡ map (λ e. (e.0, value)) rows.old.entries }
 {
     rows.retain(|_, place| {
         *place = value;
         true
     });
+}
+
+// The entries, in ascending order of their keys.
+fn entries_of<V>(rows: &BTreeMap<InstanceId, V>) -> Iter<'_, InstanceId, V>
+    ensures entries { result ≡ rows.now.entries }
+    ensures ordered { tree.IsOrdered nat_cmp rows.now }
+{
+    rows.iter()
 }
 
 // The keys, ascending.
@@ -44,7 +72,8 @@ fn keys_of<V>(alloc: Global, rows: &BTreeMap<InstanceId, V>) -> Result<Vec<Insta
     Ok(ids)
 }
 
-/// What is kept for each of some instances: at most one value for an id.
+/// What is kept for each of some instances: at most one value for an id (this project's choice; the
+/// standard leaves to both sides what they keep).
 ///
 /// Contracts see a finite map from ids to values.
 #[derive(Drop)]
@@ -67,7 +96,7 @@ impl<V> Model for Rows<V> {
 impl<V: Copy> Rows<V> {
     /// A map with nothing in it. It keeps the allocator for later entries, and takes no memory.
     pub fn new(alloc: Global) -> Self
-        ensures { result ≡ finite.empty }
+        ensures empty { result ≡ finite.empty }
     {
         Rows {
             tree: BTreeMap::new(alloc),
@@ -76,7 +105,7 @@ impl<V: Copy> Rows<V> {
 
     /// The value at the id, or none. It takes no memory.
     pub fn get(&self, id: InstanceId) -> Option<V>
-        ensures { result ≡ finite.get self.now id }
+        ensures found { result ≡ finite.get self.now id }
     {
         self.tree.get(&id).copied()
     }
@@ -85,10 +114,12 @@ impl<V: Copy> Rows<V> {
     ///
     /// # Errors
     ///
-    /// [`Memory`] where a growth was refused. The map is then as before.
+    /// [`Memory`] where an allocation failed, which only a new entry asks for. The map is then as
+    /// before.
     pub fn insert(&mut self, id: InstanceId, value: V) -> Result<(), Memory>
         ensures ok { OnOk result (self.new ≡ finite.insert self.old id value) }
         ensures err { OnErr result (self.new ≡ self.old) }
+        ensures written { IsSome (finite.get self.old id) → IsOk result }
     {
         let Ok(_) = self.tree.insert(id, value) else {
             return Err(Memory);
@@ -98,15 +129,28 @@ impl<V: Copy> Rows<V> {
 
     /// Puts a value in the place of the one that is at the id. It takes no memory.
     pub fn replace(&mut self, id: InstanceId, value: V)
-        requires { IsSome (finite.get self.old id) }
-        ensures { self.new ≡ finite.insert self.old id value }
+        requires present { IsSome (finite.get self.old id) }
+        ensures replaced { self.new ≡ finite.insert self.old id value }
     {
         write_at(&mut self.tree, id, value);
     }
 
+    /// Writes what `change` makes of the value at the id over it, by one look-up, and returns the value
+    /// that was there. Where there is none, it returns none, `change` isn't called, and the map is as
+    /// before. It takes no memory of its own.
+    pub fn update<F: FnOnce(V) -> V>(&mut self, id: InstanceId, change: F) -> Option<V>
+        requires callable { F.IsAlwaysCallable change }
+        ensures before { result ≡ finite.get self.old id }
+        ensures absent { IsNone result → self.new ≡ self.old }
+        ensures written { IfSome result (λ before. (after : V) × F.post change before after
+            × (self.new ≡ finite.insert self.old id after)) }
+    {
+        update_at(&mut self.tree, id, change)
+    }
+
     /// Takes away what is at the id, if there is anything. It takes no memory.
     pub fn remove(&mut self, id: InstanceId)
-        ensures { self.new ≡ finite.remove self.old id }
+        ensures removed { self.new ≡ finite.remove self.old id }
     {
         self.tree.remove(&id);
     }
@@ -115,7 +159,7 @@ impl<V: Copy> Rows<V> {
     ///
     /// # Errors
     ///
-    /// [`Memory`] where a growth was refused, which only a new entry asks for. The map is then as
+    /// [`Memory`] where an allocation failed, which only a new entry asks for. The map is then as
     /// before.
     pub fn set(&mut self, id: InstanceId, value: Option<V>) -> Result<(), Memory>
         ensures ok { OnOk result (self.new ≡ set_at self.old id value) }
@@ -127,10 +171,6 @@ impl<V: Copy> Rows<V> {
             self.remove(id);
             return Ok(());
         };
-        if self.get(id).is_some() {
-            self.replace(id, value);
-            return Ok(());
-        }
         self.insert(id, value)
     }
 
@@ -138,7 +178,7 @@ impl<V: Copy> Rows<V> {
     ///
     /// # Errors
     ///
-    /// [`Memory`] where a growth was refused.
+    /// [`Memory`] where an allocation failed.
     pub fn ids(&self, alloc: Global) -> Result<Vec<InstanceId>, Memory>
         ensures keys { IfOk result (λ ids. ids.items ≡ finite.keys self.now) }
         ensures ascending { IfOk result (λ ids. IsStrictlySortedBy nat_cmp ids.items) }
@@ -149,14 +189,14 @@ impl<V: Copy> Rows<V> {
     /// The ids that have a value, each with its value, in ascending order of the ids. It takes no
     /// memory.
     pub fn iter(&self) -> Iter<'_, InstanceId, V>
-        ensures { result ≡ finite.entries self.now }
+        ensures entries { result ≡ finite.entries self.now }
     {
-        self.tree.iter()
+        entries_of(&self.tree)
     }
 
     /// Puts the value at each id that has one. It takes no memory.
     pub fn fill(&mut self, value: V)
-        ensures { (q : ℕ) → finite.get self.new q ≡ option_map (λ _. value) (finite.get self.old q) }
+        ensures each { (q : ℕ) → finite.get self.new q ≡ option_map (λ _. value) (finite.get self.old q) }
     {
         write_all(&mut self.tree, value);
     }

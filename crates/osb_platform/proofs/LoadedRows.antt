@@ -12,12 +12,11 @@ use Rattle.std.proofs.lemmas.Bool.Decides.{nat_tests}
 use Rattle.osb_message.specs.IdText.{id_of_lower}
 use Rattle.osb_message.proofs.IdLemmas.{text_of_lower, lower_fits, less_from_texts}
 use Rattle.serde_json.specs.Data.{Data, Members}
-use Rattle.serde_json.specs.Find.{as_object}
 use Rattle.serde_json.specs.Read.{read}
 use Rattle.serde_json.specs.View.{view, members_view}
 use Rattle.serde_json.proofs.Views.{Entry as Member}
 use Rattle.osb_platform.specs.PlatformRow.{IsRestarted, restarted, restarted_row}
-use Rattle.osb_platform.specs.SavedRecord.{Entry, row_named, entries_named, are_named_by_ids, rows_in}
+use Rattle.osb_platform.specs.SavedRecord.{Entry, row_named, entries_named, are_named_by_ids, instances_in, rows_in, rows_of_instances, rows_of_reading}
 use Rattle.osb_platform.specs.declared.row.PlatformRow.{PlatformRow}
 
 -- the rows after a restart, put into a map one after another
@@ -133,6 +132,6 @@ loaded ms left done built none sorted =
 
 -- ---- the text
 
-pub named_rows : (text : List ℕ) (d : Data) (ms : Members) (named : List Entry) → read text ≡ Some d → Some ms ≡ as_object d → are_named_by_ids ms ≡ true
+pub named_rows : (text : List ℕ) (d : Data) (ms : Members) (named : List Entry) → read text ≡ Some d → instances_in d ≡ Ok ms → are_named_by_ids ms ≡ true
     → entries_named ms ≡ Some named → rows_in text ≡ Ok (from_entries named)
-named_rows text d ms named reads object ids entries = rw (reads, ← object, ids, entries) refl
+named_rows text d ms named reads instances ids entries = ap rows_of_reading reads ∙ ap rows_of_instances instances ∙ rw (ids, entries) refl

@@ -10,12 +10,7 @@ use Rattle.osb_platform.specs.declared.state.State.TheVariants.{Wanted, Polling,
 
 word_reads : (s : State) → state_named (state_word s) ≡ Some s
 word_reads Wanted = refl
-word_reads Polling = refl
-word_reads Ready = refl
-word_reads Cleaning = refl
-word_reads CleaningPolling = refl
-word_reads Gone = refl
-word_reads Unsettled = refl
+word_reads s = refl
 
 pub row_reads : (row : PlatformRow) → id_of_lower (id_text row.plan) ≡ Some row.plan → id_of_lower (id_text row.service) ≡ Some row.service
     → row_named (row_value row) ≡ Some (at_rest row)

@@ -17,7 +17,7 @@ use Rattle.serde_json.specs.Read.{read, max_depth}
 use Rattle.serde_json.specs.Written.{compact_text, has_float}
 use Rattle.osb_platform.proofs.Ascending.{keys_ascend}
 use Rattle.osb_platform.specs.PlatformRow.{at_rest}
-use Rattle.osb_platform.specs.SavedRecord.{Entry, row_value, row_members, saved_value, saved_rows, saved_text, rows_of_reading, are_named_by_ids, entries_named, IsReadable, IsRecordOf}
+use Rattle.osb_platform.specs.SavedRecord.{Entry, row_value, row_members, instances_value, saved_value, saved_rows, saved_text, rows_of_reading, are_named_by_ids, entries_named, IsReadable, IsRecordOf}
 use Rattle.osb_platform.specs.declared.row.PlatformRow.{PlatformRow}
 
 -- the rows put into an object one after another
@@ -55,7 +55,7 @@ put_all xs (y ∷ ys) h fits =
 -- what the loop leaves
 pub object_of_rows : (rows : FinMap nat_cmp PlatformRow) (left : List Entry) (ms : Members) → put_rows ms left ≡ put_rows no_members (entries rows) → left ≡ []
     → (AllByRecursion IsReadable left → AllByRecursion IsReadable (entries rows))
-    → object ms ≡ saved_value rows
+    → object ms ≡ instances_value rows
 object_of_rows rows left ms built none readable =
     let all : AllByRecursion IsReadable (entries rows) = readable (rw none tt) in
     let done : put_rows ms left ≡ ms = rw none refl in
@@ -72,7 +72,7 @@ no_float [] = refl
 no_float (e ∷ es) = no_float es
 
 pub written_text : (rows : FinMap nat_cmp PlatformRow) (d : Data) (text : List ℕ) → d ≡ saved_value rows → (has_float d ≡ false → text ≡ compact_text d) → text ≡ saved_text rows
-written_text rows d text is says = says (rw is (no_float (entries rows))) ∙ ap compact_text is
+written_text rows d text is says = says (rw (is, no_float (entries rows)) refl) ∙ ap compact_text is
 
 pub written_reads : (rows : FinMap nat_cmp PlatformRow) (d : Data) (text : List ℕ) → d ≡ saved_value rows → (depth d ≤ max_depth → read text ≡ Some d) → read text ≡ Some (saved_value rows)
 written_reads rows d text is says =

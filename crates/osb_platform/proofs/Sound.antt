@@ -1,4 +1,4 @@
--- What each row keeps, once a request is answered or given up.
+-- What each record keeps, once a request is answered or given up.
 use Rattle.std.proofs.Common.{◌≡◌, ◌≢◌, ℕ}
 use Rattle.std.specs.Prelude.{Some, Bool, true, false, if◌then◌else◌}
 use Rattle.std.specs.FinMap.{FinMap, get, insert}
@@ -15,7 +15,7 @@ use Rattle.osb_platform.specs.declared.row.PlatformRow.{PlatformRow}
 use Rattle.osb_platform.specs.declared.state.State.{State}
 use Rattle.osb_platform.specs.declared.state.State.TheVariants.{Wanted, Polling, Ready, Cleaning, CleaningPolling, Gone, Unsettled}
 
--- a row with nothing outstanding, in any state but `wanted`
+-- a record with nothing out, in any state but `wanted`
 settled : (row : PlatformRow) (s : State) → s ≢ Wanted → IsSoundRow (in_state s row)
 settled row s h = record { wanted = λ e. absurd (h e); others = λ _. tt }
 
@@ -28,36 +28,24 @@ not_wanted_after_provision a =
     either _ Ready _ (λ e. cc) (either _ Polling _ (λ e. cc) (either _ Unsettled _ (λ e. cc) (either _ Gone Cleaning (λ e. cc) (λ e. cc))))
 
 not_wanted_after_operation : (meanwhile afterwards : State) (b : Body) → meanwhile ≢ Wanted → afterwards ≢ Wanted → state_after_operation meanwhile afterwards b ≢ Wanted
-not_wanted_after_operation m n Body.Malformed p q = p
-not_wanted_after_operation m n Body.Empty p q = p
-not_wanted_after_operation m n (Body.State InProgress) p q = p
 not_wanted_after_operation m n (Body.State Succeeded) p q = q
 not_wanted_after_operation m n (Body.State Failed) p q = λ e. cc
-not_wanted_after_operation m n (Body.Error c) p q = p
+not_wanted_after_operation m n b p q = p
 
 not_wanted_after_poll : (s : State) (a : Answer) → s ≢ Wanted → state_after_poll s a ≢ Wanted
-not_wanted_after_poll Wanted a h = h
 not_wanted_after_poll Polling a h = either _ _ Polling (not_wanted_after_operation Polling Ready a.body (λ e. cc) (λ e. cc)) (λ e. cc)
-not_wanted_after_poll Ready a h = h
-not_wanted_after_poll Cleaning a h = h
 not_wanted_after_poll CleaningPolling a h =
     either _ _ _ (not_wanted_after_operation CleaningPolling Gone a.body (λ e. cc) (λ e. cc)) (either _ Gone CleaningPolling (λ e. cc) (λ e. cc))
-not_wanted_after_poll Gone a h = h
-not_wanted_after_poll Unsettled a h = h
+not_wanted_after_poll s a h = h
 
 not_wanted_after_deprovision : (a : Answer) → state_after_deprovision a ≢ Wanted
 not_wanted_after_deprovision a = either _ Gone _ (λ e. cc) (either _ CleaningPolling Cleaning (λ e. cc) (λ e. cc))
 
 not_wanted_after_timeout : (s : State) → after_timeout s ≢ Wanted
 not_wanted_after_timeout Wanted = λ e. cc
-not_wanted_after_timeout Polling = λ e. cc
-not_wanted_after_timeout Ready = λ e. cc
-not_wanted_after_timeout Cleaning = λ e. cc
-not_wanted_after_timeout CleaningPolling = λ e. cc
-not_wanted_after_timeout Gone = λ e. cc
-not_wanted_after_timeout Unsettled = λ e. cc
+not_wanted_after_timeout s = λ e. cc
 
--- a Poll is outstanding in no row that is `wanted`
+-- no Poll is out in `wanted`
 polled : (row : PlatformRow) → IsSoundRow row → row.out ≡ Some Poll → row.state ≢ Wanted
 polled row h out = λ e. let other = h.wanted e in cc
 
@@ -72,6 +60,6 @@ answered_sound row Deprovision a h out = settled row _ (not_wanted_after_deprovi
 pub recorded_sound : (rows : FinMap nat_cmp PlatformRow) (id : ℕ) (row : PlatformRow) → IsSound rows → get rows id ≡ Some row → IsSoundRow row
 recorded_sound rows id row all e = rw e at (all id)
 
--- every row is sound after one more is put in
+-- every record is sound after one more is put in
 pub insert_sound : (rows : FinMap nat_cmp PlatformRow) (id : ℕ) (row : PlatformRow) → IsSound rows → IsSoundRow row → IsSound (insert rows id row)
 insert_sound rows id row all one = each-set_at IsSoundRow rows id (Some row) all one

@@ -16,21 +16,21 @@ use Rattle.osb_platform.specs.declared.row.PlatformRow.{PlatformRow}
 use Rattle.osb_platform.specs.declared.state.State.{State}
 use Rattle.osb_platform.specs.declared.state.State.TheVariants.{Wanted, Cleaning}
 
--- what each row keeps
+-- what each record keeps
 pub record IsSoundRow (row : PlatformRow) : Type 0 where
-  -- a wanted instance has a Provision outstanding
+  -- a wanted instance has its Provision out
   pub wanted : row.state ≡ Wanted → row.out ≡ Some Provision
-  -- in every other state nothing is outstanding, or the request that is due there
+  -- in every other state nothing is out, or the request that is due there
   pub others : row.state ≢ Wanted → IfSome row.out (λ kind. due row.state ≡ Some kind)
 
 abbrev pub IsSound : map.FinMap nat_cmp PlatformRow → Type 0
 IsSound rows = (q : ℕ) → IfSome (map.get rows q) IsSoundRow
 
--- the kind of the request that is outstanding
+-- the kind of the request that is out
 abbrev pub kind_out : Option PlatformRow → Option Kind
 kind_out row = option_and_then (λ r. r.out) row
 
--- the record in another state, with nothing outstanding
+-- the record in another state, with nothing out
 abbrev pub in_state : State → PlatformRow → PlatformRow
 in_state state row = record { service = row.service; plan = row.plan; state = state; out = None }
 
@@ -63,18 +63,18 @@ answered kind a row = option_map (λ r. in_state (state_after r.state kind a) r)
 abbrev pub timed_out : Option PlatformRow → Option PlatformRow
 timed_out row = option_map (λ r. in_state (after_timeout r.state) r) row
 
--- the record with nothing outstanding, as it is saved
+-- the record with nothing out, as it is saved
 abbrev pub at_rest : PlatformRow → PlatformRow
 at_rest row = in_state row.state row
 
--- the record after a restart, which forgets what was outstanding
+-- the record after a restart, which forgets what was out
 abbrev pub restarted_row : PlatformRow → PlatformRow
 restarted_row row = in_state (after_restart row.state) row
 
 abbrev pub restarted : Option PlatformRow → Option PlatformRow
 restarted row = option_map restarted_row row
 
--- the rows after are those before, after a restart
+-- the records after are those before, after a restart
 abbrev pub IsRestarted : map.FinMap nat_cmp PlatformRow → map.FinMap nat_cmp PlatformRow → Type 0
 IsRestarted before after = (q : ℕ) → map.get after q ≡ restarted (map.get before q)
 
@@ -82,7 +82,12 @@ IsRestarted before after = (q : ℕ) → map.get after q ≡ restarted (map.get 
 abbrev pub cleaned_up : Option PlatformRow → Option PlatformRow
 cleaned_up row = option_map (in_state Cleaning) row
 
--- whether nothing is outstanding, and the state is one of those
+-- whether the instance is recorded, and nothing is out
+abbrev pub is_idle : Option PlatformRow → Bool
+is_idle None = false
+is_idle (Some row) = is_none row.out
+
+-- whether nothing is out, and the state is one of those
 abbrev pub is_idle_in : (State → Bool) → Option PlatformRow → Bool
 is_idle_in states None = false
 is_idle_in states (Some row) = is_none row.out && states row.state

@@ -11,7 +11,7 @@ use osb_message::{Answer, Body};
 /// (section Deprovisioning); the records, and that the platform sends the Deprovision again after
 /// every other answer, are this project's choice.
 pub fn decide_deprovision(answer: Answer) -> State
-    ensures { result ≡ state_after_deprovision answer }
+    ensures state { result ≡ state_after_deprovision answer }
 {
     match (answer.status, answer.body) {
         (200, Body::Empty) => State::Gone,

@@ -5,7 +5,7 @@
 pub enum CreateFault {
     /// The id is recorded already, in any state.
     IdUsed = 1,
-    /// A growth was refused.
+    /// An allocation failed.
     Memory = 2,
 }
 
@@ -14,14 +14,14 @@ pub enum CreateFault {
 pub enum SendFault {
     /// The id isn't recorded.
     Unknown = 1,
-    /// A request is outstanding.
+    /// A request is out.
     Busy = 2,
     /// Nothing is to be sent: the state is `ready`, `gone` or `unsettled`.
     NothingDue = 3,
 }
 
-/// Why an answer or a timeout isn't taken: the id isn't recorded, or no request is outstanding (this
-/// project's choice). The platform is then as before.
+/// Why an answer or a timeout isn't taken: the id isn't recorded, or no request is out (this project's
+/// choice). The platform is then as before.
 #[derive(Clone, Copy, Debug, PartialEq, Eq)]
 pub struct NoRequest;
 
@@ -30,7 +30,7 @@ pub struct NoRequest;
 pub enum ExpireFault {
     /// The id isn't recorded.
     Unknown = 1,
-    /// A request is outstanding.
+    /// A request is out.
     Busy = 2,
     /// The state isn't `polling`.
     NotPolling = 3,
@@ -41,32 +41,42 @@ pub enum ExpireFault {
 pub enum RemoveFault {
     /// The id isn't recorded.
     Unknown = 1,
-    /// A request is outstanding.
+    /// A request is out.
     Busy = 2,
     /// The state is none of `polling`, `ready` and `unsettled`.
     NotRemovable = 3,
 }
 
-/// Why the records aren't saved (this project's choice). The platform is then as before.
+/// Why the platform isn't saved (this project's choice). The platform is then as before.
 #[derive(Clone, Copy, Debug, PartialEq, Eq)]
 pub enum SaveFault {
-    /// A growth was refused.
+    /// An allocation failed.
     Memory = 1,
 }
 
-/// Why no platform is loaded (this project's choice). Of the first four faults it is the first that
-/// fits. No platform is then made.
+/// Why no platform is loaded (this project's choice). No platform is then made.
+///
+/// Want of memory aside it is the first of these that fits: `NotJson`, `NotAnObject`, `BadVersion`,
+/// `BadOuter`, `BadKey`, `BadMember`.
 #[derive(Clone, Copy, Debug, PartialEq, Eq)]
 pub enum LoadFault {
     /// The text has no reading as JSON. Nesting above 127 has none.
     NotJson = 1,
     /// The value isn't an object.
     NotAnObject = 2,
-    /// Some name isn't the text of an id in lower case.
+    /// Some instance's name isn't the text of an id in lower case.
     BadKey = 3,
-    /// Some value isn't an object with the members `plan`, `service` and `state` and no other, two
+    /// Some instance isn't an object with the members `plan`, `service` and `state` and no other, two
     /// texts of ids in lower case and the word of a state.
     BadMember = 4,
-    /// A growth was refused.
+    /// An allocation failed.
     Memory = 5,
+    /// The object has a member `version` that isn't the number 2, written as an integer.
+    BadVersion = 6,
+    /// The object has a member `version`, and its members aren't exactly `instances` and `version`, or
+    /// `instances` isn't an object.
+    BadOuter = 7,
 }
+
+#[cfg(test)]
+mod tests;

@@ -5,7 +5,7 @@
 //! [`mitigates`] is the orphan mitigation table. [`decide_provision`], [`decide_poll`],
 //! [`decide_deprovision`], [`decide_timeout`] and [`decide_restart`] say what becomes of a record;
 //! they are pure and take any answer. A [`Platform`] keeps the records and applies them; the messages
-//! themselves are its caller's to carry. Contracts see a platform as a finite map from ids to rows.
+//! themselves are its caller's to carry. Contracts see a platform as a finite map from ids to records.
 //!
 //! [`Platform::save`] and [`Platform::load`] write and read the saved record, by which a platform
 //! outlives a crash.
@@ -20,9 +20,9 @@ mod mitigation;
 mod platform;
 mod polling;
 mod provisioning;
-mod record;
 mod restarts;
 mod row;
+mod row_json;
 mod saving;
 mod state;
 mod timeouts;

@@ -12,7 +12,7 @@ use osb_message::{Answer, Kind, well_formed};
 /// the standard doesn't name is, are this project's choice. The Provision that gets no answer at all
 /// is [`decide_timeout`](crate::decide_timeout)'s.
 pub fn mitigates(answer: Answer) -> bool
-    ensures { result ≡ mitigate answer }
+    ensures mitigated { result ≡ mitigate answer }
 {
     match answer.status {
         200 => false,

@@ -1,11 +1,11 @@
 //! The platform: what it records of each instance, and the requests that it makes.
-ghost use Rattle.std.specs.Prelude.{◌≡◌, ◌≢◌, ◌↔◌, ◌⊎◌, ℕ, false, Some, Ok, Err, string_bytes, Contains};
-ghost use Rattle.std.specs.Prelude.{IsTrue, IsSome, IsNone, IsSomeAnd, IfSome, IsOk, IfOk, IfErr, OnOk, OnErr};
+ghost use Rattle.std.specs.Prelude.{◌≡◌, ◌≢◌, ◌↔◌, ◌⊎◌, ◌&&◌, not, ℕ, Some, Ok, Err, string_bytes, Contains};
+ghost use Rattle.std.specs.Prelude.{IsTrue, IsSome, IsNone, IfSome, IsOk, IfOk, IfErr, OnOk, OnErr};
 ghost use Rattle.std.specs.FinMap as map;
 ghost use Rattle.std.specs.List.Sorted.{IsStrictlySortedBy};
 ghost use Rattle.std.specs.Ordering.{nat_cmp};
-ghost use Rattle.osb_platform.specs.State.{state_after, due, is_polling, is_removable};
-ghost use Rattle.osb_platform.specs.PlatformRow.{IsSound, IsRestarted, kind_out, can_send, can_expire, can_remove};
+ghost use Rattle.osb_platform.specs.State.{state_after, due};
+ghost use Rattle.osb_platform.specs.PlatformRow.{IsSound, IsRestarted, kind_out, is_idle, can_send, can_expire, can_remove};
 ghost use Rattle.osb_platform.specs.PlatformRow.{wanted_row, sent, answered, timed_out, cleaned_up};
 ghost use Rattle.osb_platform.specs.PlatformRow.{first_request, next_request};
 ghost use Rattle.osb_platform.specs.SavedRecord.{saved_value, saved_text, rows_in, IsRecordOf};
@@ -17,11 +17,12 @@ use crate::{
 };
 use osb_message::{Answer, InstanceId, Kind, Memory, PlanId, Request, Rows, ServiceId};
 use std::alloc::Global;
+use std::collections::btree_map::Iter;
 use std::marker::Model;
 
 // The request that a platform sends next, if one is due.
 fn kind_due(state: State) -> Option<Kind>
-    ensures { result ≡ due state }
+    ensures kind { result ≡ due state }
 {
     match state {
         State::Polling | State::CleaningPolling => Some(Kind::Poll),
@@ -32,7 +33,7 @@ fn kind_due(state: State) -> Option<Kind>
 
 // The record after the answer to a request of the kind.
 fn decide(state: State, kind: Kind, answer: Answer) -> State
-    ensures { result ≡ state_after state kind answer }
+    ensures state { result ≡ state_after state kind answer }
 {
     match kind {
         Kind::Provision => decide_provision(answer),
@@ -45,8 +46,8 @@ fn decide(state: State, kind: Kind, answer: Answer) -> State
 /// hold all that the platform knows, and none that it doesn't (section Orphan Mitigation). What is
 /// recorded is this project's choice.
 ///
-/// Contracts see a finite map from ids to rows. In each row a wanted instance has a Provision
-/// outstanding; in every other state nothing is outstanding, or the request that is due there.
+/// Contracts see a finite map from ids to records. A `wanted` instance always has its Provision out; in
+/// every other state nothing is out, or the request that is due there.
 #[derive(Drop)]
 pub struct Platform {
     rows: Rows<PlatformRow>,
@@ -74,7 +75,7 @@ impl Platform {
     /// instances, and takes no memory.
     #[tactic(auto, using(osb_message::proofs::Maps::row_steps))]
     pub fn new(alloc: Global) -> Self
-        ensures { result ≡ map.empty }
+        ensures empty { result ≡ map.empty }
     {
         Platform {
             rows: Rows::new(alloc),
@@ -90,11 +91,22 @@ impl Platform {
         self.rows.get(id)
     }
 
+    /// Each recorded id with what is recorded of it, in ascending order of the ids (this project's
+    /// choice). It takes no memory.
+    pub fn rows(&self) -> Iter<'_, InstanceId, PlatformRow>
+        ensures rows { result ≡ map.entries self.now }
+    {
+        self.rows.iter()
+    }
+
     /// The recorded ids, ascending (this project's choice).
+    ///
+    /// The clauses `recorded` and `ascending` follow from `keys`. They stand for callers that know a
+    /// platform by what is recorded of each id.
     ///
     /// # Errors
     ///
-    /// [`Memory`] where a growth was refused.
+    /// [`Memory`] where an allocation failed.
     pub fn ids(&self, alloc: Global) -> Result<Vec<InstanceId>, Memory>
         ensures keys { IfOk result (λ ids. ids.items ≡ map.keys self.now) }
         ensures recorded { IfOk result (λ ids.
@@ -106,17 +118,18 @@ impl Platform {
 
     /// The saved record of the platform: what is recorded of each instance, as JSON text.
     ///
-    /// The text is one object with no spaces. It has a member for each recorded id, in ascending order:
-    /// the name is the id's text in lower case, and the value an object of the texts `plan` and
-    /// `service`, the ids in lower case, and `state`, the word of the state. What is outstanding isn't
-    /// saved. A platform with no instances is saved as `{}`. All of this is this project's choice.
+    /// The text is one object with no spaces and two members, `instances` and `version`, the number 2.
+    /// `instances` is an object with a member for each recorded id, in ascending order: the name is the
+    /// id's text in lower case, and the value an object of the texts `plan` and `service`, the ids in
+    /// lower case, and `state`, the word of the state. Which request is out isn't saved. A platform with
+    /// no instances is saved as `{"instances":{},"version":2}`. All of this is this project's choice.
     ///
     /// Save after each call, before anything is sent or shown: a platform that is loaded from an older
     /// record may not know of what its broker holds.
     ///
     /// # Errors
     ///
-    /// [`SaveFault::Memory`] where a growth was refused.
+    /// [`SaveFault::Memory`] where an allocation failed.
     pub fn save(&self, alloc: Global) -> Result<String, SaveFault>
         ensures text { IfOk result (λ text. string_bytes text ≡ saved_text self.now) }
         ensures reads { IfOk result (λ text.
@@ -130,35 +143,39 @@ impl Platform {
     }
 
     /// The platform that a saved record names, after a restart: each state is taken through
-    /// [`decide_restart`](crate::decide_restart), and nothing is outstanding.
+    /// [`decide_restart`](crate::decide_restart), and nothing is out.
     ///
-    /// The text may have any spacing, and members in any order. It keeps the allocator for later
-    /// instances. The record of [`Platform::save`] is refused for want of memory alone. All of this is
-    /// this project's choice.
+    /// The text may have any spacing, and members in any order. A text without a member `version` is
+    /// read as one of format 1, which has the members of `instances` alone. The platform keeps the
+    /// allocator for later instances. The record of [`Platform::save`] is refused for want of memory
+    /// alone. All of this is this project's choice.
     ///
     /// # Errors
     ///
     /// The first of these that fits. [`LoadFault::NotJson`] where the text has no reading as JSON,
-    /// [`LoadFault::NotAnObject`] where the value isn't an object, [`LoadFault::BadKey`] where some name
-    /// isn't the text of an id in lower case, [`LoadFault::BadMember`] where some value isn't an object
-    /// with the members `plan`, `service` and `state` and no other, two texts of ids in lower case and
-    /// one of the seven words. [`LoadFault::Memory`] in place of any answer where a growth was refused.
+    /// [`LoadFault::NotAnObject`] where the value isn't an object, [`LoadFault::BadVersion`] where it has
+    /// a `version` that isn't the number 2, [`LoadFault::BadOuter`] where it has a `version` and not
+    /// exactly one further member, the object `instances`, [`LoadFault::BadKey`] where some instance's
+    /// name isn't the text of an id in lower case, [`LoadFault::BadMember`] where some instance isn't an
+    /// object with the members `plan`, `service` and `state` and no other, two texts of ids in lower
+    /// case and one of the seven words. [`LoadFault::Memory`] in place of any other where an allocation
+    /// failed.
     pub fn load(alloc: Global, text: &str) -> Result<Platform, LoadFault>
         ensures ok { IfOk result (λ platform. (named : map.FinMap nat_cmp PlatformRow)
             × (rows_in text.now ≡ Ok named) × IsRestarted named platform) }
         ensures err { IfErr result (λ fault.
             (fault ≡ LoadFault.Memory) ⊎ (rows_in text.now ≡ Err fault)) }
 
-        ensures saved_refusals { (saved : map.FinMap nat_cmp PlatformRow) → IsRecordOf saved text.now
+        ensures reload_err { (saved : map.FinMap nat_cmp PlatformRow) → IsRecordOf saved text.now
             → IfErr result (λ fault. fault ≡ LoadFault.Memory) }
-        ensures saved_rows { (saved : map.FinMap nat_cmp PlatformRow) → IsRecordOf saved text.now
+        ensures reload { (saved : map.FinMap nat_cmp PlatformRow) → IsRecordOf saved text.now
             → IfOk result (λ platform. IsRestarted saved platform) }
     {
         let rows = loading::read_rows(alloc, text)?;
         Ok(Platform { rows })
     }
 
-    /// Records a new instance as `wanted` and gives its Provision, which is then outstanding (section
+    /// Records a new instance as `wanted` and returns its Provision, which is then out (section
     /// Provisioning).
     ///
     /// `accepts` says whether the platform takes an asynchronous operation.
@@ -166,8 +183,8 @@ impl Platform {
     /// # Errors
     ///
     /// [`CreateFault::IdUsed`] exactly where the id is recorded, in any state: an id is never used
-    /// again (this project's choice). It takes no memory to say so. [`CreateFault::Memory`] where a
-    /// growth was refused. The platform is then as before.
+    /// again (this project's choice). It takes no memory to say so. [`CreateFault::Memory`] where an
+    /// allocation failed. The platform is then as before.
     #[tactic(auto, using(osb_message::proofs::Maps::row_steps))]
     pub fn create(
         &mut self,
@@ -181,8 +198,6 @@ impl Platform {
         ensures others { (q : ℕ) → q ≢ id → map.get self.new q ≡ map.get self.old q }
 
         ensures id_used { (result ≡ Err CreateFault.IdUsed) ↔ IsSome (map.get self.old id) }
-        ensures new { OnOk result (map.get self.old id ≡ None) }
-        ensures memory { result ≡ Err CreateFault.Memory → map.get self.old id ≡ None }
         ensures err { OnErr result (self.new ≡ self.old) }
     {
         if self.row(id).is_some() {
@@ -206,7 +221,7 @@ impl Platform {
         })
     }
 
-    /// Gives the request that is due, which is then outstanding: a Poll in `polling` and
+    /// Returns the request that is due, which is then out: a Poll in `polling` and
     /// `cleaning-polling` (section Polling Last Operation for Service Instances), a Deprovision in
     /// `cleaning` (section Deprovisioning). It has the recorded service and plan, and always accepts an
     /// asynchronous operation (this project's choice). It takes no memory.
@@ -214,7 +229,7 @@ impl Platform {
     /// # Errors
     ///
     /// In this order, with the platform as before: [`SendFault::Unknown`] where the id isn't recorded,
-    /// [`SendFault::Busy`] where a request is outstanding, [`SendFault::NothingDue`] in `ready`, `gone`
+    /// [`SendFault::Busy`] where a request is out, [`SendFault::NothingDue`] in `ready`, `gone`
     /// and `unsettled`.
     #[tactic(auto, using(osb_message::proofs::Maps::row_steps))]
     pub fn send(&mut self, id: InstanceId) -> Result<Request, SendFault>
@@ -225,8 +240,8 @@ impl Platform {
         ensures ok { IsOk result ↔ IsTrue (can_send (map.get self.old id)) }
         ensures unknown { (result ≡ Err SendFault.Unknown) ↔ IsNone (map.get self.old id) }
         ensures busy { (result ≡ Err SendFault.Busy) ↔ IsSome (kind_out (map.get self.old id)) }
-        ensures nothing_due { (result ≡ Err SendFault.NothingDue) ↔ IsSomeAnd (map.get self.old id)
-            (λ row. (row.out ≡ None) × (due row.state ≡ None)) }
+        ensures nothing_due { (result ≡ Err SendFault.NothingDue)
+            ↔ IsTrue (is_idle (map.get self.old id) && not (can_send (map.get self.old id))) }
         ensures err { OnErr result (self.new ≡ self.old) }
     {
         let Some(row) = self.row(id) else {
@@ -254,8 +269,8 @@ impl Platform {
         })
     }
 
-    /// Takes the answer to the outstanding request: the state becomes what the table of its kind
-    /// gives, and nothing is outstanding. It takes no memory.
+    /// Takes the answer to the request that is out: the state becomes what the table of its kind gives,
+    /// and nothing is out. It takes no memory.
     ///
     /// The tables are [`decide_provision`](crate::decide_provision) (section Provisioning),
     /// [`decide_poll`](crate::decide_poll) (section Polling Last Operation for Service Instances) and
@@ -264,8 +279,8 @@ impl Platform {
     ///
     /// # Errors
     ///
-    /// [`NoRequest`] exactly where the id isn't recorded or no request is outstanding. The platform is
-    /// then as before.
+    /// [`NoRequest`] exactly where the id isn't recorded or no request is out. The platform is then as
+    /// before.
     #[tactic(auto, using(osb_message::proofs::Maps::row_steps))]
     pub fn answer(&mut self, id: InstanceId, answer: Answer) -> Result<(), NoRequest>
         ensures row { IfSome (kind_out (map.get self.old id)) (λ kind.
@@ -286,14 +301,14 @@ impl Platform {
         Ok(())
     }
 
-    /// Gives up the outstanding request: `wanted` becomes `cleaning`, since its Provision may have
-    /// made an instance (section Orphan Mitigation), every other state stays (this project's choice),
-    /// and nothing is outstanding. It takes no memory.
+    /// Gives up the request that is out: `wanted` becomes `cleaning`, since its Provision may have made
+    /// an instance (section Orphan Mitigation), every other state stays (this project's choice), and
+    /// nothing is out. It takes no memory.
     ///
     /// # Errors
     ///
-    /// [`NoRequest`] exactly where the id isn't recorded or no request is outstanding. The platform is
-    /// then as before.
+    /// [`NoRequest`] exactly where the id isn't recorded or no request is out. The platform is then as
+    /// before.
     #[tactic(auto, using(osb_message::proofs::Maps::row_steps))]
     pub fn timeout(&mut self, id: InstanceId) -> Result<(), NoRequest>
         ensures row { OnOk result (map.get self.new id ≡ timed_out (map.get self.old id)) }
@@ -320,7 +335,7 @@ impl Platform {
     /// # Errors
     ///
     /// In this order, with the platform as before: [`ExpireFault::Unknown`] where the id isn't
-    /// recorded, [`ExpireFault::Busy`] where a request is outstanding, [`ExpireFault::NotPolling`] in
+    /// recorded, [`ExpireFault::Busy`] where a request is out, [`ExpireFault::NotPolling`] in
     /// every state but `polling`.
     #[tactic(auto, using(osb_message::proofs::Maps::row_steps))]
     pub fn expire(&mut self, id: InstanceId) -> Result<(), ExpireFault>
@@ -330,8 +345,8 @@ impl Platform {
         ensures ok { IsOk result ↔ IsTrue (can_expire (map.get self.old id)) }
         ensures unknown { (result ≡ Err ExpireFault.Unknown) ↔ IsNone (map.get self.old id) }
         ensures busy { (result ≡ Err ExpireFault.Busy) ↔ IsSome (kind_out (map.get self.old id)) }
-        ensures not_polling { (result ≡ Err ExpireFault.NotPolling) ↔ IsSomeAnd (map.get self.old id)
-            (λ row. (row.out ≡ None) × (is_polling row.state ≡ false)) }
+        ensures not_polling { (result ≡ Err ExpireFault.NotPolling)
+            ↔ IsTrue (is_idle (map.get self.old id) && not (can_expire (map.get self.old id))) }
         ensures err { OnErr result (self.new ≡ self.old) }
     {
         let Some(row) = self.row(id) else {
@@ -355,7 +370,7 @@ impl Platform {
     /// # Errors
     ///
     /// In this order, with the platform as before: [`RemoveFault::Unknown`] where the id isn't
-    /// recorded, [`RemoveFault::Busy`] where a request is outstanding, [`RemoveFault::NotRemovable`] in
+    /// recorded, [`RemoveFault::Busy`] where a request is out, [`RemoveFault::NotRemovable`] in
     /// every other state.
     #[tactic(auto, using(osb_message::proofs::Maps::row_steps))]
     pub fn remove(&mut self, id: InstanceId) -> Result<(), RemoveFault>
@@ -365,8 +380,8 @@ impl Platform {
         ensures ok { IsOk result ↔ IsTrue (can_remove (map.get self.old id)) }
         ensures unknown { (result ≡ Err RemoveFault.Unknown) ↔ IsNone (map.get self.old id) }
         ensures busy { (result ≡ Err RemoveFault.Busy) ↔ IsSome (kind_out (map.get self.old id)) }
-        ensures not_removable { (result ≡ Err RemoveFault.NotRemovable) ↔ IsSomeAnd (map.get self.old id)
-            (λ row. (row.out ≡ None) × (is_removable row.state ≡ false)) }
+        ensures not_removable { (result ≡ Err RemoveFault.NotRemovable)
+            ↔ IsTrue (is_idle (map.get self.old id) && not (can_remove (map.get self.old id))) }
         ensures err { OnErr result (self.new ≡ self.old) }
     {
         let Some(row) = self.row(id) else {
@@ -384,5 +399,7 @@ impl Platform {
     }
 }
 
+#[cfg(test)]
+mod saved_tests;
 #[cfg(test)]
 mod tests;

@@ -12,7 +12,7 @@ use osb_message::{Answer, Body, LastState};
 /// end, is the standard's (section Polling Last Operation for Service Instances); the records are
 /// this project's choice.
 pub fn decide_poll(state: State, answer: Answer) -> State
-    ensures { result ≡ state_after_poll state answer }
+    ensures state { result ≡ state_after_poll state answer }
 {
     match (state, answer.status, answer.body) {
         (State::Polling, 200, Body::State(LastState::Succeeded)) => State::Ready,

@@ -8,7 +8,7 @@ use crate::State;
 /// recorded: `cleaning` for `wanted`, whose answer nobody waits for any more, and the same state for
 /// every other (this project's choice). It takes no memory.
 pub fn decide_restart(state: State) -> State
-    ensures { result ≡ after_restart state }
+    ensures state { result ≡ after_restart state }
 {
     match state {
         State::Wanted => State::Cleaning,

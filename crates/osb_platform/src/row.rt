@@ -20,9 +20,9 @@ impl PlatformRow {
     ghost use Rattle.std.specs.Prelude.{◌≡◌};
     ghost use Rattle.osb_platform.specs.PlatformRow.{in_state};
 
-    // The same instance in another state, with nothing outstanding.
+    // The same instance in another state, with nothing out.
     pub(crate) fn in_state(self, state: State) -> PlatformRow
-        ensures { result ≡ in_state state self }
+        ensures row { result ≡ in_state state self }
     {
         PlatformRow {
             state,

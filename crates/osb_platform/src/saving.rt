@@ -7,13 +7,17 @@ ghost use Rattle.serde_json.specs.View.{view};
 ghost use Rattle.osb_platform.specs.SavedRecord as saved;
 
 use crate::PlatformRow;
-use crate::record::row_value;
+use crate::row_json::row_value;
 use osb_message::Rows;
-use serde_json::{Map, Value};
+use serde_json::{Map, Value, json};
 use std::alloc::{AllocError, Global};
 
-fn rows_value(alloc: Global, rows: &Rows<PlatformRow>) -> Result<Value, AllocError>
-    ensures value { IfOk result (λ v. view v ≡ saved.saved_value rows.now) }
+// The number of the format that is written.
+pub(crate) const VERSION: u64 = 2;
+
+// The JSON object of the records.
+fn instances_value(alloc: Global, rows: &Rows<PlatformRow>) -> Result<Value, AllocError>
+    ensures value { IfOk result (λ v. view v ≡ saved.instances_value rows.now) }
     ensures readable { IfOk result (λ _. AllByRecursion saved.IsReadable (map.entries rows.now)) }
 {
     let mut members = Map::new(alloc);
@@ -26,14 +30,23 @@ fn rows_value(alloc: Global, rows: &Rows<PlatformRow>) -> Result<Value, AllocErr
     Ok(Value::Object(members))
 }
 
-// The text that is saved of the rows.
+// The records, and the number of the format.
+fn saved_value(alloc: Global, rows: &Rows<PlatformRow>) -> Result<Value, AllocError>
+    ensures value { IfOk result (λ v. view v ≡ saved.saved_value rows.now) }
+    ensures readable { IfOk result (λ _. AllByRecursion saved.IsReadable (map.entries rows.now)) }
+{
+    let instances = instances_value(alloc, rows)?;
+    json!(in alloc; {"instances": instances, "version": VERSION})
+}
+
+// The text that is saved of the records.
 pub(crate) fn write_rows(alloc: Global, rows: &Rows<PlatformRow>) -> Result<String, AllocError>
     ensures text { IfOk result (λ text. string_bytes text ≡ saved.saved_text rows.now) }
     ensures reads { IfOk result (λ text.
         read (string_bytes text) ≡ Some (saved.saved_value rows.now)) }
     ensures record { IfOk result (λ text. saved.IsRecordOf rows.now (string_bytes text)) }
 {
-    let value = rows_value(alloc, rows)?;
+    let value = saved_value(alloc, rows)?;
     let text = value.to_string(alloc)?;
     Ok(text)
 }

@@ -2,6 +2,8 @@
 ghost use Rattle.std.specs.Prelude.{◌≡◌};
 ghost use Rattle.osb_platform.specs.State.{state_word, state_named};
 
+use std::fmt;
+
 /// What a platform records of an instance (this project's choice; the standard leaves the record to
 /// the platform).
 #[derive(Clone, Copy, Debug, PartialEq, Eq, Hash)]
@@ -10,7 +12,7 @@ pub enum State {
     Wanted,
     /// The broker makes the instance, and is polled.
     Polling,
-    /// The instance is there, whole.
+    /// The instance is there, complete.
     Ready,
     /// The instance is to be deleted, or may be an orphan: a Deprovision is sent until the broker
     /// says that there is none (section Orphan Mitigation).
@@ -27,7 +29,7 @@ impl State {
     /// The word of the state, as it is saved and printed: `wanted`, `polling`, `ready`, `cleaning`,
     /// `cleaning-polling`, `gone` or `unsettled` (this project's choice). It takes no memory.
     pub fn word(self) -> &'static str
-        ensures { result.now ≡ state_word self }
+        ensures word { result.now ≡ state_word self }
     {
         match self {
             State::Wanted => "wanted",
@@ -39,9 +41,10 @@ impl State {
             State::Unsettled => "unsettled",
         }
     }
+
     // The state that a word names.
     pub(crate) fn from_word(word: &str) -> Option<State>
-        ensures { result ≡ state_named word.now }
+        ensures state { result ≡ state_named word.now }
     {
         match word {
             "wanted" => Some(State::Wanted),
@@ -53,5 +56,17 @@ impl State {
             "unsettled" => Some(State::Unsettled),
             _ => None,
         }
+    }
+}
+
+/// Writes the state's word, as [`State::word`] gives it (this project's choice).
+impl fmt::Display for State {
+    ghost use Rattle.std.specs.Prelude.{Some};
+    ghost use Rattle.osb_platform.specs.State.{state_word};
+
+    ghost output = { λ s. Some (state_word s) };
+
+    fn fmt<W: fmt::Write>(&self, f: &mut fmt::Formatter<W>) -> fmt::Result {
+        f.write_str(self.word())
     }
 }

@@ -10,7 +10,7 @@ use crate::State;
 /// That a Provision's timeout is mitigated is the standard's (section Orphan Mitigation); that the
 /// other requests are sent again is this project's choice. It takes no memory.
 pub fn decide_timeout(state: State) -> State
-    ensures { result ≡ after_timeout state }
+    ensures state { result ≡ after_timeout state }
 {
     match state {
         State::Wanted => State::Cleaning,

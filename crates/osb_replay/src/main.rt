@@ -4,42 +4,34 @@
 //! platform records and what the broker holds in the end.
 #![tactic(auto)]
 
-pub mod devices;
-pub mod faults;
-mod gathering;
-mod language;
-pub mod replaying;
-mod report;
-mod scanner;
-mod tally;
-mod words;
-mod writing;
-
-use devices::{Input, Output};
-use faults::{ReplayFault, status_of};
-use replaying::replay;
+use osb_schedule::{Input, Options, Output, ReplayFault, replay, status_of};
 use std::env;
 use std::io::ErrorKind;
 use std::process::ExitCode;
 
-/// The status of a command line that isn't understood (this project's choice).
+// The status of a command line that isn't understood (this project's choice).
 const NOT_UNDERSTOOD: u8 = 2;
 
-/// Whether the words after the program's name are the one word `replay`.
+// Whether the words after the program's name are the one word `replay`.
 fn asks_replay(mut words: env::Args) -> bool {
     let _program = words.next();
     let asked = words.next().is_some_and(|word| word.as_str() == "replay");
     asked && words.next().is_none()
 }
 
-/// Replays standard input to standard output.
+// Replays standard input to standard output.
 fn replay_streams(rt: &HostRuntime) -> Result<(), ReplayFault> {
     let mut reader = Input::new(rt.stdin());
     let mut writer = Output::new(rt.stdout());
-    replay(rt.alloc(), &mut reader, &mut writer)
+    replay(
+        rt.alloc(),
+        &mut reader,
+        &mut writer,
+        Options { saved: false },
+    )
 }
 
-/// Says what went wrong on standard error, and gives the status for it.
+// Says what went wrong on standard error, and gives the status for it.
 fn failed(rt: &HostRuntime, fault: ReplayFault) -> ExitCode {
     // Where standard error fails too, the status says it all.
     let _ = eprintln!(rt; "osb-replay: {fault}");
@@ -63,6 +55,3 @@ fn main(rt: HostRuntime) -> ExitCode {
         Err(fault) => failed(&rt, fault),
     }
 }
-
-#[cfg(test)]
-mod tests;

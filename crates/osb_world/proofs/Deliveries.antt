@@ -1,5 +1,5 @@
 -- A request that reaches the broker, once or again, keeps a cell possible.
-use Rattle.std.proofs.Common.{◌≡◌, ℕ, Bool, refl, sym, subst}
+use Rattle.std.proofs.Common.{ℕ, Bool, refl}
 use Rattle.std.specs.Prelude.{Option, Some, None, IfSome}
 use Rattle.osb_message.specs.declared.messages.Answer.{Answer}
 use Rattle.osb_message.specs.declared.messages.Kind.TheVariants.{Provision, Poll, Deprovision}
@@ -8,13 +8,14 @@ use Rattle.osb_broker.specs.declared.outcome.Outcome.{Outcome}
 use Rattle.osb_broker.specs.declared.row.BrokerRow.{BrokerRow}
 use Rattle.osb_broker.specs.Answers.{Catalogue}
 use Rattle.osb_broker.specs.Handled.{handled}
+use Rattle.osb_broker.specs.Poll.{polled}
 use Rattle.osb_platform.specs.declared.row.PlatformRow.{PlatformRow}
 use Rattle.osb_platform.specs.declared.state.State.{State}
-use Rattle.osb_platform.specs.declared.state.State.TheVariants.{Wanted, Polling, Ready, Cleaning, CleaningPolling, Gone, Unsettled}
+use Rattle.osb_platform.specs.declared.state.State.TheVariants.{Wanted, Polling, Cleaning, CleaningPolling}
 use Rattle.osb_world.specs.declared.event.Event.{Event}
 use Rattle.osb_world.specs.Possible.{IsPossible, IsPossibleParts, IsRequestOf, IsRowOf, OutByState, HeldByState, TravelsByState, mode_at}
 use Rattle.osb_world.specs.Steps.{changed_cell}
-use Rattle.osb_world.proofs.Possibility.{cell, request_of, same_request}
+use Rattle.osb_world.proofs.Possibility.{cell, request_of, as_request, moved_on}
 use Rattle.osb_world.proofs.Provisions.{provisioned, still_provisioned}
 use Rattle.osb_world.proofs.Deprovisions.{same_deprovisioned, deprovisioned, still_deprovisioned}
 use Rattle.osb_world.proofs.Polls.{polled_making, polled_deleting}
@@ -52,50 +53,36 @@ handled_deprovision cat id service plan accepts b outcome same = record {
   again = λ a h. still_deprovisioned cat id service plan accepts (mode_at cat service plan) refl outcome b a same h;
 }
 
-handled_poll : (cat : Catalogue) (id service plan : ℕ) (accepts : Bool) (b : Option BrokerRow) (outcome : Outcome)
+-- a Poll changes no row
+handled_poll : (cat : Catalogue) (id service plan : ℕ) (accepts : Bool) (s : State) (b : Option BrokerRow) (outcome : Outcome)
     → IfSome b (IsRowOf cat service plan)
-    → HeldByState (mode_at cat service plan) Polling b (Some (request_of Poll id service plan accepts))
-    → IsHandledIn cat service plan Polling b (request_of Poll id service plan accepts) outcome
-handled_poll cat id service plan accepts b outcome same holds = record {
-  row = record { same = same; holds = holds };
-  answer = polled_making cat id service plan accepts (mode_at cat service plan) outcome b (Some (request_of Poll id service plan accepts)) same;
-  again = λ a h. h;
-}
-
-handled_poll_in_deletion : (cat : Catalogue) (id service plan : ℕ) (accepts : Bool) (b : Option BrokerRow) (outcome : Outcome)
-    → IfSome b (IsRowOf cat service plan)
-    → HeldByState (mode_at cat service plan) CleaningPolling b (Some (request_of Poll id service plan accepts))
-    → IsHandledIn cat service plan CleaningPolling b (request_of Poll id service plan accepts) outcome
-handled_poll_in_deletion cat id service plan accepts b outcome same holds = record {
-  row = record { same = same; holds = holds };
-  answer = polled_deleting cat id service plan accepts outcome b same holds;
-  again = λ a h. h;
-}
+    → HeldByState (mode_at cat service plan) s b (Some (request_of Poll id service plan accepts))
+    → TravelsByState (mode_at cat service plan) s b (Some (request_of Poll id service plan accepts))
+    (polled b (request_of Poll id service plan accepts) outcome)
+    → IsHandledIn cat service plan s b (request_of Poll id service plan accepts) outcome
+handled_poll cat id service plan accepts s b outcome same holds answer =
+    record { row = record { same = same; holds = holds }; answer = answer; again = λ a h. h }
 
 -- the broker sees the request that is out, by what the platform records
 handled_request : (cat : Catalogue) (id service plan : ℕ) (s : State) (b : Option BrokerRow) (r : Request) (outcome : Outcome)
     → IsRequestOf id service plan r
     → OutByState s (Some r) → IfSome b (IsRowOf cat service plan) → HeldByState (mode_at cat service plan) s b (Some r)
     → IsHandledIn cat service plan s b r outcome
-handled_request cat id service plan Wanted b r outcome of sent same holds =
-    let is = same_request id service plan Provision r sent of in
-    subst (λ q. IsHandledIn cat service plan Wanted b q outcome) (sym is)
-    (handled_provision cat id service plan r.accepts_incomplete b outcome same holds)
-handled_request cat id service plan Polling b r outcome of sent same holds =
-    let kind : r.kind ≡ Poll = cc in
-    subst (λ q. IsHandledIn cat service plan Polling b q outcome) (sym (same_request id service plan Poll r kind of))
-    (handled_poll cat id service plan r.accepts_incomplete b outcome same holds)
-handled_request cat id service plan Ready b r outcome of sent same holds = let f = sent.0 in cc
-handled_request cat id service plan Cleaning b r outcome of sent same holds =
-    let kind : r.kind ≡ Deprovision = cc in
-    subst (λ q. IsHandledIn cat service plan Cleaning b q outcome) (sym (same_request id service plan Deprovision r kind of))
+handled_request cat id service plan Wanted b r outcome of sent same =
+    as_request (λ q. HeldByState (mode_at cat service plan) Wanted b (Some q) → IsHandledIn cat service plan Wanted b q outcome) id service
+    plan Provision r sent of (handled_provision cat id service plan r.accepts_incomplete b outcome same)
+handled_request cat id service plan Polling b r outcome of sent same = λ holds.
+    as_request (λ q. IsHandledIn cat service plan Polling b q outcome) id service plan Poll r (cc) of
+    (handled_poll cat id service plan r.accepts_incomplete Polling b outcome same holds
+    (polled_making cat id service plan r.accepts_incomplete (mode_at cat service plan) outcome b (Some (request_of Poll id service plan r.accepts_incomplete)) same))
+handled_request cat id service plan Cleaning b r outcome of sent same = λ holds.
+    as_request (λ q. IsHandledIn cat service plan Cleaning b q outcome) id service plan Deprovision r (cc) of
     (handled_deprovision cat id service plan r.accepts_incomplete b outcome same)
-handled_request cat id service plan CleaningPolling b r outcome of sent same holds =
-    let kind : r.kind ≡ Poll = cc in
-    subst (λ q. IsHandledIn cat service plan CleaningPolling b q outcome) (sym (same_request id service plan Poll r kind of))
-    (handled_poll_in_deletion cat id service plan r.accepts_incomplete b outcome same holds)
-handled_request cat id service plan Gone b r outcome of sent same holds = let f = sent.0 in cc
-handled_request cat id service plan Unsettled b r outcome of sent same holds = let f = sent.0 in cc
+handled_request cat id service plan CleaningPolling b r outcome of sent same = λ holds.
+    as_request (λ q. IsHandledIn cat service plan CleaningPolling b q outcome) id service plan Poll r (cc) of
+    (handled_poll cat id service plan r.accepts_incomplete CleaningPolling b outcome same holds
+    (polled_deleting cat id service plan r.accepts_incomplete outcome b same holds))
+handled_request cat id service plan s b r outcome of sent same = λ holds. let f = sent.0 in cc
 
 pub kept_deliver : (cat : Catalogue) (id : ℕ) (outcome : Outcome) (p : Option PlatformRow) (b : Option BrokerRow) (o : Option Request)
     (t : Option Answer)
@@ -104,15 +91,7 @@ kept_deliver cat id outcome p b None t h = h
 kept_deliver cat id outcome None b (Some r) t h = let f = h.1 in cc
 kept_deliver cat id outcome (Some row) b (Some r) t h =
     let after = handled_request cat id row.service row.plan row.state b r outcome h.request h.sent h.same h.holds in
-    record {
-      travels = λ _. refl;
-      request = h.request;
-      kind = h.kind;
-      sent = h.sent;
-      same = after.row.same;
-      holds = after.row.holds;
-      answer = after.answer;
-    }
+    moved_on cat id row b _ (Some r) t _ h (λ f. refl) after.row.same after.row.holds after.answer
 
 travels_on : (cat : Catalogue) (id service plan : ℕ) (s : State) (b : Option BrokerRow) (r : Request) (t : Option Answer)
     (outcome : Outcome) → IsHandledIn cat service plan s b r outcome
@@ -128,12 +107,5 @@ kept_repeat cat id outcome p b None t h = h
 kept_repeat cat id outcome None b (Some r) t h = let f = h.1 in cc
 kept_repeat cat id outcome (Some row) b (Some r) t h =
     let after = handled_request cat id row.service row.plan row.state b r outcome h.request h.sent h.same h.holds in
-    record {
-      travels = h.travels;
-      request = h.request;
-      kind = h.kind;
-      sent = h.sent;
-      same = after.row.same;
-      holds = after.row.holds;
-      answer = travels_on cat id row.service row.plan row.state b r t outcome after h.answer;
-    }
+    moved_on cat id row b _ (Some r) t t h h.travels after.row.same after.row.holds
+    (travels_on cat id row.service row.plan row.state b r t outcome after h.answer)

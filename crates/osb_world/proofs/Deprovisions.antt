@@ -22,7 +22,7 @@ pub record IsAfterDeprovision (cat : Catalogue) (service plan : ℕ) (b : Broker
   pub answer : IsDeprovisioned h.row h.answer
   pub begun : IsInDeletion b.phase → IfSome h.row (λ row. IsInDeletion row.phase)
 
-told_failed : (b : Option BrokerRow) (n : ℕ) (body : Body) → 411 ≤ n → IsDeprovisioned b (record { status = n; body = body })
+pub told_failed : (b : Option BrokerRow) (n : ℕ) (body : Body) → 411 ≤ n → IsDeprovisioned b (record { status = n; body = body })
 told_failed b n body x = record { deleted = λ z. absurd (grind arith); started = λ z. absurd (omega arith) }
 
 told_refused : (b : Option BrokerRow) (body : Body) → IsDeprovisioned b (record { status = 400; body = body })

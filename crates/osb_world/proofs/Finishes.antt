@@ -1,5 +1,5 @@
 -- A broker's operation that ends keeps a cell possible.
-use Rattle.std.proofs.Common.{◌≡◌, ℕ, Bool, true, false, refl}
+use Rattle.std.proofs.Common.{◌≡◌, ℕ, Bool, true, false, refl, subst}
 use Rattle.std.specs.Prelude.{Option, Some, None, IfSome}
 use Rattle.osb_message.specs.declared.catalogue.Mode.{Mode}
 use Rattle.osb_message.specs.declared.messages.Answer.{Answer}
@@ -13,9 +13,9 @@ use Rattle.osb_platform.specs.declared.row.PlatformRow.{PlatformRow}
 use Rattle.osb_platform.specs.declared.state.State.{State}
 use Rattle.osb_platform.specs.declared.state.State.TheVariants.{Wanted, Polling, Ready, Cleaning, CleaningPolling, Gone, Unsettled}
 use Rattle.osb_world.specs.declared.event.Event.{Event}
-use Rattle.osb_world.specs.Possible.{IsPossible, IsPossibleParts, IsRowOf, HeldByState, TravelsByState}
+use Rattle.osb_world.specs.Possible.{IsPossible, IsPossibleParts, IsRowOf, IsBeforeDeletion, IsInDeletion, HeldByState, TravelsByState, mode_at}
 use Rattle.osb_world.specs.Steps.{changed_cell}
-use Rattle.osb_world.proofs.Possibility.{cell}
+use Rattle.osb_world.proofs.Possibility.{cell, moved_on}
 
 abbrev in_making : ℕ → ℕ → BrokerRow
 in_making service plan = record { service = service; plan = plan; phase = Phase.Making }
@@ -44,93 +44,63 @@ same_finished cat service plan a c Phase.Making false on h = in_other_phase cat 
 same_finished cat service plan a c Phase.Deleting true on h = tt
 same_finished cat service plan a c Phase.Deleting false on h =
     in_other_phase cat service plan (in_deletion a c) Phase.DeleteFailed (λ e. cc) h
-same_finished cat service plan a c Phase.Ready ok on h = cc
-same_finished cat service plan a c Phase.Failed ok on h = cc
-same_finished cat service plan a c Phase.DeleteFailed ok on h = cc
+same_finished cat service plan a c p ok on h = cc
+
+-- what goes with a row, and with the answer that travels, goes with the row that the operation leaves
+record IsKept (mode : Option Mode) (s : State) (b c : Option BrokerRow) (o : Option Request) : Type 0 where
+  holds : HeldByState mode s c o
+  travels : (t : Answer) → TravelsByState mode s b o t → TravelsByState mode s c o t
 
 -- a row that was being made
-holds_made : (mode : Option Mode) (s : State) (a c : ℕ) (ok : Bool) (o : Option Request) → HeldByState mode s (Some (in_making a c)) o
-    → HeldByState mode s (finished_in Phase.Making (in_making a c) ok) o
-holds_made mode Wanted a c true o h = (tt, h.1)
-holds_made mode Wanted a c false o h = (tt, h.1)
-holds_made mode Polling a c true o h = (tt, h.1)
-holds_made mode Polling a c false o h = (tt, h.1)
-holds_made mode Ready a c ok o h = cc
-holds_made mode Cleaning a c ok o h = tt
-holds_made mode CleaningPolling a c ok o h = absurd h
-holds_made mode Gone a c ok o h = cc
-holds_made mode Unsettled a c ok o h = cc
-
-travels_made : (mode : Option Mode) (s : State) (a c : ℕ) (ok : Bool) (o : Option Request) (t : Answer)
-    → TravelsByState mode s (Some (in_making a c)) o t → TravelsByState mode s (finished_in Phase.Making (in_making a c) ok) o t
-travels_made mode Wanted a c true o t h = record { made = λ e. refl; started = λ e. ((h.started e).0, refl); refused = h.refused }
-travels_made mode Wanted a c false o t h =
-    record { made = λ e. let f = h.made e in cc; started = λ e. ((h.started e).0, refl); refused = h.refused }
-travels_made mode Polling a c true o t h = λ e f. refl
-travels_made mode Polling a c false o t h = λ e f. let g = h e f in cc
-travels_made mode Ready a c ok o t h = absurd h
-travels_made mode Cleaning a c ok o t h = record { deleted = λ e. let f = h.deleted e in cc; started = λ e. absurd (h.started e) }
-travels_made mode CleaningPolling a c ok o t h = record { deleted = λ e. let f = h.deleted e in cc; never = h.never }
-travels_made mode Gone a c ok o t h = absurd h
-travels_made mode Unsettled a c ok o t h = absurd h
+made : (mode : Option Mode) (s : State) (b d : BrokerRow) (o : Option Request) → b.phase ≡ Phase.Making → IsBeforeDeletion d.phase
+    → HeldByState mode s (Some b) o → IsKept mode s (Some b) (Some d) o
+made mode Wanted b d o is before h = record {
+  holds = (before, h.1);
+  travels = λ t h. record { made = λ e. let f = h.made e in cc; started = λ e. ((h.started e).0, refl); refused = h.refused };
+}
+made mode Polling b d o is before h = record { holds = (before, h.1); travels = λ t h e f. let g = h e f in cc }
+made mode Ready b d o is before h = cc
+made mode Cleaning b d o is before h = record {
+  holds = tt;
+  travels = λ t h. record { deleted = λ e. let f = h.deleted e in cc; started = λ e. absurd (subst IsInDeletion is (h.started e)) };
+}
+made mode CleaningPolling b d o is before h = absurd (subst IsInDeletion is h)
+made mode Gone b d o is before h = cc
+made mode Unsettled b d o is before h = cc
 
 -- a row that was being deleted
-holds_deleted : (mode : Option Mode) (s : State) (a c : ℕ) (ok : Bool) (o : Option Request) → HeldByState mode s (Some (in_deletion a c)) o
-    → HeldByState mode s (finished_in Phase.Deleting (in_deletion a c) ok) o
-holds_deleted mode Wanted a c ok o h = absurd h.0
-holds_deleted mode Polling a c ok o h = absurd h.0
-holds_deleted mode Ready a c ok o h = cc
-holds_deleted mode Cleaning a c ok o h = tt
-holds_deleted mode CleaningPolling a c true o h = tt
-holds_deleted mode CleaningPolling a c false o h = tt
-holds_deleted mode Gone a c ok o h = cc
-holds_deleted mode Unsettled a c ok o h = cc
+deleted : (mode : Option Mode) (s : State) (b : BrokerRow) (c : Option BrokerRow) (o : Option Request) → b.phase ≡ Phase.Deleting
+    → IfSome c (λ row. IsInDeletion row.phase) → HeldByState mode s (Some b) o → IsKept mode s (Some b) c o
+deleted mode Wanted b c o is begun h = absurd (subst IsBeforeDeletion is h.0)
+deleted mode Polling b c o is begun h = absurd (subst IsBeforeDeletion is h.0)
+deleted mode Ready b c o is begun h = cc
+deleted mode Cleaning b c o is begun h =
+    record { holds = tt; travels = λ t h. record { deleted = λ e. let f = h.deleted e in cc; started = λ e. begun } }
+deleted mode CleaningPolling b c o is begun h =
+    record { holds = begun; travels = λ t h. record { deleted = λ e. let f = h.deleted e in cc; never = h.never } }
+deleted mode Gone b c o is begun h = cc
+deleted mode Unsettled b c o is begun h = cc
 
-travels_deleted : (mode : Option Mode) (s : State) (a c : ℕ) (ok : Bool) (o : Option Request) (t : Answer)
-    → HeldByState mode s (Some (in_deletion a c)) o → TravelsByState mode s (Some (in_deletion a c)) o t
-    → TravelsByState mode s (finished_in Phase.Deleting (in_deletion a c) ok) o t
-travels_deleted mode Wanted a c ok o t holds h = absurd holds.0
-travels_deleted mode Polling a c ok o t holds h = absurd holds.0
-travels_deleted mode Ready a c ok o t holds h = absurd h
-travels_deleted mode Cleaning a c true o t holds h = record { deleted = λ e. refl; started = λ e. tt }
-travels_deleted mode Cleaning a c false o t holds h = record { deleted = λ e. let f = h.deleted e in cc; started = λ e. tt }
-travels_deleted mode CleaningPolling a c true o t holds h = record { deleted = λ e. refl; never = h.never }
-travels_deleted mode CleaningPolling a c false o t holds h = record { deleted = λ e. let f = h.deleted e in cc; never = h.never }
-travels_deleted mode Gone a c ok o t holds h = absurd h
-travels_deleted mode Unsettled a c ok o t holds h = absurd h
-
-holds_finished : (mode : Option Mode) (s : State) (a c : ℕ) (p : Phase) (ok : Bool) (o : Option Request) → is_running_in p ≡ true
+kept_row : (mode : Option Mode) (s : State) (a c : ℕ) (p : Phase) (ok : Bool) (o : Option Request) → is_running_in p ≡ true
     → HeldByState mode s (Some (record { service = a; plan = c; phase = p })) o
-    → HeldByState mode s (finished_in p (record { service = a; plan = c; phase = p }) ok) o
-holds_finished mode s a c Phase.Making ok o on h = holds_made mode s a c ok o h
-holds_finished mode s a c Phase.Deleting ok o on h = holds_deleted mode s a c ok o h
-holds_finished mode s a c Phase.Ready ok o on h = cc
-holds_finished mode s a c Phase.Failed ok o on h = cc
-holds_finished mode s a c Phase.DeleteFailed ok o on h = cc
+    → IsKept mode s (Some (record { service = a; plan = c; phase = p })) (finished_in p (record { service = a; plan = c; phase = p }) ok) o
+kept_row mode s a c Phase.Making true o on h = made mode s (in_making a c) _ o refl tt h
+kept_row mode s a c Phase.Making false o on h = made mode s (in_making a c) _ o refl tt h
+kept_row mode s a c Phase.Deleting true o on h = deleted mode s (in_deletion a c) _ o refl tt h
+kept_row mode s a c Phase.Deleting false o on h = deleted mode s (in_deletion a c) _ o refl tt h
+kept_row mode s a c p ok o on h = cc
 
-travels_finished : (mode : Option Mode) (s : State) (a c : ℕ) (p : Phase) (ok : Bool) (o : Option Request) (t : Option Answer)
-    → is_running_in p ≡ true
-    → HeldByState mode s (Some (record { service = a; plan = c; phase = p })) o
-    → IfSome t (TravelsByState mode s (Some (record { service = a; plan = c; phase = p })) o)
-    → IfSome t (TravelsByState mode s (finished_in p (record { service = a; plan = c; phase = p }) ok) o)
-travels_finished mode s a c p ok o None on holds h = tt
-travels_finished mode s a c Phase.Making ok o (Some t) on holds h = travels_made mode s a c ok o t h
-travels_finished mode s a c Phase.Deleting ok o (Some t) on holds h = travels_deleted mode s a c ok o t holds h
-travels_finished mode s a c Phase.Ready ok o (Some t) on holds h = cc
-travels_finished mode s a c Phase.Failed ok o (Some t) on holds h = cc
-travels_finished mode s a c Phase.DeleteFailed ok o (Some t) on holds h = cc
+travels_on : (mode : Option Mode) (s : State) (b c : Option BrokerRow) (o : Option Request) (t : Option Answer) → IsKept mode s b c o
+    → IfSome t (TravelsByState mode s b o) → IfSome t (TravelsByState mode s c o)
+travels_on mode s b c o None kept h = tt
+travels_on mode s b c o (Some t) kept h = kept.travels t h
 
 pub kept_finish : (cat : Catalogue) (id : ℕ) (ok : Bool) (p : Option PlatformRow) (b : Option BrokerRow) (o : Option Request)
     (t : Option Answer)
     → is_running b ≡ true → IsPossibleParts cat id p b o t → IsPossible cat id (changed_cell cat (cell p b o t) (Event.Finish id ok))
 kept_finish cat id ok p None o t on h = cc
 kept_finish cat id ok None (Some b) o t on h = let f = h.0 in cc
-kept_finish cat id ok (Some row) (Some b) o t on h = record {
-  travels = h.travels;
-  request = h.request;
-  kind = h.kind;
-  sent = h.sent;
-  same = same_finished cat row.service row.plan b.service b.plan b.phase ok on h.same;
-  holds = holds_finished _ row.state b.service b.plan b.phase ok o on h.holds;
-  answer = travels_finished _ row.state b.service b.plan b.phase ok o t on h.holds h.answer;
-}
+kept_finish cat id ok (Some row) (Some b) o t on h =
+    let kept = kept_row (mode_at cat row.service row.plan) row.state b.service b.plan b.phase ok o on h.holds in
+    moved_on cat id row (Some b) _ o t t h h.travels (same_finished cat row.service row.plan b.service b.plan b.phase ok on h.same) kept.holds
+    (travels_on _ row.state (Some b) _ o t kept h.answer)

@@ -1,4 +1,5 @@
 pub mod Agreements
+pub mod Ascents
 pub mod Commands
 pub mod Deliveries
 pub mod Deprovisions
@@ -8,5 +9,6 @@ pub mod LostAnswers
 pub mod Polls
 pub mod Possibility
 pub mod Provisions
+pub mod Rounds
 pub mod Sound
 pub mod TakenAnswers

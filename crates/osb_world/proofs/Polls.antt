@@ -5,7 +5,7 @@ use Rattle.osb_message.specs.declared.catalogue.Mode.{Mode}
 use Rattle.osb_message.specs.declared.messages.Kind.TheVariants.{Poll}
 use Rattle.osb_message.specs.declared.messages.Request.{Request}
 use Rattle.osb_broker.specs.declared.outcome.Outcome.{Outcome}
-use Rattle.osb_broker.specs.declared.outcome.Outcome.TheVariants.{Done, Before, After}
+use Rattle.osb_broker.specs.declared.outcome.Outcome.TheVariants.{Done}
 use Rattle.osb_broker.specs.declared.row.BrokerRow.{BrokerRow}
 use Rattle.osb_broker.specs.declared.row.Phase.{Phase}
 use Rattle.osb_broker.specs.Answers.{Catalogue}
@@ -17,13 +17,9 @@ use Rattle.osb_world.proofs.Possibility.{request_of, is_same_plan}
 -- success is told of a row that is ready
 told_making : (mode : Option Mode) (p : Phase) (outcome : Outcome) (b : BrokerRow) (o : Option Request) → b.phase ≡ p
     → TravelsByState mode Polling (Some b) o (own_poll p outcome)
-told_making mode p Before b o e = λ n. absurd (omega arith)
-told_making mode p After b o e = λ n. absurd (omega arith)
-told_making mode Phase.Making Done b o e = λ n s. cc
 told_making mode Phase.Ready Done b o e = λ n s. e
-told_making mode Phase.Failed Done b o e = λ n s. cc
-told_making mode Phase.Deleting Done b o e = λ n s. cc
-told_making mode Phase.DeleteFailed Done b o e = λ n s. cc
+told_making mode p Done b o e = λ n s. cc
+told_making mode p outcome b o e = λ n. absurd (omega arith)
 
 pub polled_making : (cat : Catalogue) (id service plan : ℕ) (accepts : Bool) (mode : Option Mode) (outcome : Outcome) (b : Option BrokerRow)
     (o : Option Request) → IfSome b (IsRowOf cat service plan)
@@ -34,13 +30,10 @@ polled_making cat id service plan accepts mode outcome (Some b) o same =
 
 -- success is never told of a row that is deleted
 told_deleting : (p : Phase) (outcome : Outcome) (b : BrokerRow) → IsInDeletion p → IsPolledInDeletion (Some b) (own_poll p outcome)
-told_deleting p Before b begun = record { deleted = λ n. absurd (omega arith); never = λ n. absurd (omega arith) }
-told_deleting p After b begun = record { deleted = λ n. absurd (omega arith); never = λ n. absurd (omega arith) }
-told_deleting Phase.Making Done b begun = absurd begun
-told_deleting Phase.Ready Done b begun = absurd begun
-told_deleting Phase.Failed Done b begun = absurd begun
 told_deleting Phase.Deleting Done b begun = record { deleted = λ n. absurd (omega arith); never = λ n s. cc }
 told_deleting Phase.DeleteFailed Done b begun = record { deleted = λ n. absurd (omega arith); never = λ n s. cc }
+told_deleting p Done b begun = absurd begun
+told_deleting p outcome b begun = record { deleted = λ n. absurd (omega arith); never = λ n. absurd (omega arith) }
 
 pub polled_deleting : (cat : Catalogue) (id service plan : ℕ) (accepts : Bool) (outcome : Outcome) (b : Option BrokerRow)
     → IfSome b (IsRowOf cat service plan) → IfSome b (λ row. IsInDeletion row.phase)

@@ -13,7 +13,7 @@ use Rattle.osb_broker.specs.declared.outcome.Outcome.TheVariants.{Done, Before, 
 use Rattle.osb_broker.specs.declared.row.BrokerRow.{BrokerRow}
 use Rattle.osb_broker.specs.declared.row.Phase.{Phase}
 use Rattle.osb_broker.specs.Answers.{Catalogue, Handled}
-use Rattle.osb_broker.specs.Provision.{provision_at, accepted_provision, repeated_provision}
+use Rattle.osb_broker.specs.Provision.{provision_at, accepted_provision, first_provision, repeated_provision, new_row}
 use Rattle.osb_platform.specs.declared.state.State.TheVariants.{Wanted}
 use Rattle.osb_world.specs.Possible.{IsRowOf, IsBeforeDeletion, HeldByState, HoldsReady, IsProvisioned, is_refused}
 use Rattle.osb_world.proofs.Possibility.{request_of, is_same_plan, mode_is}
@@ -24,7 +24,7 @@ pub record IsAfterProvision (cat : Catalogue) (service plan : ℕ) (mode : Optio
   pub holds : HeldByState mode Wanted h.row (Some r)
   pub answer : IsProvisioned mode h.row (Some r) h.answer
 
-told_failed : (mode : Option Mode) (b : Option BrokerRow) (o : Option Request) (n : ℕ) (body : Body) → 500 ≤ n
+pub told_failed : (mode : Option Mode) (b : Option BrokerRow) (o : Option Request) (n : ℕ) (body : Body) → 500 ≤ n
     → IsProvisioned mode b o (record { status = n; body = body })
 told_failed mode b o n body x =
     record { made = λ z. absurd (grind arith); started = λ z. absurd (omega arith); refused = λ l u. absurd (omega arith) }
@@ -44,10 +44,16 @@ told_started : (b : BrokerRow) (o : Option Request) (body : Body)
 told_started b o body = record { made = λ z. absurd (grind arith); started = λ z. (refl, refl); refused = λ l u. absurd (omega arith) }
 
 -- a row that the request makes
-new_row_of : (cat : Catalogue) (service plan : ℕ) (m : Mode) (p : Phase) → map.get cat (service, plan) ≡ Some m
-    → (Some m ≡ Some Sync → p ≡ Phase.Ready) → IsRowOf cat service plan (record { service = service; plan = plan; phase = p })
-new_row_of cat service plan m p e ready =
-    record { same_service = refl; same_plan = refl; held = record { on_sale = subst IsSome (sym e) refl; ready = λ x. ready (sym e ∙ x) } }
+new_row_of : (cat : Catalogue) (id service plan : ℕ) (accepts : Bool) (m : Mode) → map.get cat (service, plan) ≡ Some m
+    → IsRowOf cat service plan (new_row m (request_of Provision id service plan accepts))
+new_row_of cat id service plan accepts Sync e =
+    record { same_service = refl; same_plan = refl; held = record { on_sale = subst IsSome (sym e) refl; ready = λ x. refl } }
+new_row_of cat id service plan accepts Async e =
+    record { same_service = refl; same_plan = refl; held = record { on_sale = subst IsSome (sym e) refl; ready = λ x. let f = sym e ∙ x in cc } }
+
+new_row_before : (m : Mode) (r : Request) → IsBeforeDeletion (new_row m r).phase
+new_row_before Sync r = tt
+new_row_before Async r = tt
 
 -- the answer to a request that was handled before, by the phase of its row
 told_again : (cat : Catalogue) (service plan : ℕ) (m : Mode) (p : Phase) (b : BrokerRow) (o : Option Request) → b.phase ≡ p
@@ -56,15 +62,35 @@ told_again cat service plan Sync Phase.Making b o e ready before = let f = ready
 told_again cat service plan Async Phase.Making b o e ready before = told_started b o _
 told_again cat service plan m Phase.Ready b o e ready before = told_ready _ _ o 200 _ (omega arith) e
 told_again cat service plan m Phase.Failed b o e ready before = told_failed _ _ o 500 _ (omega arith)
-told_again cat service plan m Phase.Deleting b o e ready before = absurd (subst IsBeforeDeletion e before)
-told_again cat service plan m Phase.DeleteFailed b o e ready before = absurd (subst IsBeforeDeletion e before)
+told_again cat service plan m p b o e ready before = absurd (subst IsBeforeDeletion e before)
 
-again : (cat : Catalogue) (id service plan : ℕ) (accepts : Bool) (m : Mode) (outcome : Outcome) (b : BrokerRow)
-    → map.get cat (service, plan) ≡ Some m
-    → IsRowOf cat service plan b → HeldByState (Some m) Wanted (Some b) (Some (request_of Provision id service plan accepts))
+-- a request that isn't refused, of an instance that isn't there
+first : (cat : Catalogue) (id service plan : ℕ) (accepts : Bool) (m : Mode) (outcome : Outcome) → map.get cat (service, plan) ≡ Some m
+    → is_refused (Some m) (request_of Provision id service plan accepts) ≡ false
     → IsAfterProvision cat service plan (Some m) (request_of Provision id service plan accepts)
-    (accepted_provision m (Some b) (request_of Provision id service plan accepts) outcome)
-again cat id service plan accepts m outcome b e same holds =
+    (first_provision m (request_of Provision id service plan accepts) outcome)
+first cat id service plan accepts m Before e taken = record { same = tt; holds = tt; answer = told_failed _ _ _ 500 _ (omega arith) }
+first cat id service plan accepts m After e taken = record {
+  same = new_row_of cat id service plan accepts m e;
+  holds = (new_row_before m _, taken);
+  answer = told_failed _ _ _ 500 _ (omega arith);
+}
+first cat id service plan accepts Sync Done e taken = record {
+  same = new_row_of cat id service plan accepts Sync e;
+  holds = (tt, taken);
+  answer = told_ready _ _ _ 201 _ (omega arith) refl;
+}
+first cat id service plan accepts Async Done e taken =
+    record { same = new_row_of cat id service plan accepts Async e; holds = (tt, taken); answer = told_started _ _ _ }
+
+-- a request that isn't refused
+accepted : (cat : Catalogue) (id service plan : ℕ) (accepts : Bool) (m : Mode) (outcome : Outcome) (b : Option BrokerRow)
+    → map.get cat (service, plan) ≡ Some m → is_refused (Some m) (request_of Provision id service plan accepts) ≡ false
+    → IfSome b (IsRowOf cat service plan) → HeldByState (Some m) Wanted b (Some (request_of Provision id service plan accepts))
+    → IsAfterProvision cat service plan (Some m) (request_of Provision id service plan accepts)
+    (accepted_provision m b (request_of Provision id service plan accepts) outcome)
+accepted cat id service plan accepts m outcome None e taken same holds = first cat id service plan accepts m outcome e taken
+accepted cat id service plan accepts m outcome (Some b) e taken same holds =
     rw (is_same_plan service plan Provision id accepts b same.same_service same.same_plan)
     (record {
       same = same;
@@ -80,36 +106,12 @@ pub provisioned : (cat : Catalogue) (id service plan : ℕ) (accepts : Bool) (mo
     (provision_at mode b (request_of Provision id service plan accepts) outcome)
 provisioned cat id service plan accepts None e outcome b same holds =
     record { same = same; holds = holds; answer = told_refused _ b _ 400 _ (omega arith) refl }
-provisioned cat id service plan accepts (Some Sync) e Done None same holds =
-    record {
-      same = new_row_of cat service plan Sync Phase.Ready e (λ x. refl);
-      holds = (tt, refl);
-      answer = told_ready _ _ _ 201 _ (omega arith) refl;
-    }
-provisioned cat id service plan accepts (Some Sync) e Before None same holds =
-    record { same = tt; holds = tt; answer = told_failed _ _ _ 500 _ (omega arith) }
-provisioned cat id service plan accepts (Some Sync) e After None same holds =
-    record {
-      same = new_row_of cat service plan Sync Phase.Ready e (λ x. refl);
-      holds = (tt, refl);
-      answer = told_failed _ _ _ 500 _ (omega arith);
-    }
-provisioned cat id service plan accepts (Some Sync) e outcome (Some b) same holds =
-    again cat id service plan accepts Sync outcome b e same holds
+provisioned cat id service plan accepts (Some Sync) e outcome b same holds =
+    accepted cat id service plan accepts Sync outcome b e refl same holds
 provisioned cat id service plan false (Some Async) e outcome b same holds =
     record { same = same; holds = holds; answer = told_refused _ b _ 422 _ (omega arith) refl }
-provisioned cat id service plan true (Some Async) e Done None same holds =
-    record { same = new_row_of cat service plan Async Phase.Making e (λ x. cc); holds = (tt, refl); answer = told_started _ _ _ }
-provisioned cat id service plan true (Some Async) e Before None same holds =
-    record { same = tt; holds = tt; answer = told_failed _ _ _ 500 _ (omega arith) }
-provisioned cat id service plan true (Some Async) e After None same holds =
-    record {
-      same = new_row_of cat service plan Async Phase.Making e (λ x. cc);
-      holds = (tt, refl);
-      answer = told_failed _ _ _ 500 _ (omega arith);
-    }
-provisioned cat id service plan true (Some Async) e outcome (Some b) same holds =
-    again cat id service plan true Async outcome b e same holds
+provisioned cat id service plan true (Some Async) e outcome b same holds =
+    accepted cat id service plan true Async outcome b e refl same holds
 
 -- a row that is there stays
 row_again : (id service plan : ℕ) (accepts : Bool) (m : Mode) (outcome : Outcome) (b : BrokerRow) → b.service ≡ service → b.plan ≡ plan

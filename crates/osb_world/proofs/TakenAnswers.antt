@@ -1,13 +1,11 @@
 -- An answer that the platform takes keeps a cell possible.
 use Rattle.std.proofs.Common.{◌≡◌, ℕ, Bool, true, false, arith, refl, sym, subst, ◌⊎◌, inl, inr, ◌≤◌}
-use Rattle.std.specs.Prelude.{Option, Some, None, IsSome, IsSomeAnd, IfSome, IsTrue, ◌==◌, ◌&&◌, ◌||◌, not, if◌then◌else◌}
-use Rattle.std.specs.FinMap as map
+use Rattle.std.specs.Prelude.{Option, Some, None, IsSome, IsSomeAnd, IfSome, ◌==◌, ◌&&◌, ◌||◌, not, if◌then◌else◌}
 use Rattle.std.proofs.lemmas.Bool.Decides.{nat_tests}
 use Rattle.osb_message.specs.declared.catalogue.Mode.{Mode}
-use Rattle.osb_message.specs.declared.catalogue.Mode.TheVariants.{Sync, Async}
 use Rattle.osb_message.specs.declared.messages.Answer.{Answer}
 use Rattle.osb_message.specs.declared.messages.Body.{Body}
-use Rattle.osb_message.specs.declared.messages.LastState.TheVariants.{InProgress, Succeeded, Failed}
+use Rattle.osb_message.specs.declared.messages.LastState.TheVariants.{Succeeded, Failed}
 use Rattle.osb_message.specs.declared.messages.Kind.TheVariants.{Poll, Deprovision}
 use Rattle.osb_message.specs.declared.messages.Request.{Request}
 use Rattle.osb_message.specs.Messages.{is_empty}
@@ -18,11 +16,13 @@ use Rattle.osb_platform.specs.declared.row.PlatformRow.{PlatformRow}
 use Rattle.osb_platform.specs.declared.state.State.{State}
 use Rattle.osb_platform.specs.declared.state.State.TheVariants.{Wanted, Polling, Ready, Cleaning, CleaningPolling, Gone, Unsettled}
 use Rattle.osb_platform.specs.Statuses.{is_within}
-use Rattle.osb_platform.specs.State.{state_after, state_after_provision, state_after_poll, state_after_operation, state_after_deprovision, is_async_required}
+use Rattle.osb_platform.specs.State.{says_made, says_started, says_deleted, leaves_open, is_async_required}
+use Rattle.osb_platform.specs.State.{state_after, state_after_provision, state_after_poll, state_after_operation, state_after_deprovision}
 use Rattle.osb_world.specs.declared.event.Event.{Event}
-use Rattle.osb_world.specs.Possible.{IsPossible, IsPossibleParts, IsRowOf, IsBeforeDeletion, OutByState, HeldByState, TravelsByState, HoldsReady, IsProvisioned, IsDeprovisioned, IsPolledInDeletion, is_refused, is_sync, mode_at}
+use Rattle.osb_world.specs.Possible.{IsPossible, IsPossibleParts, IsBeforeDeletion, IsTaken, OutByState, HeldByState}
+use Rattle.osb_world.specs.Possible.{TravelsByState, HoldsReady, IsProvisioned, IsDeprovisioned, IsPolledInDeletion, is_refused, mode_at}
 use Rattle.osb_world.specs.Steps.{changed_cell}
-use Rattle.osb_world.proofs.Possibility.{cell, idle, on_sale}
+use Rattle.osb_world.proofs.Possibility.{cell, idle}
 
 -- the broker's row goes with the state, and nothing needs to be out
 abbrev Rests : Option Mode → Option BrokerRow → State → Type 0
@@ -53,22 +53,15 @@ is_status : (n m : ℕ) → (n == m) ≡ true → n ≡ m
 is_status n m h = grind (arith, nat_tests)
 
 -- a refused Provision has made no row
-none_refused : (cat : Catalogue) (service plan : ℕ) (mode : Option Mode) → map.get cat (service, plan) ≡ mode
-    → (b : Option BrokerRow) (r : Request)
-    → IfSome b (IsRowOf cat service plan) → HeldByState mode Wanted b (Some r) → IsTrue (is_refused mode r) → b ≡ None
-none_refused cat service plan mode e None r same holds refused = refl
-none_refused cat service plan None e (Some row) r same holds refused = let f = subst IsSome e (on_sale cat service plan row same) in cc
-none_refused cat service plan (Some Sync) e (Some row) r same holds refused = cc
-none_refused cat service plan (Some Async) e (Some row) r same holds refused = cc_accepts r.accepts_incomplete refused holds.1 where
-  cc_accepts : {A : Type 0} (x : Bool) → not x ≡ true → x ≡ true → A
-  cc_accepts true f g = cc
-  cc_accepts false f g = cc
+none_refused : (mode : Option Mode) (b : Option BrokerRow) (r : Request) → HeldByState mode Wanted b (Some r)
+    → is_refused mode r ≡ true → b ≡ None
+none_refused mode None r holds refused = refl
+none_refused mode (Some row) r holds refused = let f = holds.1 in cc
 
-begun : (b : Option BrokerRow) (o : Option Request) (x : Bool) → IsSome b
-    → IfSome b (λ row. IsBeforeDeletion row.phase × IsSomeAnd o (λ r. IsTrue (x || r.accepts_incomplete)))
+begun : (mode : Option Mode) (b : Option BrokerRow) (o : Option Request) → IsSome b → IfSome b (IsTaken mode o)
     → IsSomeAnd b (λ row. IsBeforeDeletion row.phase)
-begun None o x e h = cc
-begun (Some row) o x e h = h.0
+begun mode None o e h = cc
+begun mode (Some row) o e h = h.0
 
 is_held_ready : (b : Option BrokerRow) → HoldsReady b → IfSome b (λ row. row.phase ≡ Phase.Ready)
 is_held_ready None h = tt
@@ -83,64 +76,39 @@ is_unsettled : (mode : Option Mode) (b : Option BrokerRow) (n : ℕ) → (n ≡ 
 is_unsettled mode b n ready none (inl e) = (is_held_ready b (ready e), tt)
 is_unsettled mode b n ready none (inr e) = (is_held_none b (none e), tt)
 
--- the tests of the tables
-abbrev says_made : Answer → Bool
-says_made a = (a.status == 200 || a.status == 201) && is_empty a.body
-
-abbrev says_started : Answer → Bool
-says_started a = a.status == 202 && is_empty a.body
-
-abbrev is_open : Answer → Bool
-is_open a = a.status == 200 || a.status == 408 || a.status == 409 || (a.status == 422 && not (is_async_required a.body))
-
-abbrev says_deleted : Answer → Bool
-says_deleted a = (a.status == 200 && is_empty a.body) || a.status == 410
-
 -- the answer to a Provision
 rests_provisioned : (mode : Option Mode) (b : Option BrokerRow) (r : Request) (a : Answer)
-    → HeldByState mode Wanted b (Some r) → IsProvisioned mode b (Some r) a → (IsTrue (is_refused mode r) → b ≡ None)
-    → Rests mode b (state_after_provision a)
-rests_provisioned mode b r a holds h none =
+    → HeldByState mode Wanted b (Some r) → IsProvisioned mode b (Some r) a → Rests mode b (state_after_provision a)
+rests_provisioned mode b r a holds h =
+    let none : (400 ≤ a.status) × (a.status ≤ 499) → b ≡ None = λ e. none_refused mode b r holds (h.refused e.0 e.1) in
     by_test mode b (says_made a) Ready
-    (if says_started a then Polling else (if is_open a then Unsettled else (if is_within 400 499 a.status then Gone else Cleaning)))
+    (if says_started a then Polling else (if leaves_open a then Unsettled else (if is_within 400 499 a.status then Gone else Cleaning)))
     (λ x. (h.made (is_success a.status (is_empty a.body) x), tt)) (λ _.
-    by_test mode b (says_started a) Polling (if is_open a then Unsettled else (if is_within 400 499 a.status then Gone else Cleaning))
-    (λ x. let s = h.started (is_started a.status (is_empty a.body) x) in ((begun b (Some r) (is_sync mode) s.1 holds, s.0), tt)) (λ _.
-    by_test mode b (is_open a) Unsettled (if is_within 400 499 a.status then Gone else Cleaning)
-    (λ x. is_unsettled mode b a.status (λ e. h.made (inl e)) (λ e. none (h.refused e.0 e.1)) (is_unclear a.status (not (is_async_required a.body)) x)) (λ _.
-    by_test mode b (is_within 400 499 a.status) Gone Cleaning (λ x. let e = is_rejected a.status x in (none (h.refused e.0 e.1), tt))
+    by_test mode b (says_started a) Polling (if leaves_open a then Unsettled else (if is_within 400 499 a.status then Gone else Cleaning))
+    (λ x. let s = h.started (is_started a.status (is_empty a.body) x) in ((begun mode b (Some r) s.1 holds, s.0), tt)) (λ _.
+    by_test mode b (leaves_open a) Unsettled (if is_within 400 499 a.status then Gone else Cleaning)
+    (λ x. is_unsettled mode b a.status (λ e. h.made (inl e)) none (is_unclear a.status (not (is_async_required a.body)) x)) (λ _.
+    by_test mode b (is_within 400 499 a.status) Gone Cleaning (λ x. (none (is_rejected a.status x), tt))
     (λ _. (tt, tt)))))
 
--- the answer to a Poll
-rests_made : (mode : Option Mode) (b : Option BrokerRow) (body : Body) → HeldByState mode Polling b None
-    → (body ≡ Body.State Succeeded → HoldsReady b) → Rests mode b (state_after_operation Polling Ready body)
-rests_made mode b Body.Malformed holds h = (holds, tt)
-rests_made mode b Body.Empty holds h = (holds, tt)
-rests_made mode b (Body.State InProgress) holds h = (holds, tt)
-rests_made mode b (Body.State Succeeded) holds h = (h refl, tt)
-rests_made mode b (Body.State Failed) holds h = (tt, tt)
-rests_made mode b (Body.Error code) holds h = (holds, tt)
-
-rests_deleted : (mode : Option Mode) (b : Option BrokerRow) (body : Body) → HeldByState mode CleaningPolling b None
-    → (body ≡ Body.State Succeeded → b ≡ None) → Rests mode b (state_after_operation CleaningPolling Gone body)
-rests_deleted mode b Body.Malformed holds h = (holds, tt)
-rests_deleted mode b Body.Empty holds h = (holds, tt)
-rests_deleted mode b (Body.State InProgress) holds h = (holds, tt)
-rests_deleted mode b (Body.State Succeeded) holds h = (h refl, tt)
-rests_deleted mode b (Body.State Failed) holds h = (tt, tt)
-rests_deleted mode b (Body.Error code) holds h = (holds, tt)
+-- the answer to a Poll, while the instance is made or deleted
+rests_operation : (mode : Option Mode) (b : Option BrokerRow) (meanwhile afterwards : State) (body : Body) → Rests mode b meanwhile
+    → (body ≡ Body.State Succeeded → Rests mode b afterwards) → Rests mode b (state_after_operation meanwhile afterwards body)
+rests_operation mode b meanwhile afterwards (Body.State Succeeded) now later = later refl
+rests_operation mode b meanwhile afterwards (Body.State Failed) now later = (tt, tt)
+rests_operation mode b meanwhile afterwards body now later = now
 
 rests_polled : (mode : Option Mode) (b : Option BrokerRow) (a : Answer) → HeldByState mode Polling b None
     → TravelsByState mode Polling b None a → Rests mode b (state_after_poll Polling a)
 rests_polled mode b a holds h =
     by_test mode b (a.status == 200) (state_after_operation Polling Ready a.body) Polling
-    (λ x. rests_made mode b a.body holds (h (is_status a.status 200 x))) (λ _. (holds, tt))
+    (λ x. rests_operation mode b Polling Ready a.body (holds, tt) (λ e. (h (is_status a.status 200 x) e, tt))) (λ _. (holds, tt))
 
 rests_polled_in_deletion : (mode : Option Mode) (b : Option BrokerRow) (a : Answer) → HeldByState mode CleaningPolling b None
     → IsPolledInDeletion b a → Rests mode b (state_after_poll CleaningPolling a)
 rests_polled_in_deletion mode b a holds h =
     by_test mode b (a.status == 200) (state_after_operation CleaningPolling Gone a.body) (if a.status == 410 then Gone else CleaningPolling)
-    (λ x. rests_deleted mode b a.body holds (λ e. absurd (h.never (is_status a.status 200 x) e))) (λ _.
+    (λ x. rests_operation mode b CleaningPolling Gone a.body (holds, tt) (λ e. absurd (h.never (is_status a.status 200 x) e))) (λ _.
     by_test mode b (a.status == 410) Gone CleaningPolling (λ x. (h.deleted (is_status a.status 410 x), tt)) (λ _. (holds, tt)))
 
 -- the answer to a Deprovision
@@ -153,20 +121,16 @@ rests_deprovisioned mode b a h =
     (λ _. (tt, tt)))
 
 rests_answered : (mode : Option Mode) (s : State) (b : Option BrokerRow) (r : Request) (a : Answer)
-    → OutByState s (Some r) → HeldByState mode s b (Some r) → TravelsByState mode s b (Some r) a
-    → (HeldByState mode Wanted b (Some r) → IsTrue (is_refused mode r) → b ≡ None)
-    → Rests mode b (state_after s r.kind a)
-rests_answered mode Wanted b r a sent holds h none =
-    subst (λ k. Rests mode b (state_after Wanted k a)) (sym sent) (rests_provisioned mode b r a holds h (none holds))
-rests_answered mode Polling b r a sent holds h none =
+    → OutByState s (Some r) → HeldByState mode s b (Some r) → TravelsByState mode s b (Some r) a → Rests mode b (state_after s r.kind a)
+rests_answered mode Wanted b r a sent holds h =
+    subst (λ k. Rests mode b (state_after Wanted k a)) (sym sent) (rests_provisioned mode b r a holds h)
+rests_answered mode Polling b r a sent holds h =
     let e : Poll ≡ r.kind = cc in subst (λ k. Rests mode b (state_after Polling k a)) e (rests_polled mode b a holds h)
-rests_answered mode Ready b r a sent holds h none = absurd h
-rests_answered mode Cleaning b r a sent holds h none =
+rests_answered mode Cleaning b r a sent holds h =
     let e : Deprovision ≡ r.kind = cc in subst (λ k. Rests mode b (state_after Cleaning k a)) e (rests_deprovisioned mode b a h)
-rests_answered mode CleaningPolling b r a sent holds h none =
+rests_answered mode CleaningPolling b r a sent holds h =
     let e : Poll ≡ r.kind = cc in subst (λ k. Rests mode b (state_after CleaningPolling k a)) e (rests_polled_in_deletion mode b a holds h)
-rests_answered mode Gone b r a sent holds h none = absurd h
-rests_answered mode Unsettled b r a sent holds h none = absurd h
+rests_answered mode s b r a sent holds h = absurd h
 
 pub kept_answer : (cat : Catalogue) (id : ℕ) (p : Option PlatformRow) (b : Option BrokerRow) (o : Option Request) (t : Option Answer)
     → IsPossibleParts cat id p b o t → IsPossible cat id (changed_cell cat (cell p b o t) (Event.Answer id))
@@ -174,7 +138,5 @@ kept_answer cat id p b None t h = h
 kept_answer cat id p b (Some r) None h = h
 kept_answer cat id None b (Some r) (Some a) h = (h.0, refl, refl)
 kept_answer cat id (Some row) b (Some r) (Some a) h =
-    let rests : Rests (mode_at cat row.service row.plan) b (state_after row.state r.kind a) =
-    rests_answered _ row.state b r a h.sent h.holds h.answer
-    (λ holds refused. none_refused cat row.service row.plan _ refl b r h.same holds refused) in
+    let rests : Rests (mode_at cat row.service row.plan) b (state_after row.state r.kind a) = rests_answered _ row.state b r a h.sent h.holds h.answer in
     idle cat id row.service row.plan (state_after row.state r.kind a) b rests.1 h.same rests.0

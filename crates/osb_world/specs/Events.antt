@@ -1,40 +1,43 @@
 -- The cell of an instance after a list of events: its own events alone, one after the other.
-use Rattle.std.specs.Prelude.{true, ℕ, Bool, ◌==◌, if◌then◌else◌, List, [], ◌∷◌, filter}
+use Rattle.std.specs.Prelude.{true, ℕ, Bool, ◌==◌, if◌then◌else◌, Option, Some, None, List, [], ◌∷◌, filter}
+use Rattle.std.specs.Option.{option_map_or}
 use Rattle.osb_broker.specs.Answers.{Catalogue}
 use Rattle.osb_world.specs.declared.cell.Cell.{Cell}
 use Rattle.osb_world.specs.declared.event.Event.{Event}
 use Rattle.osb_world.specs.Cell.{empty_cell}
-use Rattle.osb_world.specs.Steps.{cell_step}
+use Rattle.osb_world.specs.Steps.{applies, cell_step, takes_memory}
 
--- the instance that an event names; a restart names none, and 0 stands for it
-abbrev pub event_id : Event → ℕ
-event_id (Event.Create id service plan accepts) = id
-event_id (Event.Remove id) = id
-event_id (Event.Send id) = id
-event_id (Event.Deliver id outcome) = id
-event_id (Event.Repeat id outcome) = id
-event_id (Event.Lose id) = id
-event_id (Event.Garble id) = id
-event_id (Event.Answer id) = id
-event_id (Event.Timeout id) = id
-event_id (Event.Expire id) = id
-event_id (Event.Finish id ok) = id
-event_id Event.Restart = 0
+-- the instance that an event names; a restart is of every instance, and names none
+abbrev pub event_id : Event → Option ℕ
+event_id (Event.Create id service plan accepts) = Some id
+event_id (Event.Remove id) = Some id
+event_id (Event.Send id) = Some id
+event_id (Event.Deliver id outcome) = Some id
+event_id (Event.Repeat id outcome) = Some id
+event_id (Event.Lose id) = Some id
+event_id (Event.Garble id) = Some id
+event_id (Event.Gateway id status) = Some id
+event_id (Event.Answer id) = Some id
+event_id (Event.Timeout id) = Some id
+event_id (Event.Expire id) = Some id
+event_id (Event.Finish id ok) = Some id
+event_id Event.Restart = None
+
+-- whether the instance that the event names passes a test; a restart does
+abbrev pub passes : (ℕ → Bool) → Event → Bool
+passes test event = option_map_or test (event_id event) true
 
 -- whether an event is one of the id's: it names the id, or is a restart
 abbrev pub is_of : ℕ → Event → Bool
-is_of id (Event.Create named service plan accepts) = named == id
-is_of id (Event.Remove named) = named == id
-is_of id (Event.Send named) = named == id
-is_of id (Event.Deliver named outcome) = named == id
-is_of id (Event.Repeat named outcome) = named == id
-is_of id (Event.Lose named) = named == id
-is_of id (Event.Garble named) = named == id
-is_of id (Event.Answer named) = named == id
-is_of id (Event.Timeout named) = named == id
-is_of id (Event.Expire named) = named == id
-is_of id (Event.Finish named ok) = named == id
-is_of id Event.Restart = true
+is_of id event = passes (λ named. named == id) event
+
+-- whether the event applies to the cell of the instance that it names; a restart always does
+abbrev pub applies_at : (ℕ → Cell) → Event → Bool
+applies_at cells event = passes (λ id. applies (cells id) event) event
+
+-- whether the event may ask for memory at the cell of the instance that it names; a restart always may
+abbrev pub takes_memory_at : Catalogue → (ℕ → Cell) → Event → Bool
+takes_memory_at catalogue cells event = passes (λ id. takes_memory catalogue (cells id) event) event
 
 -- the events of one instance, in their order
 abbrev pub events_of : ℕ → List Event → List Event

@@ -1,6 +1,9 @@
 pub mod Agreement
+pub mod Ascending
 pub mod Cell
+pub mod Entries
 pub mod Events
 pub mod Possible
+pub mod Settling
 pub mod Steps
 pub mod Views

@@ -1,7 +1,7 @@
 -- The cells that can come about: what holds of each cell of a world, whatever has happened. Two tables
 -- carry it: the broker's row by what the platform records, and the answer that travels by the same.
 -- None of it is the standard's: it is what platform and broker keep between them.
-use Rattle.std.specs.Prelude.{◌≡◌, ◌≢◌, ℕ, ◌≤◌, ◌⊎◌, Bool, true, false, not, ◌||◌, ⊤}
+use Rattle.std.specs.Prelude.{◌≡◌, ◌≢◌, ℕ, ◌≤◌, ◌⊎◌, Bool, true, false, not, ⊤}
 use Rattle.std.specs.Prelude.{Option, Some, None, option_map, IsTrue, IsSome, IsSomeAnd, IfSome}
 use Rattle.std.specs.FinMap as map
 use Rattle.osb_message.specs.declared.catalogue.Mode.{Mode}
@@ -35,12 +35,7 @@ IsDueIn state out = IfSome out (λ request. (due state ≡ Some request.kind) ×
 -- the request that is out, by what the platform records: in `wanted` there is one, a Provision
 abbrev pub OutByState : State → Option Request → Type 0
 OutByState Wanted out = IsSomeAnd out (λ request. request.kind ≡ Provision)
-OutByState Polling out = IsDueIn Polling out
-OutByState Ready out = IsDueIn Ready out
-OutByState Cleaning out = IsDueIn Cleaning out
-OutByState CleaningPolling out = IsDueIn CleaningPolling out
-OutByState Gone out = IsDueIn Gone out
-OutByState Unsettled out = IsDueIn Unsettled out
+OutByState state out = IsDueIn state out
 
 -- the broker's row has the recorded service and plan, whose pair is on sale; a synchronous plan's row
 -- is ready
@@ -54,22 +49,13 @@ abbrev pub IsBeforeDeletion : Phase → Type 0
 IsBeforeDeletion Phase.Making = ⊤
 IsBeforeDeletion Phase.Ready = ⊤
 IsBeforeDeletion Phase.Failed = ⊤
-IsBeforeDeletion Phase.Deleting = ⊥
-IsBeforeDeletion Phase.DeleteFailed = ⊥
+IsBeforeDeletion phase = ⊥
 
 -- the phases of an instance that a deletion was begun of
 abbrev pub IsInDeletion : Phase → Type 0
-IsInDeletion Phase.Making = ⊥
-IsInDeletion Phase.Ready = ⊥
-IsInDeletion Phase.Failed = ⊥
 IsInDeletion Phase.Deleting = ⊤
 IsInDeletion Phase.DeleteFailed = ⊤
-
--- whether the plan works synchronously
-abbrev pub is_sync : Option Mode → Bool
-is_sync None = false
-is_sync (Some Sync) = true
-is_sync (Some Async) = false
+IsInDeletion phase = ⊥
 
 -- whether a broker refuses the Provision outright: the pair isn't on sale, or its plan is asynchronous
 -- and the request doesn't accept that
@@ -82,11 +68,9 @@ is_refused (Some Async) request = not request.accepts_incomplete
 abbrev pub HoldsReady : Option BrokerRow → Type 0
 HoldsReady broker = IsSomeAnd broker (λ row. row.phase ≡ Phase.Ready)
 
--- in `wanted` there may be a row, before any deletion; then the broker took the Provision, since its
--- plan is synchronous or the request accepts an asynchronous operation
+-- in `wanted` there may be a row, before any deletion; then the broker didn't refuse the Provision
 abbrev pub IsTaken : Option Mode → Option Request → BrokerRow → Type 0
-IsTaken mode out row =
-    IsBeforeDeletion row.phase × IsSomeAnd out (λ request. IsTrue (is_sync mode || request.accepts_incomplete))
+IsTaken mode out row = IsBeforeDeletion row.phase × IsSomeAnd out (λ request. is_refused mode request ≡ false)
 
 -- the broker's row, by what the platform records; `mode` is how the recorded plan works
 abbrev pub HeldByState : Option Mode → State → Option BrokerRow → Option Request → Type 0
@@ -125,11 +109,9 @@ pub record IsPolledInDeletion (broker : Option BrokerRow) (answer : Answer) : Ty
 abbrev pub TravelsByState : Option Mode → State → Option BrokerRow → Option Request → Answer → Type 0
 TravelsByState mode Wanted broker out answer = IsProvisioned mode broker out answer
 TravelsByState mode Polling broker out answer = IsPolled broker answer
-TravelsByState mode Ready broker out answer = ⊥
 TravelsByState mode Cleaning broker out answer = IsDeprovisioned broker answer
 TravelsByState mode CleaningPolling broker out answer = IsPolledInDeletion broker answer
-TravelsByState mode Gone broker out answer = ⊥
-TravelsByState mode Unsettled broker out answer = ⊥
+TravelsByState mode state broker out answer = ⊥
 
 -- how the plan works, or none where it isn't on sale
 abbrev pub mode_at : Catalogue → ℕ → ℕ → Option Mode

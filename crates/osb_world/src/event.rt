@@ -1,4 +1,6 @@
 //! What happens: an operator's command, or the work of the network, a clock or the broker's backend.
+ghost use Rattle.std.specs.Prelude.{◌≡◌};
+
 use osb_broker::Outcome;
 use osb_message::{InstanceId, PlanId, ServiceId};
 
@@ -61,6 +63,16 @@ pub enum Event {
         /// The instance.
         id: InstanceId,
     },
+    /// A gateway between the platform and the broker answers in the broker's place (section Service
+    /// Broker Errors has the statuses): an answer of this status, whose body can't be read, travels
+    /// in place of any other. Whether the request was delivered or not, it stays out and no row
+    /// changes. It applies where a request is out and the status is 500 to 599.
+    Gateway {
+        /// The instance.
+        id: InstanceId,
+        /// The status of the gateway's answer.
+        status: u16,
+    },
     /// The platform takes the answer that travels. It applies where an answer travels.
     Answer {
         /// The instance.
@@ -86,8 +98,34 @@ pub enum Event {
         /// Whether it ends well.
         ok: bool,
     },
-    /// The platform is restarted from its saved record: what was outstanding is forgotten, and a
+    /// The platform is restarted from its saved record: what was out is forgotten, and a
     /// wanted instance is cleaned up. In every cell nothing is out and nothing travels. It always
     /// applies.
     Restart,
+}
+
+impl Event {
+    ghost use Rattle.osb_world.specs.Events.{event_id};
+
+    /// The instance that the event names, or none for a restart, which is of every instance. It
+    /// takes no memory.
+    pub fn id(&self) -> Option<InstanceId>
+        ensures id { result ≡ event_id self.now }
+    {
+        match *self {
+            Event::Create { id, .. }
+            | Event::Remove { id }
+            | Event::Send { id }
+            | Event::Deliver { id, .. }
+            | Event::Repeat { id, .. }
+            | Event::Lose { id }
+            | Event::Garble { id }
+            | Event::Gateway { id, .. }
+            | Event::Answer { id }
+            | Event::Timeout { id }
+            | Event::Expire { id }
+            | Event::Finish { id, .. } => Some(id),
+            Event::Restart => None,
+        }
+    }
 }

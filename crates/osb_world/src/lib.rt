@@ -2,9 +2,10 @@
 //! the network does with requests and answers, what the clocks say, and how the broker's work ends.
 //!
 //! A [`World`] is made over a catalogue. [`World::step`] lets an [`Event`] happen to the instance
-//! that it names or, a restart, to all of them; [`run`] goes through a list of them. Whatever happens, platform and broker agree:
-//! where the platform records `ready`, the broker holds the instance, complete, with that service and
-//! plan; where the platform records `gone`, or nothing, the broker holds none.
+//! that it names or, a restart, to all of them; [`run`] goes through a list of them. Whatever
+//! happens, platform and broker agree: where the platform records `ready`, the broker holds the
+//! instance, complete, with that service and plan; where the platform records `gone`, or nothing, the
+//! broker holds none.
 //!
 //! What the platform records and the broker answers are the tables of their crates, by the Open
 //! Service Broker API Specification 2.17. The rest, which is what comes between them, is this
@@ -15,6 +16,7 @@
 
 mod cell;
 mod event;
+mod message_list;
 mod messages;
 mod parts;
 mod running;

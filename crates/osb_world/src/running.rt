@@ -17,7 +17,7 @@ use std::alloc::Global;
 ///
 /// # Errors
 ///
-/// [`Memory`](osb_message::Memory) at the first step where a growth was refused.
+/// [`Memory`](osb_message::Memory) at the first step where an allocation failed.
 pub fn run(alloc: Global, catalogue: Catalogue, events: &[Event]) -> Result<World, Memory>
     ensures cells { IfOk result (λ world. (id : ℕ) →
         cell_at world id ≡ cell_after catalogue id events.now) }

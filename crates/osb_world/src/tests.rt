@@ -1,10 +1,14 @@
 //! Stories told event by event, and what both sides have in the end.
+mod gateways;
+mod many;
+mod orders;
 mod restarts;
+mod settling;
 mod stories;
 
 use crate::{Cell, Event, Step, World, run};
 use osb_broker::{Outcome, Phase};
-use osb_message::{AddFault, Answer, Catalogue, InstanceId, Mode, PlanId, ServiceId};
+use osb_message::{AddFault, Answer, Body, Catalogue, InstanceId, Mode, PlanId, ServiceId};
 use osb_platform::State;
 use std::alloc::Global;
 use std::process::Abort;
@@ -73,6 +77,13 @@ fn event_of(word: &str) -> Option<Event> {
         },
         "lose" => Event::Lose { id },
         "garble" => Event::Garble { id },
+        "gateway-499" => Event::Gateway { id, status: 499 },
+        "gateway-500" => Event::Gateway { id, status: 500 },
+        "gateway-502" => Event::Gateway { id, status: 502 },
+        "gateway-503" => Event::Gateway { id, status: 503 },
+        "gateway-504" => Event::Gateway { id, status: 504 },
+        "gateway-599" => Event::Gateway { id, status: 599 },
+        "gateway-600" => Event::Gateway { id, status: 600 },
         "answer" => Event::Answer { id },
         "timeout" => Event::Timeout { id },
         "expire" => Event::Expire { id },
@@ -141,4 +152,32 @@ fn told_through(alloc: Global, events: &[Event]) -> Result<Ending, Fail> {
 fn sides_of_run(alloc: Global, events: &[Event]) -> Result<Sides, Fail> {
     let world = run(alloc, new_catalogue(alloc)?, events)?;
     Ok(sides(world.cell(instance())))
+}
+
+// A story's name; the status and the body of the answer that was seen travelling last; and what both
+// sides have in the end.
+type Told = (&'static str, u16, Body, State, Option<Phase>);
+
+// Each event of the story applies, and it ends as it is told, step by step and by `run`.
+fn is_told(rt: &impl Abort, alloc: Global, told: Told, story: &str) -> Result<(), Fail> {
+    let (name, status, body, state, phase) = told;
+    let events = events_of(rt, alloc, story)?;
+    let end = told_through(alloc, &events)?;
+    assert_eq!(rt; (end.applied, end.skipped), (events.len(), 0), "{name}");
+    assert_eq!(rt; end.travelled, Some(Answer { status, body }), "{name}");
+    assert_eq!(rt; end.sides, (Some(state), phase), "{name}");
+    assert_eq!(rt; sides_of_run(alloc, &events)?, end.sides, "{name}, by run");
+    Ok(())
+}
+
+#[test]
+fn the_instance_that_an_event_names(rt: HostRuntime) -> Result<(), Fail> {
+    let words =
+        "create-sync remove send deliver repeat lose garble gateway-502 answer timeout expire \
+                 finish-ok";
+    for event in &events_of(&rt, rt.alloc(), words)? {
+        assert_eq!(rt; event.id(), Some(instance()), "{event:?}");
+    }
+    assert_eq!(rt; Event::Restart.id(), None);
+    Ok(())
 }

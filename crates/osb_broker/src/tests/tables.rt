@@ -198,10 +198,18 @@ fn poll(rt: HostRuntime) -> Result<(), Fail> {
 }
 
 #[test]
-fn words(rt: HostRuntime) {
-    assert_eq!(rt; Phase::Making.word(), "making");
-    assert_eq!(rt; Phase::Ready.word(), "ready");
-    assert_eq!(rt; Phase::Failed.word(), "failed");
-    assert_eq!(rt; Phase::Deleting.word(), "deleting");
-    assert_eq!(rt; Phase::DeleteFailed.word(), "delete-failed");
+fn words(rt: HostRuntime) -> Result<(), Fail> {
+    for (phase, word) in [
+        (Phase::Making, "making"),
+        (Phase::Ready, "ready"),
+        (Phase::Failed, "failed"),
+        (Phase::Deleting, "deleting"),
+        (Phase::DeleteFailed, "delete-failed"),
+    ] {
+        assert_eq!(rt; phase.word(), word);
+        assert_eq!(rt; phase.to_string(rt.alloc())?.as_str(), word);
+    }
+    let filled = format!(in rt.alloc(); "{:>8}|", Phase::Ready)?;
+    assert_eq!(rt; filled.as_str(), "   ready|");
+    Ok(())
 }

@@ -1,4 +1,7 @@
-use super::{IdFault, InstanceId};
+use super::{IdFault, InstanceId, PlanId};
+use std::cmp::Ordering;
+use std::collections::HashMap;
+use std::test::Fail;
 
 #[test]
 fn texts_of_ids(rt: HostRuntime) {
@@ -47,7 +50,50 @@ fn texts_in_lower_case_alone(rt: HostRuntime) {
 }
 
 #[test]
-fn the_fault_has_its_name(rt: HostRuntime) -> Result<(), std::test::Fail> {
+fn bytes_are_read_as_text_is(rt: HostRuntime) {
+    let id = InstanceId::from_value(0x67e5_5044_10b1_426f_9247_bb68_0e5f_e0c8);
+    for text in [
+        b"67e55044-10b1-426f-9247-bb680e5fe0c8",
+        b"67E55044-10B1-426F-9247-BB680E5FE0C8",
+    ] {
+        assert!(rt; InstanceId::from_bytes(text) == Ok(id), "{text:?}");
+    }
+    let not_utf8 = b"67e55044-10b1-426f-9247-bb680e5fe0c\xff";
+    assert!(rt; InstanceId::from_bytes(not_utf8) == Err(IdFault::NotAnId));
+    assert!(rt; InstanceId::from_bytes(b"") == Err(IdFault::NotAnId));
+}
+
+#[test]
+fn ids_are_ordered_and_hashed(rt: HostRuntime) -> Result<(), Fail> {
+    let (low, high) = (PlanId::from_value(1), PlanId::from_value(1 << 64));
+    assert!(rt; low < high);
+    assert!(rt; high.partial_cmp(&low) == Some(Ordering::Greater));
+    assert!(rt; low.partial_cmp(&low) == Some(Ordering::Equal));
+    let mut names = HashMap::new(rt.alloc());
+    names.insert(low, 'a')?;
+    names.insert(high, 'b')?;
+    assert!(rt; names.get(&low).copied() == Some('a'));
+    assert!(rt; names.get(&high).copied() == Some('b'));
+    assert!(rt; names.get(&PlanId::from_value(2)).is_none());
+    Ok(())
+}
+
+#[test]
+fn ids_are_printed_as_guids(rt: HostRuntime) -> Result<(), Fail> {
+    let text = "67e55044-10b1-426f-9247-bb680e5fe0c8";
+    let id = PlanId::from_value(0x67e5_5044_10b1_426f_9247_bb68_0e5f_e0c8);
+    let alloc = rt.alloc();
+    assert!(rt; id.to_string(alloc)?.as_str() == text);
+    assert!(rt; format!(in alloc; "{id:?}")?.as_str() == text);
+    let filled = format!(in alloc; "{id:>38}|{id:<38}|")?;
+    let wanted = "  67e55044-10b1-426f-9247-bb680e5fe0c8|67e55044-10b1-426f-9247-bb680e5fe0c8  |";
+    assert!(rt; filled.as_str() == wanted);
+    Ok(())
+}
+
+#[test]
+fn the_fault_has_its_name_and_number(rt: HostRuntime) -> Result<(), Fail> {
     assert!(rt; IdFault::NotAnId.to_string(rt.alloc())?.as_str() == "NotAnId");
+    assert!(rt; IdFault::NotAnId as u8 == 1);
     Ok(())
 }

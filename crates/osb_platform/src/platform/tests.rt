@@ -45,6 +45,22 @@ fn request(kind: Kind) -> Request {
     }
 }
 
+// A hundred instances, each with a plan of its own, the highest id first.
+const HUNDRED: u128 = 100;
+
+fn hundred(rt: &impl Abort, alloc: Global) -> Platform {
+    let mut platform = Platform::new(alloc);
+    for below in 0..HUNDRED {
+        let id = HUNDRED - below;
+        let (instance, plan) = (InstanceId::from_value(id), PlanId::from_value(1000 + id));
+        assert!(rt;
+            platform.create(instance, service(), plan, true).is_ok(),
+            "{id}"
+        );
+    }
+    platform
+}
+
 fn recorded(state: State, out: Option<Kind>) -> Option<PlatformRow> {
     Some(PlatformRow {
         service: service(),
@@ -99,7 +115,7 @@ fn word_after(rt: &impl Abort, mut platform: Platform, answer: Option<Answer>) -
     assert!(rt; taken == Ok(()));
     match platform.row(instance()) {
         Some(row) if row.out.is_none() => row.state.word(),
-        _ => "no record, or a request is outstanding",
+        _ => "no record, or a request is out",
     }
 }
 
@@ -153,6 +169,61 @@ fn one_instance_step_by_step(rt: HostRuntime) -> Result<(), Fail> {
     is_polled(&rt, &mut platform);
     is_cleaned_up(&rt, &mut platform);
     assert!(rt; platform.ids(rt.alloc())?.as_slice() == [instance()].as_slice());
+    Ok(())
+}
+
+#[test]
+fn a_provision_that_takes_no_asynchronous_operation(rt: HostRuntime) {
+    let mut platform = Platform::new(rt.alloc());
+    let created = platform.create(instance(), service(), plan(), false);
+    let expected = Request {
+        accepts_incomplete: false,
+        ..request(Kind::Provision)
+    };
+    assert!(rt; created == Ok(expected));
+    assert!(rt; platform.row(instance()) == recorded(State::Wanted, Some(Kind::Provision)));
+}
+
+#[test]
+fn a_hundred_instances(rt: HostRuntime) -> Result<(), Fail> {
+    let platform = hundred(&rt, rt.alloc());
+    let ids = platform.ids(rt.alloc())?;
+    assert_eq!(rt; ids.len(), 100);
+    let mut next = 1;
+    for (id, row) in platform.rows() {
+        let expected = PlatformRow {
+            service: service(),
+            plan: PlanId::from_value(1000 + next),
+            state: State::Wanted,
+            out: Some(Kind::Provision),
+        };
+        assert!(rt; *id == InstanceId::from_value(next), "{next}");
+        assert!(rt; *row == expected, "{next}");
+        assert!(rt; platform.row(*id) == Some(expected), "{next}");
+        next += 1;
+    }
+    assert_eq!(rt; next, 101);
+    let mut expected = 1;
+    for id in ids {
+        assert!(rt; id == InstanceId::from_value(expected), "{expected}");
+        expected += 1;
+    }
+    Ok(())
+}
+
+#[test]
+fn words_that_are_printed(rt: HostRuntime) -> Result<(), Fail> {
+    for (state, word) in [
+        (State::Wanted, "wanted"),
+        (State::Polling, "polling"),
+        (State::Ready, "ready"),
+        (State::Cleaning, "cleaning"),
+        (State::CleaningPolling, "cleaning-polling"),
+        (State::Gone, "gone"),
+        (State::Unsettled, "unsettled"),
+    ] {
+        assert_eq!(rt; format!(in rt.alloc(); "{state}")?.as_str(), word);
+    }
     Ok(())
 }
 
@@ -254,16 +325,20 @@ fn after_a_poll(rt: HostRuntime) {
 
 #[test]
 fn what_an_operator_removes(rt: HostRuntime) {
-    for (status, body, removed) in [
-        (200, Body::Empty, Ok(())),
-        (202, Body::Empty, Ok(())),
-        (200, Body::Malformed, Ok(())),
-        (500, OTHER, Err(RemoveFault::NotRemovable)),
-        (400, OTHER, Err(RemoveFault::NotRemovable)),
+    for (status, body, removed, after) in [
+        (200, Body::Empty, Ok(()), State::Cleaning),
+        (202, Body::Empty, Ok(()), State::Cleaning),
+        (200, Body::Malformed, Ok(()), State::Cleaning),
+        (500, OTHER, Err(RemoveFault::NotRemovable), State::Cleaning),
+        (400, OTHER, Err(RemoveFault::NotRemovable), State::Gone),
     ] {
         let mut platform = wanted(&rt, rt.alloc());
         assert!(rt; platform.answer(instance(), answer(status, body)) == Ok(()));
         assert_eq!(rt; platform.remove(instance()), removed, "{status} {body:?}");
+        assert!(rt;
+            platform.row(instance()) == recorded(after, None),
+            "{status} {body:?}"
+        );
     }
     let unknown = InstanceId::from_value(2);
     let mut platform = wanted(&rt, rt.alloc());

@@ -128,9 +128,9 @@ fn the_saved_record_of_one_ready_instance(rt: HostRuntime) -> Result<(), Fail> {
     let saved = world.save(rt.alloc())?;
     assert!(rt;
         saved.as_str()
-            == "{\"00000000-0000-0000-0000-000000000001\":\
+            == "{\"instances\":{\"00000000-0000-0000-0000-000000000001\":\
 {\"plan\":\"00000000-0000-0000-0000-0000000000b1\",\
-\"service\":\"00000000-0000-0000-0000-0000000000a0\",\"state\":\"ready\"}}"
+\"service\":\"00000000-0000-0000-0000-0000000000a0\",\"state\":\"ready\"}},\"version\":2}"
     );
     Ok(())
 }

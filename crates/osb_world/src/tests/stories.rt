@@ -1,16 +1,12 @@
 use super::{
-    SYNC, create, events_of, instance, new_catalogue, service, sides, sides_of_run, told_through,
+    SYNC, create, events_of, instance, is_told, new_catalogue, service, sides, told_through,
 };
 use crate::{Event, Step, World, run};
 use osb_broker::{BrokerRow, Phase};
 use osb_message::Body::{Empty, Malformed};
-use osb_message::{Answer, Body, Catalogue, ErrorCode, InstanceId, LastState, PlanId};
+use osb_message::{Body, Catalogue, ErrorCode, InstanceId, LastState, PlanId};
 use osb_platform::PlatformRow;
-use osb_platform::State::{
-    self, Cleaning, CleaningPolling, Gone, Polling, Ready, Unsettled, Wanted,
-};
-use std::alloc::Global;
-use std::process::Abort;
+use osb_platform::State::{Cleaning, CleaningPolling, Gone, Polling, Ready, Unsettled, Wanted};
 use std::test::Fail;
 
 const OTHER: Body = Body::Error(ErrorCode::Other);
@@ -22,22 +18,6 @@ const CONCURRENT: Body = Body::Error(ErrorCode::ConcurrencyError);
 const SUCCEEDED: Body = Body::State(LastState::Succeeded);
 
 const FAILED: Body = Body::State(LastState::Failed);
-
-// A story's name; the status and the body of the answer that was seen travelling last; and what both
-// sides have in the end.
-type Told = (&'static str, u16, Body, State, Option<Phase>);
-
-// Each event of the story applies, and it ends as it is told, step by step and by `run`.
-fn is_told(rt: &impl Abort, alloc: Global, told: Told, story: &str) -> Result<(), Fail> {
-    let (name, status, body, state, phase) = told;
-    let events = events_of(rt, alloc, story)?;
-    let end = told_through(alloc, &events)?;
-    assert_eq!(rt; (end.applied, end.skipped), (events.len(), 0), "{name}");
-    assert_eq!(rt; end.travelled, Some(Answer { status, body }), "{name}");
-    assert_eq!(rt; end.sides, (Some(state), phase), "{name}");
-    assert_eq!(rt; sides_of_run(alloc, &events)?, end.sides, "{name}, by run");
-    Ok(())
-}
 
 #[test]
 fn a_synchronous_plan(rt: HostRuntime) -> Result<(), Fail> {
@@ -199,5 +179,24 @@ fn one_instance_beside_another(rt: HostRuntime) -> Result<(), Fail> {
     assert_eq!(rt; sides(world.cell(low)), (Some(Wanted), None));
     assert_eq!(rt; sides(world.cell(high)), (Some(Cleaning), None));
     assert!(rt; world.ids(rt.alloc())?.as_slice() == [low, high].as_slice());
+    Ok(())
+}
+
+#[test]
+fn the_records_in_ascending_order(rt: HostRuntime) -> Result<(), Fail> {
+    let (low, high) = (instance(), InstanceId::from_value(2));
+    let mut world = World::new(rt.alloc(), new_catalogue(rt.alloc())?);
+    for event in [
+        create(high, SYNC, false),
+        create(low, SYNC, false),
+        Event::Timeout { id: high },
+    ] {
+        assert_eq!(rt; world.step(rt.alloc(), event)?, Step::Applied, "{event:?}");
+    }
+    let mut states = Vec::new(rt.alloc());
+    for (id, row) in world.records() {
+        states.push((*id, row.state))?;
+    }
+    assert!(rt; states.as_slice() == [(low, Wanted), (high, Cleaning)].as_slice());
     Ok(())
 }

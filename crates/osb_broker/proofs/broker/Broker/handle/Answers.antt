@@ -9,10 +9,10 @@ pub invariant_of-self-2 : goal.invariant_of-self-2
 invariant_of-self-2 c =
     let cat = c.self.inside.catalogue in
     let id = c.args.request.now.id in
-    let before = subst (λ r. IfSome r (IsHeld cat)) (sym c.get-row.ensures) (c.self.invariant id) in
+    let before = subst (λ r. IfSome r (IsHeld cat)) (sym c.get-row.ensures.found) (c.self.invariant id) in
     let decided = handled_held cat c.get-row.result c.args.request.now c.args.outcome before in
     let written =
-    c.in_ok-apply.ensures.row ∙ ap (row_after c.decide-decision.result.change) (sym c.get-row.ensures) ∙ c.decide-decision.ensures.row in
+    c.in_ok-apply.ensures.row ∙ ap (row_after c.decide-decision.result.change) (sym c.get-row.ensures.found) ∙ c.decide-decision.ensures.row in
     each_held cat c.self.inside.rows c.apply.new.rows id c.self.invariant
     (subst (λ r. IfSome r (IsHeld cat)) (sym written) decided)
     c.apply.ensures.others

@@ -5,4 +5,4 @@ use Rattle.osb_message.proofs.Maps.{get-tree}
 use Rattle.osb_message.proofs.rows.Rows.get.Goals as goal
 
 pub returns : goal.returns
-returns g c = c.copied.ensures ∙ c.get.ensures.value ∙ sym (get-tree nat_cmp_total c.self.inside.tree c.args.id) ∙ ap (λ m. get m c.args.id) c.self.view_is
+returns g c = record { found = c.copied.ensures ∙ c.get.ensures.value ∙ sym (get-tree nat_cmp_total c.self.inside.tree c.args.id) ∙ ap (λ m. get m c.args.id) c.self.view_is }

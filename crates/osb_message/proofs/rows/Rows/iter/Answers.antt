@@ -6,5 +6,4 @@ use Rattle.osb_message.proofs.Maps.{entries-tree}
 use Rattle.osb_message.proofs.rows.Rows.iter.Goals as goal
 
 pub returns : goal.returns
-returns g c =
-    c.iter.ensures.rest ∙ sym (entries-tree nat_cmp_total exact_unsigned c.self.inside.tree c.iter.ensures.ordered) ∙ ap entries c.self.view_is
+returns g c = record { entries = c.entries_of.ensures.entries ∙ sym (entries-tree nat_cmp_total exact_unsigned c.self.inside.tree c.entries_of.ensures.ordered) ∙ ap entries c.self.view_is }

@@ -1,11 +1,10 @@
-use Rattle.std.proofs.Common.{subst, ℕ}
-use Rattle.osb_world.specs.declared.parts.Parts.{Parts}
-use Rattle.osb_world.specs.Agreement.{Agrees}
-use Rattle.osb_world.specs.Views.{catalogue_of, cell_at}
+use Rattle.std.proofs.Common.{subst}
+use Rattle.osb_world.specs.Views.{IsSound}
 use Rattle.osb_world.proofs.Agreements.{agrees}
 use Rattle.osb_world.proofs.world.World.agreement.Goals as goal
 
-pub returns : goal.returns
-returns c =
-    subst (λ (parts : Parts). (id : ℕ) → Agrees (cell_at parts id)) c.self.view_is
-    (λ id. agrees (catalogue_of c.self.inside.parts) id (cell_at c.self.inside.parts id) (c.self.invariant.possible id))
+pub returns-clause-possible : goal.returns-clause-possible
+returns-clause-possible c = (subst IsSound c.self.view_is c.self.invariant).possible
+
+pub returns-clause-agrees : goal.returns-clause-agrees
+returns-clause-agrees c = λ id. let sound = subst IsSound c.self.view_is c.self.invariant in agrees _ id _ (sound.possible id)

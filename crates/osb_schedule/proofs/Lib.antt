@@ -1,0 +1,8 @@
+pub mod Cutting
+pub mod Explaining
+pub mod Reading
+pub mod Reporting
+pub mod Running
+pub mod Runs
+pub mod Spelling
+pub mod Splitting

@@ -1,0 +1,14 @@
+-- What is read is what the line says.
+use Rattle.std.proofs.Common.{◌≡◌, ◌≤◌, length, rules, true, sym, ap, ◌∙◌, arith}
+use Rattle.osb_schedule.specs.Language.{is_ascii, line_of, spelled}
+use Rattle.osb_schedule.specs.Words.{words_of}
+use Rattle.osb_schedule.specs.declared.limits.TheConstants.{LONGEST_LINE}
+use Rattle.osb_schedule.proofs.Spelling.{line_of-words, says_iff}
+use Rattle.osb_schedule.proofs.language.read_line.Goals as goal
+
+pub returns-clause-says : goal.returns-clause-says
+returns-clause-says c =
+    let short : length c.args.line.now ≤ LONGEST_LINE = omega arith in
+    let ascii : is_ascii c.args.line.now ≡ true = search rules in
+    says_iff c.args.line.now c.read_words.result
+    (c.read_words.ensures ∙ ap (λ bytes. spelled (words_of bytes)) c.without_carriage_return.ensures ∙ sym (line_of-words c.args.line.now short ascii))

@@ -1,0 +1,13 @@
+pub mod Conversions
+pub mod Device
+pub mod Faults
+pub mod Fields
+pub mod Language
+pub mod Lines
+pub mod Reading
+pub mod Replay
+pub mod Report
+pub mod Run
+pub mod Schedule
+pub mod Spelling
+pub mod Words

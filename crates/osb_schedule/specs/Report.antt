@@ -1,0 +1,90 @@
+-- The report of a schedule (this project's choice).
+use Rattle.std.specs.Prelude.{◌≡◌, ◌↔◌, Bool, true, false, Contains, IsSome, IsTrue, ℕ, ◌+◌, ◌-◌, ◌==◌, cond, List, [], ◌∷◌, ◌++◌, length, Option, Some, None, codes}
+use Rattle.std.specs.FinMap as map
+use Rattle.std.specs.Fmt.{decimal}
+use Rattle.std.specs.List.{flat_map, list_any}
+use Rattle.std.specs.List.Sorted.{IsStrictlySortedBy}
+use Rattle.std.specs.Ordering.{nat_cmp}
+use Rattle.osb_message.specs.IdText.{id_text}
+use Rattle.osb_broker.specs.declared.row.BrokerRow.{BrokerRow}
+use Rattle.osb_broker.specs.Answers.{Catalogue}
+use Rattle.osb_broker.specs.Words.{phase_word}
+use Rattle.osb_platform.specs.declared.row.PlatformRow.{PlatformRow}
+use Rattle.osb_platform.specs.SavedRecord.{saved_text}
+use Rattle.osb_platform.specs.State.{state_word}
+use Rattle.osb_world.specs.declared.cell.Cell.{Cell}
+use Rattle.osb_world.specs.declared.event.Event.{Event}
+use Rattle.osb_world.specs.Events.{applies_at, cell_after}
+use Rattle.osb_world.specs.Views.{WorldState, cell_at}
+use Rattle.osb_schedule.specs.declared.options.Options.{Options}
+use Rattle.osb_schedule.specs.Lines.{lines}
+use Rattle.osb_schedule.specs.Schedule.{catalogue_in, events_in}
+
+-- what the platform records, in a word
+abbrev pub record_word : Option PlatformRow → List ℕ
+record_word None = []
+record_word (Some row) = state_word row.state
+
+-- what the broker holds, in a word
+abbrev pub broker_word : Option BrokerRow → List ℕ
+broker_word None = codes "none"
+broker_word (Some row) = phase_word row.phase
+
+-- the line of an instance: ID STATE BROKER
+abbrev pub id_line : ℕ → Cell → List ℕ
+id_line id cell = id_text id ++ 32 ∷ record_word cell.platform ++ 32 ∷ broker_word cell.broker ++ 10 ∷ []
+
+-- the line of a count
+abbrev pub count_line : List ℕ → ℕ → List ℕ
+count_line name count = name ++ 32 ∷ decimal count ++ 10 ∷ []
+
+-- how many of the events that follow these apply to their instance, each after all before it
+abbrev pub applied_after : Catalogue → List Event → List Event → ℕ
+applied_after cat before [] = 0
+applied_after cat before (event ∷ events) =
+    cond (applies_at (λ id. cell_after cat id before) event) 1 0 + applied_after cat (before ++ event ∷ []) events
+
+-- how many of the events apply
+abbrev pub applied_count : Catalogue → List Event → ℕ
+applied_count cat events = applied_after cat [] events
+
+-- whether the event asks for an instance of the id
+abbrev pub creates : ℕ → Event → Bool
+creates q (Event.Create id service plan accepts) = id == q
+creates q event = false
+
+-- the ids that some Create names, ascending and once
+pub record AreCreated (events : List Event) (ids : List ℕ) : Type 0 where
+  pub ascending : IsStrictlySortedBy nat_cmp ids
+  pub created : (q : ℕ) → Contains ids q ↔ IsTrue (list_any (creates q) events)
+
+-- what the platform records after these events
+abbrev pub AreRecords : Catalogue → List Event → map.FinMap nat_cmp PlatformRow → Type 0
+AreRecords cat events rows = (q : ℕ) → map.get rows q ≡ (cell_after cat q events).platform
+
+-- the line of the saved record, where it is asked for
+abbrev pub saved_line : Bool → map.FinMap nat_cmp PlatformRow → List ℕ
+saved_line true rows = saved_text rows ++ 10 ∷ []
+saved_line false rows = []
+
+-- a line for each of these ids, then the two counts, then the saved record where it is asked for
+abbrev pub report_text : Catalogue → List Event → List ℕ → Bool → map.FinMap nat_cmp PlatformRow → List ℕ
+report_text cat events ids saved rows =
+    flat_map (λ id. id_line id (cell_after cat id events)) ids
+    ++ count_line (codes "applied") (applied_count cat events)
+    ++ count_line (codes "skipped") (length events - applied_count cat events)
+    ++ saved_line saved rows
+
+-- the report of a schedule without a fault: its lines are for exactly the created ids
+pub record IsReport (options : Options) (bytes text : List ℕ) : Type 0 where
+  pub ids : List ℕ
+  pub rows : map.FinMap nat_cmp PlatformRow
+  pub created : AreCreated (events_in (lines bytes)) ids
+  pub recorded : AreRecords (catalogue_in (lines bytes)) (events_in (lines bytes)) rows
+  pub written : text ≡ report_text (catalogue_in (lines bytes)) (events_in (lines bytes)) ids options.saved rows
+
+-- a line for each recorded instance of the world, ascending
+abbrev pub AreIdLines : WorldState → List ℕ → Type 0
+AreIdLines world text =
+    (ids : List ℕ) × IsStrictlySortedBy nat_cmp ids × ((q : ℕ) → Contains ids q ↔ IsSome (cell_at world q).platform)
+    × (text ≡ flat_map (λ id. id_line id (cell_at world id)) ids)

@@ -1,0 +1,46 @@
+-- What the lines so far have done.
+use Rattle.std.specs.Prelude.{◌≡◌, ℕ, ◌+◌, ◌<◌, List, [], Option, Some, None, length, ⊤}
+use Rattle.osb_broker.specs.Answers.{Catalogue}
+use Rattle.osb_world.specs.declared.event.Event.{Event}
+use Rattle.osb_world.specs.Events.{cell_after}
+use Rattle.osb_world.specs.Views.{WorldState, catalogue_of, cell_at}
+use Rattle.osb_schedule.specs.declared.faults.LineFault.{LineFault}
+use Rattle.osb_schedule.specs.declared.faults.ScheduleFault.{ScheduleFault}
+use Rattle.osb_schedule.specs.declared.faults.ScheduleFault.TheVariants.{At, Memory}
+use Rattle.osb_schedule.specs.declared.run.Ended.{Ended}
+use Rattle.osb_schedule.specs.declared.run.Run.{Run}
+use Rattle.osb_schedule.specs.Report.{applied_count}
+use Rattle.osb_schedule.specs.Schedule.{catalogue_in, events_in}
+
+-- a world with this catalogue, after these events
+abbrev pub IsWorldAfter : Catalogue → List Event → WorldState → Type 0
+IsWorldAfter cat events world = (catalogue_of world ≡ cat) × ((q : ℕ) → cell_at world q ≡ cell_after cat q events)
+
+-- there is no world before the first event, and it has the whole catalogue from then on
+abbrev pub IsWorldOf : Catalogue → List Event → Catalogue → Option WorldState → Type 0
+IsWorldOf cat events plans None = (events ≡ []) × (plans ≡ cat)
+IsWorldOf cat events plans (Some world) = (0 < length events) × IsWorldAfter cat events world
+
+-- the counts of these events: n applied, and m didn't
+pub record AreCounts (cat : Catalogue) (events : List Event) (n m : ℕ) : Type 0 where
+  pub applied : n ≡ applied_count cat events
+  pub all : n + m ≡ length events
+
+-- the run of a schedule with this catalogue and these events
+pub record IsRunOf (cat : Catalogue) (events : List Event) (run : Run) : Type 0 where
+  pub world : IsWorldOf cat events run.catalogue run.world
+  pub counts : AreCounts cat events run.applied run.skipped
+
+-- the run of these lines
+abbrev pub HasRun : List (List ℕ) → Run → Type 0
+HasRun lines run = IsRunOf (catalogue_in lines) (events_in lines) run
+
+-- what these lines leave
+pub record IsEndOf (lines : List (List ℕ)) (ended : Ended) : Type 0 where
+  pub world : IsWorldAfter (catalogue_in lines) (events_in lines) ended.world
+  pub counts : AreCounts (catalogue_in lines) (events_in lines) ended.applied ended.skipped
+
+-- the own fault of the line of this number, or want of memory
+abbrev pub IsLineFault : ℕ → Option LineFault → ScheduleFault → Type 0
+IsLineFault number own (At line fault) = (line ≡ number) × (own ≡ Some fault)
+IsLineFault number own Memory = ⊤

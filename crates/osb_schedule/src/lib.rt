@@ -1,0 +1,51 @@
+//! Schedules: what happens between a platform and a broker, a line each, read from any reader, run
+//! on a world of both, and reported.
+//!
+//! [`replay`] does all of it, over an [`Input`] and an [`Output`], which wrap any reader and writer
+//! and ask them no more once they have failed. It keeps the world of the schedule's instances, the
+//! line that it reads, and nothing else of the input, however long that is:
+//!
+//! ```
+//! // What a schedule read from standard input comes to, on standard output.
+//! let mut reader = Input::new(rt.stdin());
+//! let mut writer = Output::new(rt.stdout());
+//! match replay(rt.alloc(), &mut reader, &mut writer, Options { saved: false }) {
+//!     Ok(()) => {}
+//!     // The number of the first faulty line, and what is wrong with it.
+//!     Err(ReplayFault::Schedule { line, fault }) => eprintln!(rt; "{line}: {fault}")?,
+//!     // A failed read or write, or no memory.
+//!     Err(fault) => return Ok(ExitCode::from(status_of(&fault))),
+//! }
+//! ```
+//!
+//! A schedule that begins with a plan line, creates an instance of the plan, has the request
+//! delivered and its answer taken, is reported as `ID ready ready`, `applied 3` and `skipped 0`, a
+//! line each. What the events do is `osb_world`'s to say. The language, the report and the statuses
+//! are this project's choice.
+//!
+//! Only [`replay`] takes memory.
+#![tactic(auto)]
+
+mod faults;
+mod fields;
+mod input;
+mod language;
+mod limits;
+mod line_reader;
+mod options;
+mod output;
+mod replaying;
+mod report;
+mod run;
+mod words;
+mod writing;
+
+pub use faults::{DeviceFault, LineFault, ReplayFault, ScheduleFault, status_of};
+pub use input::Input;
+pub use language::{Line, read_line};
+pub use options::Options;
+pub use output::Output;
+pub use replaying::replay;
+
+#[cfg(test)]
+mod tests;

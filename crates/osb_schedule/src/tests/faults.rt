@@ -1,0 +1,65 @@
+//! The texts, the numbers and the statuses of the faults.
+use crate::{DeviceFault, LineFault, ReplayFault, ScheduleFault, status_of};
+use std::test::Fail;
+
+#[test]
+fn texts_and_statuses_of_faults(rt: HostRuntime) -> Result<(), Fail> {
+    let fault = LineFault::LineTooLong;
+    let cases = [
+        (
+            ReplayFault::Schedule { line: 3, fault },
+            "line 3: LineTooLong",
+            1,
+        ),
+        (ReplayFault::Read, "read failed", 3),
+        (ReplayFault::Write, "write failed", 4),
+        (ReplayFault::Memory, "out of memory", 5),
+    ];
+    for (fault, text, status) in cases {
+        assert!(rt; fault.to_string(rt.alloc())?.as_str() == text, "{text}");
+        assert!(rt; status_of(&fault) == status, "{text}");
+    }
+    assert!(rt; DeviceFault.to_string(rt.alloc())?.as_str() == "DeviceFault");
+    Ok(())
+}
+
+#[test]
+fn faults_of_schedules(rt: HostRuntime) -> Result<(), Fail> {
+    let fault = LineFault::BadId;
+    let found = ScheduleFault::At {
+        line: 100_001,
+        fault,
+    };
+    assert!(rt; found.to_string(rt.alloc())?.as_str() == "line 100001: BadId");
+    assert!(rt;
+        ReplayFault::from(found)
+            == ReplayFault::Schedule {
+                line: 100_001,
+                fault
+            }
+    );
+    let found = ScheduleFault::Memory;
+    assert!(rt; found.to_string(rt.alloc())?.as_str() == "out of memory");
+    assert!(rt; ReplayFault::from(found) == ReplayFault::Memory);
+    Ok(())
+}
+
+#[test]
+fn faults_of_lines_have_their_numbers_and_names(rt: HostRuntime) -> Result<(), Fail> {
+    let cases = [
+        (LineFault::NotAscii, 1, "NotAscii"),
+        (LineFault::LineTooLong, 2, "LineTooLong"),
+        (LineFault::UnknownWord, 3, "UnknownWord"),
+        (LineFault::WordCount, 4, "WordCount"),
+        (LineFault::BadId, 5, "BadId"),
+        (LineFault::BadChoice, 6, "BadChoice"),
+        (LineFault::LatePlan, 7, "LatePlan"),
+        (LineFault::DuplicatePlan, 8, "DuplicatePlan"),
+        (LineFault::TooManyLines, 9, "TooManyLines"),
+    ];
+    for (fault, number, name) in cases {
+        assert!(rt; fault as u8 == number, "{name}");
+        assert!(rt; fault.to_string(rt.alloc())?.as_str() == name, "{name}");
+    }
+    Ok(())
+}

@@ -1,0 +1,18 @@
+use Rattle.std.proofs.Common.{◌∙◌, ap, refl}
+use Rattle.std.specs.Prelude.{option_map}
+use Rattle.std.specs.FinMap.{get}
+use Rattle.osb_world.specs.Entries.{id_of, messages_of, silence, silenced}
+use Rattle.osb_world.proofs.Ascents.{get-filled, ascending-filled, rows}
+use Rattle.osb_world.proofs.message_list.MessageList.silence_all.Goals as goal
+
+pub invariant_of-self : goal.invariant_of-self
+invariant_of-self c =
+    rw c.silence_entries.ensures.silenced (ascending-filled id_of messages_of silenced (λ e. refl) c.self.inside.entries.items c.self.invariant)
+
+pub returns : goal.returns
+returns c = record {
+  silenced = λ q.
+      ap (λ es. get (rows id_of messages_of es) q) c.silence_entries.ensures.silenced
+      ∙ get-filled id_of messages_of silenced silence (λ e. refl) (λ e. refl) c.self.inside.entries.items q
+      ∙ ap (λ m. option_map (λ _. silence) (get m q)) c.self.view_is;
+}

@@ -1,0 +1,100 @@
+use super::{events_of, is_told, new_catalogue, sides, told_through};
+use crate::{Event, Step, World};
+use osb_broker::Phase;
+use osb_message::Answer;
+use osb_message::Body::{Empty, Malformed};
+use osb_platform::State::{Cleaning, Polling, Ready, Wanted};
+use std::test::Fail;
+
+#[test]
+fn gateway_errors(rt: HostRuntime) -> Result<(), Fail> {
+    let (ready, making) = (Some(Phase::Ready), Some(Phase::Making));
+    for (told, story) in [
+        (
+            ("in place of the broker", 502, Malformed, Cleaning, None),
+            "create-sync gateway-502 answer",
+        ),
+        (
+            ("in place of its answer", 503, Malformed, Cleaning, ready),
+            "create-sync deliver gateway-503 answer",
+        ),
+        (
+            ("before the delivery", 201, Empty, Ready, ready),
+            "create-sync gateway-502 deliver answer",
+        ),
+        (
+            (
+                "and the request arrives after it",
+                502,
+                Malformed,
+                Cleaning,
+                ready,
+            ),
+            "create-sync gateway-502 repeat answer",
+        ),
+        (
+            ("to a Poll", 504, Malformed, Polling, making),
+            "create-async deliver answer send gateway-504 answer",
+        ),
+        (
+            ("to a Deprovision", 500, Malformed, Cleaning, None),
+            "create-sync restart send gateway-500 answer",
+        ),
+        (
+            ("of the lowest status", 500, Malformed, Wanted, None),
+            "create-sync gateway-500",
+        ),
+        (
+            ("of the highest status", 599, Malformed, Wanted, None),
+            "create-sync gateway-599",
+        ),
+    ] {
+        is_told(&rt, rt.alloc(), told, story)?;
+    }
+    Ok(())
+}
+
+#[test]
+fn no_gateway_error(rt: HostRuntime) -> Result<(), Fail> {
+    let events = events_of(&rt, rt.alloc(), "gateway-502")?;
+    let end = told_through(rt.alloc(), &events)?;
+    assert_eq!(rt; (end.applied, end.skipped), (0, 1), "with nothing out");
+    assert_eq!(rt; end.sides, (None, None));
+    for (story, skipped) in [
+        ("create-sync gateway-499", "a status below 500"),
+        ("create-sync gateway-600", "a status above 599"),
+        ("create-sync deliver answer gateway-502", "after the answer"),
+    ] {
+        let events = events_of(&rt, rt.alloc(), story)?;
+        let end = told_through(rt.alloc(), &events)?;
+        assert_eq!(rt; end.skipped, 1, "{skipped}");
+    }
+    Ok(())
+}
+
+// What was sent stays out, and can be answered by a gateway again and again.
+#[test]
+fn one_gateway_error_after_another(rt: HostRuntime) -> Result<(), Fail> {
+    let mut world = World::new(rt.alloc(), new_catalogue(rt.alloc())?);
+    let events = events_of(
+        &rt,
+        rt.alloc(),
+        "create-sync deliver gateway-500 gateway-599",
+    )?;
+    for event in &events {
+        assert_eq!(rt; world.step(rt.alloc(), *event)?, Step::Applied, "{event:?}");
+    }
+    let cell = world.cell(super::instance());
+    assert_eq!(rt; sides(cell), (Some(Wanted), Some(Phase::Ready)));
+    assert!(rt; cell.out.is_some());
+    let answer = Answer {
+        status: 599,
+        body: Malformed,
+    };
+    assert_eq!(rt; cell.travelling, Some(answer));
+    let lost = Event::Lose {
+        id: super::instance(),
+    };
+    assert_eq!(rt; world.step(rt.alloc(), lost)?, Step::Applied);
+    Ok(())
+}

@@ -1,0 +1,64 @@
+# What the built program was made of. Read by the launcher, and by check, which marks the program that
+# the gate has proved and built as the current one. $top is the folder of the repository.
+out=$top/crates/osb_replay/out
+program=$out/osb_replay
+built=$out/built
+
+# The crates that the program is made of, lowest first. crates.txt has a line 'NAME: DEP DEP ..' for
+# each crate; a DEP without a line is the kit's.
+crates() {
+    awk '
+        function visit(name, deps, count, i) {
+            if (!(name in below) || seen[name]++) return
+            count = split(below[name], deps, " ")
+            for (i = 1; i <= count; i++) visit(deps[i])
+            print name
+        }
+        { sub(/#.*/, "") }
+        /:/ { name = $1; sub(/:.*/, "", name); sub(/^[^:]*:/, ""); below[name] = $0 }
+        END { visit("osb_replay") }' "$top/crates.txt"
+}
+
+# A digest of the names and contents of the sources. It fails where one of them can't be read.
+sources() (
+    set -o pipefail
+    cd "$top" || exit 1
+    names=$(crates) || exit 1
+    parts=(crates.txt)
+    for name in $names; do
+        for part in src specs proofs; do
+            [ ! -e "crates/$name/$part" ] || parts+=("crates/$name/$part")
+        done
+    done
+    find "${parts[@]}" ! -type d -print0 | LC_ALL=C sort -z | xargs -0 sha256sum | sha256sum
+)
+
+# The kit's version. What stands on standard input is the program's, and rt must not read of it.
+version() {
+    rt version </dev/null
+}
+
+# Which kit there is, or nothing where there is no rt: the two files that tell it, without the third of
+# a second that rt takes to say its version; where they aren't there, the version.
+kit() {
+    local rt files
+    rt=$(command -v rt) && rt=$(readlink -f "$rt") || return 0
+    files=$(stat -L -c '%n %i %s %Z' "$rt" "${rt%/*/*}/KIT-ID" 2>/dev/null) || files=$(version)
+    echo "${files//$'\n'/ }"
+}
+
+# is_current SOURCES: whether the program is what a build from these sources by this kit gave. A
+# program whose kit isn't there any more is current too.
+is_current() {
+    local old_sources old_program old_version old_kit kit
+    [ -x "$program" ] && [ -r "$built" ] || return 1
+    { read -r old_sources && read -r old_program && read -r old_version && read -r old_kit; } <"$built" || return 1
+    [ "$old_sources" = "$1" ] && [ "$old_program" = "$(sha256sum <"$program")" ] || return 1
+    kit=$(kit)
+    [ -z "$kit" ] || [ "$old_kit" = "$kit" ] || [ "$old_version" = "$(version)" ]
+}
+
+# mark SOURCES VERSION KIT: the program was built from these sources by this kit.
+mark() {
+    printf '%s\n' "$1" "$(sha256sum <"$program")" "$2" "$3" >"$built.new" && mv "$built.new" "$built"
+}
