@@ -368,6 +368,7 @@ impl Parts {
             Event::Restart => self.restart(alloc),
         }
     }
+
     // A fault-free round of an instance. After the Timeout no Provision is out, and no other request
     // makes a broker's row: so the delivery finds no want of memory.
     pub(crate) fn round(&mut self, id: InstanceId)
@@ -385,6 +386,7 @@ impl Parts {
         };
         self.answer(id);
     }
+
     // Three fault-free rounds of an instance.
     pub(crate) fn settle(&mut self, id: InstanceId)
         requires sound { IsSound self.old }

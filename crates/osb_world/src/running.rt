@@ -11,9 +11,8 @@ use std::alloc::Global;
 /// A new world with this catalogue, stepped through the events (this project's choice).
 ///
 /// The cell of each id is that of its own events alone. Whatever the events are, and in whatever
-/// order, platform and broker agree on every id then: where the platform records `ready`, the broker
-/// holds the instance, complete, with that service and plan; where the platform records `gone`, or
-/// nothing, the broker holds none.
+/// order, platform and broker agree on every id then, in the sense of the [crate](crate)'s first
+/// page.
 ///
 /// # Errors
 ///

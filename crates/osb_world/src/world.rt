@@ -82,9 +82,7 @@ impl World {
 
     /// All that there is of an instance. It takes no memory.
     ///
-    /// Platform and broker agree on it: where the platform records `ready`, the broker holds the
-    /// instance, complete, with that service and plan; where the platform records `gone`, or
-    /// nothing, the broker holds none.
+    /// Platform and broker agree on it, in the sense of the [crate](crate)'s first page.
     pub fn cell(&self, id: InstanceId) -> Cell
         ensures cell { result ≡ cell_at self.now id }
         ensures possible { IsPossible (catalogue_of self.now) id result }

@@ -180,8 +180,8 @@ fn an_instance_in_each_state_is_loaded(rt: HostRuntime) -> Result<(), Fail> {
 // A hundred instances of the service a0 and its plan b1, in `wanted`.
 fn hundred(alloc: Global) -> Result<String, Fail> {
     let mut members = Vec::new(alloc);
-    for id in 1..101 {
-        members.push((id, "wanted", State::Wanted))?;
+    for id in 1..101u64 {
+        members.push((u128::from(id), "wanted", State::Wanted))?;
     }
     text_of(alloc, members.as_slice())
 }
@@ -190,11 +190,11 @@ fn hundred(alloc: Global) -> Result<String, Fail> {
 fn a_hundred_instances_are_saved(rt: HostRuntime) -> Result<(), Fail> {
     let alloc = rt.alloc();
     let mut platform = Platform::new(alloc);
-    for below in 0..100 {
+    for below in 0..100u64 {
         provision(
             &rt,
             &mut platform,
-            InstanceId::from_value(100 - below),
+            InstanceId::from_value(u128::from(100 - below)),
             None,
         );
     }
@@ -208,13 +208,13 @@ fn a_hundred_instances_are_loaded(rt: HostRuntime) -> Result<(), Fail> {
     let Ok(mut platform) = Platform::load(alloc, hundred(alloc)?.as_str()) else {
         panic!(rt; "the text isn't loaded");
     };
-    let mut next = 1;
-    for (id, found) in platform.rows() {
-        assert!(rt; *id == InstanceId::from_value(next), "{next}");
-        assert!(rt; *found == row(State::Cleaning), "{next}");
-        next += 1;
+    let mut rows = platform.rows();
+    for number in 1..101u64 {
+        let id = InstanceId::from_value(u128::from(number));
+        let expected = row(State::Cleaning);
+        assert!(rt; rows.next() == Some((&id, &expected)), "{number}");
     }
-    assert_eq!(rt; next, 101);
+    assert!(rt; rows.next().is_none());
     let sent = platform.send(InstanceId::from_value(100));
     assert!(rt; sent.is_ok_and(|request| request.kind == Kind::Deprovision));
     Ok(())

@@ -46,12 +46,12 @@ fn request(kind: Kind) -> Request {
 }
 
 // A hundred instances, each with a plan of its own, the highest id first.
-const HUNDRED: u128 = 100;
+const HUNDRED: u64 = 100;
 
 fn hundred(rt: &impl Abort, alloc: Global) -> Platform {
     let mut platform = Platform::new(alloc);
     for below in 0..HUNDRED {
-        let id = HUNDRED - below;
+        let id = u128::from(HUNDRED - below);
         let (instance, plan) = (InstanceId::from_value(id), PlanId::from_value(1000 + id));
         assert!(rt;
             platform.create(instance, service(), plan, true).is_ok(),
@@ -59,6 +59,16 @@ fn hundred(rt: &impl Abort, alloc: Global) -> Platform {
         );
     }
     platform
+}
+
+// The record of one of the hundred.
+fn wanted_by_its_own_plan(number: u64) -> PlatformRow {
+    PlatformRow {
+        service: service(),
+        plan: PlanId::from_value(1000 + u128::from(number)),
+        state: State::Wanted,
+        out: Some(Kind::Provision),
+    }
 }
 
 fn recorded(state: State, out: Option<Kind>) -> Option<PlatformRow> {
@@ -189,25 +199,15 @@ fn a_hundred_instances(rt: HostRuntime) -> Result<(), Fail> {
     let platform = hundred(&rt, rt.alloc());
     let ids = platform.ids(rt.alloc())?;
     assert_eq!(rt; ids.len(), 100);
-    let mut next = 1;
-    for (id, row) in platform.rows() {
-        let expected = PlatformRow {
-            service: service(),
-            plan: PlanId::from_value(1000 + next),
-            state: State::Wanted,
-            out: Some(Kind::Provision),
-        };
-        assert!(rt; *id == InstanceId::from_value(next), "{next}");
-        assert!(rt; *row == expected, "{next}");
-        assert!(rt; platform.row(*id) == Some(expected), "{next}");
-        next += 1;
+    let (mut ids, mut rows) = (ids.iter(), platform.rows());
+    for number in 1..HUNDRED + 1 {
+        let id = InstanceId::from_value(u128::from(number));
+        let expected = wanted_by_its_own_plan(number);
+        assert!(rt; ids.next() == Some(&id), "{number}");
+        assert!(rt; rows.next() == Some((&id, &expected)), "{number}");
+        assert!(rt; platform.row(id) == Some(expected), "{number}");
     }
-    assert_eq!(rt; next, 101);
-    let mut expected = 1;
-    for id in ids {
-        assert!(rt; id == InstanceId::from_value(expected), "{expected}");
-        expected += 1;
-    }
+    assert!(rt; rows.next().is_none());
     Ok(())
 }
 

@@ -7,28 +7,33 @@ use std::alloc::{AllocError, Global};
 use std::test::Fail;
 
 // Some instances whose ids come in no order.
-const COUNT: u128 = 400;
+const COUNT: u64 = 400;
 
-fn scattered(number: u128) -> InstanceId {
-    InstanceId::from_value(number.wrapping_mul(0x9e37_79b9_7f4a_7c15_f39c_c060_5ced_c835))
+fn scattered(number: u64) -> InstanceId {
+    let far = u128::from(number).wrapping_mul(0x9e37_79b9_7f4a_7c15_f39c_c060_5ced_c835);
+    InstanceId::from_value(far)
 }
 
-// Each instance is made, and of every second one the answer is lost.
+// What happens to an instance in each round: it is made, its request comes twice, and of every second
+// one the answer is lost.
+fn event_of(round: u32, number: u64) -> Event {
+    let id = scattered(number);
+    let outcome = Outcome::Done;
+    match round {
+        0 => create(id, SYNC, false),
+        1 => Event::Deliver { id, outcome },
+        2 => Event::Repeat { id, outcome },
+        3 if number % 2 == 0 => Event::Lose { id },
+        _ => Event::Answer { id },
+    }
+}
+
+// Round after round of all instances.
 fn lives(alloc: Global) -> Result<Vec<Event>, AllocError> {
     let mut events = Vec::new(alloc);
-    for number in 0..COUNT {
-        events.push(create(scattered(number), SYNC, false))?;
-    }
-    for round in 0..4 {
+    for round in 0..5 {
         for number in 0..COUNT {
-            let id = scattered(number);
-            let outcome = Outcome::Done;
-            events.push(match round {
-                0 => Event::Deliver { id, outcome },
-                1 => Event::Repeat { id, outcome },
-                2 if number % 2 == 0 => Event::Lose { id },
-                _ => Event::Answer { id },
-            })?;
+            events.push(event_of(round, number))?;
         }
     }
     Ok(events)
