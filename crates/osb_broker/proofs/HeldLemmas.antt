@@ -15,7 +15,8 @@ use Rattle.osb_broker.specs.declared.row.BrokerRow.{BrokerRow}
 use Rattle.osb_broker.specs.declared.row.Phase.{Phase}
 use Rattle.osb_broker.specs.Answers.{Catalogue, Handled, mode_of, same_plan}
 use Rattle.osb_broker.specs.Provision.{provision_at, accepted_provision, first_provision, new_row}
-use Rattle.osb_broker.specs.Deprovision.{deprovision_at, own_deprovision, accepted_deprovision, first_deprovision, row_after_deletion}
+use Rattle.osb_broker.specs.Deprovision.{deprovision_at, own_deprovision, accepted_deprovision, first_deprovision}
+use Rattle.osb_broker.specs.Deprovision.{row_after_deletion}
 use Rattle.osb_broker.specs.Handled.{handled, handled_as}
 use Rattle.osb_broker.specs.Held.{IsHeld, IsHeldAt}
 

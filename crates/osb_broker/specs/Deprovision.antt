@@ -29,9 +29,7 @@ first_deprovision Mode.Async row Done = row_and_answer (row_after_deletion Mode.
 abbrev pub accepted_deprovision : Mode → BrokerRow → Phase → Outcome → Handled
 accepted_deprovision mode row Phase.Making outcome = row_and_answer (Some row) (error 422 ConcurrencyError)
 accepted_deprovision mode row Phase.Deleting outcome = row_and_answer (Some row) (empty 202)
-accepted_deprovision mode row Phase.Ready outcome = first_deprovision mode row outcome
-accepted_deprovision mode row Phase.Failed outcome = first_deprovision mode row outcome
-accepted_deprovision mode row Phase.DeleteFailed outcome = first_deprovision mode row outcome
+accepted_deprovision mode row phase outcome = first_deprovision mode row outcome
 
 -- rules 3 to 9, for the service and plan that the instance was made with; no row's pair is off sale
 -- (else 400, as at a Provision)

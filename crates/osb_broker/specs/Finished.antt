@@ -9,9 +9,7 @@ use Rattle.osb_broker.specs.declared.row.Phase.{Phase}
 abbrev pub is_running_in : Phase → Bool
 is_running_in Phase.Making = true
 is_running_in Phase.Deleting = true
-is_running_in Phase.Ready = false
-is_running_in Phase.Failed = false
-is_running_in Phase.DeleteFailed = false
+is_running_in phase = false
 
 -- whether an operation runs on the instance
 abbrev pub is_running : Option BrokerRow → Bool
@@ -29,9 +27,7 @@ finished_in Phase.Making row true = Some (in_phase row Phase.Ready)
 finished_in Phase.Making row false = Some (in_phase row Phase.Failed)
 finished_in Phase.Deleting row true = None
 finished_in Phase.Deleting row false = Some (in_phase row Phase.DeleteFailed)
-finished_in Phase.Ready row ok = Some row
-finished_in Phase.Failed row ok = Some row
-finished_in Phase.DeleteFailed row ok = Some row
+finished_in phase row ok = Some row
 
 -- the instance's row after its operation has ended, or none
 abbrev pub finished : Option BrokerRow → Bool → Option BrokerRow

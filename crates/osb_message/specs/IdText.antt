@@ -1,5 +1,6 @@
 -- The text form of an id: 8, 4, 4, 4 and 12 hexadecimal digits, joined by hyphens.
-use Rattle.std.specs.Prelude.{ℕ, zero, suc, ◌*◌, ◌/◌, ◌%◌, ◌^◌, Bool, true, false, ◌&&◌, ◌||◌, ◌==◌, List, [], ◌∷◌, ◌++◌, length, map, slice_index, Option, Some, None, if◌then◌else◌, option_and_then}
+use Rattle.std.specs.Prelude.{ℕ, zero, suc, ◌*◌, ◌/◌, ◌%◌, ◌^◌, Bool, true, false, ◌&&◌, ◌||◌, ◌==◌, if◌then◌else◌}
+use Rattle.std.specs.Prelude.{List, [], ◌∷◌, ◌++◌, length, map, slice_index, Option, Some, None, option_and_then}
 use Rattle.std.specs.Int.Digits.{number_from_digits}
 use Rattle.std.specs.List.{list_all}
 use Rattle.std.specs.Str.{bytes_eq}
@@ -23,7 +24,8 @@ bytes_at places text = map (λ k. slice_index text k) places
 -- whether a text is an id's, in either case
 abbrev pub is_id_text : List ℕ → Bool
 is_id_text text =
-    (length text == 36) && list_all (λ c. c == 45) (bytes_at hyphen_places text) && list_all is_hex_digit (bytes_at digit_places text)
+    (length text == 36) && list_all (λ c. c == 45) (bytes_at hyphen_places text)
+    && list_all is_hex_digit (bytes_at digit_places text)
 
 -- the id that a text names: the number that its digits write in base 16
 unfoldable pub id_of : List ℕ → Option ℕ
@@ -43,7 +45,8 @@ hyphen_if false text = text
 
 abbrev pub low_digits : ℕ → ℕ → List ℕ
 low_digits zero n = []
-low_digits (suc k) n = hex_digit lower (nibble_of n k) ∷ hyphen_if ((k == 24) || (k == 20) || (k == 16) || (k == 12)) (low_digits k n)
+low_digits (suc k) n =
+    hex_digit lower (nibble_of n k) ∷ hyphen_if ((k == 24) || (k == 20) || (k == 16) || (k == 12)) (low_digits k n)
 
 -- the text of an id, in lower case
 unfoldable pub id_text : ℕ → List ℕ

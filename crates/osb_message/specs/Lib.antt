@@ -1,4 +1,3 @@
 pub mod Catalogue
 pub mod IdText
 pub mod Messages
-pub mod Rows

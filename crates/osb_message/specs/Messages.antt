@@ -2,23 +2,19 @@
 use Rattle.std.specs.Prelude.{Bool, true, false, ◌&&◌, ◌||◌, ◌==◌}
 use Rattle.osb_message.specs.declared.messages.Answer.{Answer}
 use Rattle.osb_message.specs.declared.messages.Body.{Body}
-use Rattle.osb_message.specs.declared.messages.Body.TheVariants.{Malformed, Empty, State, Error}
+use Rattle.osb_message.specs.declared.messages.Body.TheVariants.{Empty, State}
 use Rattle.osb_message.specs.declared.messages.Kind.{Kind}
 use Rattle.osb_message.specs.declared.messages.Kind.TheVariants.{Provision, Poll, Deprovision}
 
 -- whether the body can be read, and nothing in it is
 abbrev pub is_empty : Body → Bool
-is_empty Malformed = false
 is_empty Empty = true
-is_empty (State state) = false
-is_empty (Error code) = false
+is_empty body = false
 
 -- whether the body is the state of a last operation
 abbrev pub is_state : Body → Bool
-is_state Malformed = false
-is_state Empty = false
 is_state (State state) = true
-is_state (Error code) = false
+is_state body = false
 
 -- whether an answer to a request of a kind has a status of success and a body that can be read whole; a
 -- last operation that failed is read whole too (sections Provisioning, Polling Last Operation for Service

@@ -53,6 +53,7 @@ impl Model for Catalogue {
     ghost view = { λ a. map.from_entries a.modes.entries };
 }
 
+#[tactic(auto, using(crate::proofs::Maps::tree_steps))]
 impl Catalogue {
     /// A catalogue with no plans. It keeps the allocator for later additions, and takes no memory.
     pub fn new(alloc: Global) -> Self

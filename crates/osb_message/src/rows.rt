@@ -1,10 +1,9 @@
 //! A finite map from instance ids, in which both sides keep what they know of each instance.
-ghost use Rattle.std.specs.Prelude.{◌≡◌, ℕ, OnOk, OnErr, IsSome, IsNone, IsOk, IfOk, IfSome, option_map, map, Some};
+ghost use Rattle.std.specs.Prelude.{◌≡◌, OnOk, OnErr, IsSome, IsOk, IfOk, Some};
 ghost use Rattle.std.specs.FinMap as finite;
 ghost use Rattle.std.specs.BTreeMap as tree;
 ghost use Rattle.std.specs.List.Sorted.{IsStrictlySortedBy};
 ghost use Rattle.std.specs.Ordering.{nat_cmp};
-ghost use Rattle.osb_message.specs.Rows.{set_at};
 
 use crate::{InstanceId, Memory};
 use std::alloc::Global;
@@ -22,36 +21,6 @@ fn write_at<V: Copy>(rows: &mut BTreeMap<InstanceId, V>, id: InstanceId, value: 
     }
 }
 
-// Writes what is made of the value at a key over it, if there is one, and returns the value before.
-fn update_at<V: Copy, F: FnOnce(V) -> V>(
-    rows: &mut BTreeMap<InstanceId, V>,
-    id: InstanceId,
-    change: F,
-) -> Option<V>
-    requires callable { F.IsAlwaysCallable change }
-    ensures before { result ≡ tree.get nat_cmp rows.old id }
-    ensures absent { IsNone result → rows.new ≡ rows.old }
-    ensures written { IfSome result (λ before. (after : V) × F.post change before after
-        × tree.Updates nat_cmp rows.old rows.new id (Some after)) }
-{
-    let Some(place) = rows.get_mut(&id) else {
-        return None;
-    };
-    let before = *place;
-    *place = change(before);
-    Some(before)
-}
-
-// Writes over the value at each key.
-fn write_all<V: Copy>(rows: &mut BTreeMap<InstanceId, V>, value: V)
-    ensures each { rows.new.entries ≡ map (λ e. (e.0, value)) rows.old.entries }
-{
-    rows.retain(|_, place| {
-        *place = value;
-        true
-    });
-}
-
 // The entries, in ascending order of their keys.
 fn entries_of<V>(rows: &BTreeMap<InstanceId, V>) -> Iter<'_, InstanceId, V>
     ensures entries { result ≡ rows.now.entries }
@@ -63,7 +32,6 @@ fn entries_of<V>(rows: &BTreeMap<InstanceId, V>) -> Iter<'_, InstanceId, V>
 // The keys, ascending.
 fn keys_of<V>(alloc: Global, rows: &BTreeMap<InstanceId, V>) -> Result<Vec<InstanceId>, Memory>
     ensures keys { IfOk result (λ ids. ids.items ≡ tree.keys rows.now) }
-    ensures ascending { IfOk result (λ ids. IsStrictlySortedBy nat_cmp ids.items) }
     ensures ordered { tree.IsOrdered nat_cmp rows.now }
 {
     let Ok(ids) = rows.keys().copied().collect(alloc) else {
@@ -93,6 +61,7 @@ impl<V> Model for Rows<V> {
     ghost view = { λ a. map.from_entries a.tree.entries };
 }
 
+#[tactic(auto, using(crate::proofs::Maps::tree_steps))]
 impl<V: Copy> Rows<V> {
     /// A map with nothing in it. It keeps the allocator for later entries, and takes no memory.
     pub fn new(alloc: Global) -> Self
@@ -135,19 +104,6 @@ impl<V: Copy> Rows<V> {
         write_at(&mut self.tree, id, value);
     }
 
-    /// Writes what `change` makes of the value at the id over it, by one look-up, and returns the value
-    /// that was there. Where there is none, it returns none, `change` isn't called, and the map is as
-    /// before. It takes no memory of its own.
-    pub fn update<F: FnOnce(V) -> V>(&mut self, id: InstanceId, change: F) -> Option<V>
-        requires callable { F.IsAlwaysCallable change }
-        ensures before { result ≡ finite.get self.old id }
-        ensures absent { IsNone result → self.new ≡ self.old }
-        ensures written { IfSome result (λ before. (after : V) × F.post change before after
-            × (self.new ≡ finite.insert self.old id after)) }
-    {
-        update_at(&mut self.tree, id, change)
-    }
-
     /// Takes away what is at the id, if there is anything. It takes no memory.
     pub fn remove(&mut self, id: InstanceId)
         ensures removed { self.new ≡ finite.remove self.old id }
@@ -155,26 +111,7 @@ impl<V: Copy> Rows<V> {
         self.tree.remove(&id);
     }
 
-    /// Puts a value at the id in place of any other, or nothing.
-    ///
-    /// # Errors
-    ///
-    /// [`Memory`] where an allocation failed, which only a new entry asks for. The map is then as
-    /// before.
-    pub fn set(&mut self, id: InstanceId, value: Option<V>) -> Result<(), Memory>
-        ensures ok { OnOk result (self.new ≡ set_at self.old id value) }
-        ensures err { OnErr result (self.new ≡ self.old) }
-        ensures written { IsSome (finite.get self.old id) → IsOk result }
-        ensures removed { IsNone value → IsOk result }
-    {
-        let Some(value) = value else {
-            self.remove(id);
-            return Ok(());
-        };
-        self.insert(id, value)
-    }
-
-    /// The ids that have a value, ascending.
+    /// The ids that have a value, ascending, which is a clause of its own for callers that promise it on.
     ///
     /// # Errors
     ///
@@ -192,13 +129,6 @@ impl<V: Copy> Rows<V> {
         ensures entries { result ≡ finite.entries self.now }
     {
         entries_of(&self.tree)
-    }
-
-    /// Puts the value at each id that has one. It takes no memory.
-    pub fn fill(&mut self, value: V)
-        ensures each { (q : ℕ) → finite.get self.new q ≡ option_map (λ _. value) (finite.get self.old q) }
-    {
-        write_all(&mut self.tree, value);
     }
 }
 

@@ -1,5 +1,5 @@
 //! A platform's loop: the answer to a Provision is lost, and the platform cleans up what the broker
-//! may have made. It saves its records after each call, and before it sends or shows anything.
+//! may have made. When it saves its records is told in docs/saved-record.md.
 #![tactic(auto)]
 
 use osb_message::{Answer, Body, InstanceId, Kind, LastState, PlanId, Request, ServiceId};
@@ -15,7 +15,7 @@ enum LoopFault {
     Create(#[from] CreateFault),
     #[error("no request was sent: {0:?}")]
     Send(#[from] SendFault),
-    #[error("no request was outstanding: {0:?}")]
+    #[error("no request was out: {0:?}")]
     Answer(#[from] NoRequest),
     #[error("the records weren't saved: {0:?}")]
     Save(#[from] SaveFault),

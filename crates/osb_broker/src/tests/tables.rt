@@ -5,6 +5,7 @@ use crate::{Broker, BrokerRow, Outcome, Phase};
 use osb_message::Body::Empty;
 use osb_message::{Answer, Body, ErrorCode, Kind, LastState, Request};
 use std::alloc::Global;
+use std::process::Abort;
 use std::test::Fail;
 
 // A number that no service and no plan on sale has.
@@ -161,38 +162,37 @@ const POLL: [Case; 11] = [
     ("6, undeleted", STUCK, WAITING, Done, 200, NOT_DONE, STUCK),
 ];
 
+// One case of the table of this kind.
+fn check_case(rt: &impl Abort, alloc: Global, kind: Kind, case: Case) -> Result<(), Fail> {
+    let (rule, before, asked, outcome, status, body, after) = case;
+    let (service, plan, accepts_incomplete) = asked;
+    let request = request(kind, service, plan, accepts_incomplete);
+    let found = found(alloc, before, &request, outcome)?;
+    let wanted = (held(before), Answer { status, body }, held(after));
+    assert_eq!(rt; found, wanted, "at rule {rule}");
+    Ok(())
+}
+
 #[test]
 fn provision(rt: HostRuntime) -> Result<(), Fail> {
-    for (rule, before, asked, outcome, status, body, after) in PROVISION {
-        let (service, plan, accepts_incomplete) = asked;
-        let request = request(Kind::Provision, service, plan, accepts_incomplete);
-        let found = found(rt.alloc(), before, &request, outcome)?;
-        let wanted = (held(before), Answer { status, body }, held(after));
-        assert_eq!(rt; found, wanted, "at rule {rule}");
+    for case in PROVISION {
+        check_case(&rt, rt.alloc(), Kind::Provision, case)?;
     }
     Ok(())
 }
 
 #[test]
 fn deprovision(rt: HostRuntime) -> Result<(), Fail> {
-    for (rule, before, asked, outcome, status, body, after) in DEPROVISION {
-        let (service, plan, accepts_incomplete) = asked;
-        let request = request(Kind::Deprovision, service, plan, accepts_incomplete);
-        let found = found(rt.alloc(), before, &request, outcome)?;
-        let wanted = (held(before), Answer { status, body }, held(after));
-        assert_eq!(rt; found, wanted, "at rule {rule}");
+    for case in DEPROVISION {
+        check_case(&rt, rt.alloc(), Kind::Deprovision, case)?;
     }
     Ok(())
 }
 
 #[test]
 fn poll(rt: HostRuntime) -> Result<(), Fail> {
-    for (rule, before, asked, outcome, status, body, after) in POLL {
-        let (service, plan, accepts_incomplete) = asked;
-        let request = request(Kind::Poll, service, plan, accepts_incomplete);
-        let found = found(rt.alloc(), before, &request, outcome)?;
-        let wanted = (held(before), Answer { status, body }, held(after));
-        assert_eq!(rt; found, wanted, "at rule {rule}");
+    for case in POLL {
+        check_case(&rt, rt.alloc(), Kind::Poll, case)?;
     }
     Ok(())
 }

@@ -8,9 +8,9 @@ fn values_by_id(rt: HostRuntime) -> Result<(), Fail> {
     let (low, high) = (InstanceId::from_value(1), InstanceId::from_value(2));
     let mut rows = Rows::new(rt.alloc());
     rows.insert(high, 'a')?;
-    rows.set(low, Some('b'))?;
+    rows.insert(low, 'b')?;
     assert!(rt; rows.ids(rt.alloc())?.as_slice() == [low, high].as_slice());
-    rows.set(high, Some('c'))?;
+    rows.insert(high, 'c')?;
     assert!(rt; rows.get(high) == Some('c'));
     let mut entries = rows.iter();
     assert!(rt;
@@ -24,10 +24,9 @@ fn values_by_id(rt: HostRuntime) -> Result<(), Fail> {
             .is_some_and(|(id, value)| *id == high && *value == 'c')
     );
     assert!(rt; entries.next().is_none());
-    rows.fill('d');
-    assert!(rt; rows.get(low) == Some('d'));
-    rows.set(low, None)?;
+    rows.remove(low);
     assert!(rt; rows.get(low).is_none());
+    assert!(rt; rows.get(high) == Some('c'));
     rows.remove(high);
     assert!(rt; rows.ids(rt.alloc())?.is_empty());
     Ok(())
@@ -42,10 +41,7 @@ fn a_value_is_written_over(rt: HostRuntime) -> Result<(), Fail> {
     assert!(rt; rows.get(low).is_some());
     rows.replace(low, 'c');
     assert!(rt; rows.get(low) == Some('c'));
-    assert!(rt; rows.update(low, |_| 'd') == Some('c'));
-    assert!(rt; rows.get(low) == Some('d'));
     assert!(rt; rows.get(high) == Some('b'));
-    assert!(rt; rows.update(InstanceId::from_value(3), |_| 'e').is_none());
     assert!(rt; rows.get(InstanceId::from_value(3)).is_none());
     Ok(())
 }
@@ -90,22 +86,13 @@ fn three_hundred_rows(rt: HostRuntime) -> Result<(), Fail> {
         rows.replace(at, 1000 - n);
     }
     hold(&rt, &rows, 300, |n| 1000u64.saturating_sub(n));
-    for n in 0..300u64 {
-        assert!(rt;
-            rows.update(id(n), |value| value / 2) == Some(1000 - n),
-            "at {n}"
-        );
-    }
-    hold(&rt, &rows, 300, |n| 1000u64.saturating_sub(n) / 2);
     for n in 150..300u64 {
-        rows.set(id(n), None)?;
+        rows.remove(id(n));
     }
-    hold(&rt, &rows, 150, |n| 1000u64.saturating_sub(n) / 2);
-    rows.fill(5);
-    hold(&rt, &rows, 150, |_| 5);
+    hold(&rt, &rows, 150, |n| 1000u64.saturating_sub(n));
     for n in 0..150u64 {
         rows.remove(id(149 - n));
-        hold(&rt, &rows, 149 - n, |_| 5);
+        hold(&rt, &rows, 149 - n, |n| 1000u64.saturating_sub(n));
     }
     Ok(())
 }

@@ -1,10 +1,10 @@
 use Rattle.std.proofs.Common.{◌<◌, ◌^◌, ◌∙◌, ap, arith}
 use Rattle.osb_message.specs.IdText.{id_of_lower}
-use Rattle.osb_message.proofs.IdLemmas.{text_is, lower_reads}
+use Rattle.osb_message.proofs.IdLemmas.{same_text, lower_reads}
 use Rattle.osb_message.proofs.ids.Id.text_in.Goals as goal
 
 pub returns-clause-text : goal.returns-clause-text
-returns-clause-text g c = text_is _ _ c.encode_lower.ensures.text (c.hyphenated.ensures ∙ c.from_u128.ensures) c.self.view_is
+returns-clause-text g c = let same = same_text c.args.self.now in cc
 
 pub returns-clause-reads : goal.returns-clause-reads
 returns-clause-reads g c =
