@@ -29,14 +29,15 @@ fn entries_of<V>(rows: &BTreeMap<InstanceId, V>) -> Iter<'_, InstanceId, V>
     rows.iter()
 }
 
-// The keys, ascending.
+// The keys, ascending. `collect` would go on where its first allocation fails, and allocate piece by piece.
 fn keys_of<V>(alloc: Global, rows: &BTreeMap<InstanceId, V>) -> Result<Vec<InstanceId>, Memory>
     ensures keys { IfOk result (λ ids. ids.items ≡ tree.keys rows.now) }
     ensures ordered { tree.IsOrdered nat_cmp rows.now }
 {
-    let Ok(ids) = rows.keys().copied().collect(alloc) else {
-        return Err(Memory);
-    };
+    let mut ids = Vec::with_capacity(alloc, rows.len())?;
+    for id in rows.keys() {
+        ids.push(*id)?;
+    }
     Ok(ids)
 }
 
