@@ -27,7 +27,7 @@ fn replay_streams(rt: &HostRuntime) -> Result<(), ReplayFault> {
         rt.alloc(),
         &mut reader,
         &mut writer,
-        Options { saved: false },
+        Options { settle: false, saved: false },
     )
 }
 

@@ -1,7 +1,6 @@
 -- A schedule's fault as a replay's, and the status that a fault ends the program with.
 use Rattle.std.specs.Prelude.{ℕ}
 use Rattle.osb_schedule.specs.declared.faults.ScheduleFault.{ScheduleFault}
-use Rattle.osb_schedule.specs.declared.faults.ScheduleFault.TheVariants as ScheduleFault
 use Rattle.osb_schedule.specs.declared.faults.ReplayFault.{ReplayFault}
 use Rattle.osb_schedule.specs.declared.faults.ReplayFault.TheVariants.{Schedule, Read, Write, Memory}
 

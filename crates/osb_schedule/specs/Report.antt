@@ -1,5 +1,5 @@
 -- The report of a schedule (this project's choice).
-use Rattle.std.specs.Prelude.{◌≡◌, ◌↔◌, Bool, true, false, Contains, IsSome, IsTrue, ℕ, ◌+◌, ◌-◌, ◌==◌, cond, List, [], ◌∷◌, ◌++◌, length, Option, Some, None, codes}
+use Rattle.std.specs.Prelude.{◌≡◌, ◌↔◌, Bool, true, false, Contains, IsTrue, ℕ, ◌+◌, ◌-◌, ◌==◌, if◌then◌else◌, cond, List, [], ◌∷◌, ◌++◌, length, Option, Some, None, codes}
 use Rattle.std.specs.FinMap as map
 use Rattle.std.specs.Fmt.{decimal}
 use Rattle.std.specs.List.{flat_map, list_any}
@@ -15,7 +15,8 @@ use Rattle.osb_platform.specs.State.{state_word}
 use Rattle.osb_world.specs.declared.cell.Cell.{Cell}
 use Rattle.osb_world.specs.declared.event.Event.{Event}
 use Rattle.osb_world.specs.Events.{applies_at, cell_after}
-use Rattle.osb_world.specs.Views.{WorldState, cell_at}
+use Rattle.osb_world.specs.Settling.{settled_cell}
+use Rattle.osb_world.specs.Views.{WorldState, catalogue_of, cell_at}
 use Rattle.osb_schedule.specs.declared.options.Options.{Options}
 use Rattle.osb_schedule.specs.Lines.{lines}
 use Rattle.osb_schedule.specs.Schedule.{catalogue_in, events_in}
@@ -58,9 +59,18 @@ pub record AreCreated (events : List Event) (ids : List ℕ) : Type 0 where
   pub ascending : IsStrictlySortedBy nat_cmp ids
   pub created : (q : ℕ) → Contains ids q ↔ IsTrue (list_any (creates q) events)
 
--- what the platform records after these events
-abbrev pub AreRecords : Catalogue → List Event → map.FinMap nat_cmp PlatformRow → Type 0
-AreRecords cat events rows = (q : ℕ) → map.get rows q ≡ (cell_after cat q events).platform
+-- the cell as it is, or settled
+unfoldable pub settled_as : Bool → Catalogue → ℕ → Cell → Cell
+settled_as settle cat id cell = if settle then settled_cell cat id cell else cell
+
+-- the cell of an id that the report tells of: each created instance is settled where that is asked for
+abbrev pub reported_cell : Bool → Catalogue → List Event → ℕ → Cell
+reported_cell settle cat events id =
+    if list_any (creates id) events then settled_as settle cat id (cell_after cat id events) else cell_after cat id events
+
+-- what the platform records then
+abbrev pub AreRecords : Bool → Catalogue → List Event → map.FinMap nat_cmp PlatformRow → Type 0
+AreRecords settle cat events rows = (q : ℕ) → map.get rows q ≡ (reported_cell settle cat events q).platform
 
 -- the line of the saved record, where it is asked for
 abbrev pub saved_line : Bool → map.FinMap nat_cmp PlatformRow → List ℕ
@@ -68,23 +78,22 @@ saved_line true rows = saved_text rows ++ 10 ∷ []
 saved_line false rows = []
 
 -- a line for each of these ids, then the two counts, then the saved record where it is asked for
-abbrev pub report_text : Catalogue → List Event → List ℕ → Bool → map.FinMap nat_cmp PlatformRow → List ℕ
-report_text cat events ids saved rows =
-    flat_map (λ id. id_line id (cell_after cat id events)) ids
+abbrev pub report_text : Options → Catalogue → List Event → List ℕ → map.FinMap nat_cmp PlatformRow → List ℕ
+report_text options cat events ids rows =
+    flat_map (λ id. id_line id (reported_cell options.settle cat events id)) ids
     ++ count_line (codes "applied") (applied_count cat events)
     ++ count_line (codes "skipped") (length events - applied_count cat events)
-    ++ saved_line saved rows
+    ++ saved_line options.saved rows
 
 -- the report of a schedule without a fault: its lines are for exactly the created ids
 pub record IsReport (options : Options) (bytes text : List ℕ) : Type 0 where
   pub ids : List ℕ
   pub rows : map.FinMap nat_cmp PlatformRow
   pub created : AreCreated (events_in (lines bytes)) ids
-  pub recorded : AreRecords (catalogue_in (lines bytes)) (events_in (lines bytes)) rows
-  pub written : text ≡ report_text (catalogue_in (lines bytes)) (events_in (lines bytes)) ids options.saved rows
+  pub recorded : AreRecords options.settle (catalogue_in (lines bytes)) (events_in (lines bytes)) rows
+  pub written : text ≡ report_text options (catalogue_in (lines bytes)) (events_in (lines bytes)) ids rows
 
--- a line for each recorded instance of the world, ascending
-abbrev pub AreIdLines : WorldState → List ℕ → Type 0
-AreIdLines world text =
-    (ids : List ℕ) × IsStrictlySortedBy nat_cmp ids × ((q : ℕ) → Contains ids q ↔ IsSome (cell_at world q).platform)
-    × (text ≡ flat_map (λ id. id_line id (cell_at world id)) ids)
+-- the instances of these ids are settled, where that is asked for, and nothing else has changed
+pub record IsSettledAs (settle : Bool) (ids : List ℕ) (old new : WorldState) : Type 0 where
+  pub settled : (q : ℕ) → Contains ids q → cell_at new q ≡ settled_as settle (catalogue_of old) q (cell_at old q)
+  pub others : (q : ℕ) → ¬ Contains ids q → cell_at new q ≡ cell_at old q

@@ -9,7 +9,7 @@
 //! // What a schedule read from standard input comes to, on standard output.
 //! let mut reader = Input::new(rt.stdin());
 //! let mut writer = Output::new(rt.stdout());
-//! match replay(rt.alloc(), &mut reader, &mut writer, Options { saved: false }) {
+//! match replay(rt.alloc(), &mut reader, &mut writer, Options { settle: false, saved: false }) {
 //!     Ok(()) => {}
 //!     // The number of the first faulty line, and what is wrong with it.
 //!     Err(ReplayFault::Schedule { line, fault }) => eprintln!(rt; "{line}: {fault}")?,

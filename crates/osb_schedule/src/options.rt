@@ -1,9 +1,13 @@
-//! What a replay adds to the report.
+//! What a replay does besides running the schedule and reporting.
 
-/// What a replay adds to the report (this project's choice).
+/// What a replay does besides running the schedule and reporting (this project's choice).
 #[derive(Clone, Copy, Debug, PartialEq, Eq)]
 pub struct Options {
-    /// Whether a last line follows: the platform's saved record, as
-    /// [`World::save`](osb_world::World::save) gives it.
+    /// Whether each recorded instance is settled after the last event, in ascending order of the ids,
+    /// as by [`World::settle`](osb_world::World::settle). The report tells what stands then; the counts
+    /// stay those of the schedule's events.
+    pub settle: bool,
+    /// Whether a last line follows: the platform's saved record, as by
+    /// [`World::save`](osb_world::World::save).
     pub saved: bool,
 }

@@ -76,7 +76,7 @@ fn report_input<R: Read>(
     ensures bound { ReadsFew (R.remaining reader.old.device) (R.remaining reader.new.device) }
 {
     let ended = run_input(alloc, reader)?;
-    match report(alloc, &ended, options) {
+    match report(alloc, ended, options) {
         Ok(text) => Ok(text),
         Err(Memory) => Err(ReplayFault::Memory),
     }
@@ -85,7 +85,8 @@ fn report_input<R: Read>(
 /// Reads a schedule, lets its events happen one after another, and at its end writes the report:
 /// a line for each created instance, ascending, with what the platform records and what the broker
 /// holds, then how many events applied and how many didn't, and then, where the options say so, the
-/// platform's saved record. The language of schedules and the report are this project's choice.
+/// platform's saved record. Where the options say so, each of them is settled before. The language of
+/// schedules and the report are this project's choice.
 ///
 /// It asks for at most 4,096 bytes in one read, and keeps none of those that it has run; what takes
 /// memory is the world of the instances, and the report. What is read before a fault stays read. It

@@ -1,9 +1,11 @@
 //! The report: what the platform records and what the broker holds (this project's choice).
 ghost use Rattle.std.specs.Prelude.{◌≡◌, ◌++◌, ℕ, List, IfOk, OnOk};
 ghost use Rattle.std.specs.List.{flat_map};
+ghost use Rattle.std.specs.List.Sorted.{IsStrictlySortedBy};
+ghost use Rattle.std.specs.Ordering.{nat_cmp};
 ghost use Rattle.osb_schedule.specs.Lines.{lines};
-ghost use Rattle.osb_schedule.specs.Report.{broker_word, count_line, id_line, record_word, saved_line, AreIdLines};
-ghost use Rattle.osb_schedule.specs.Report.{IsReport};
+ghost use Rattle.osb_schedule.specs.Report.{broker_word, count_line, id_line, record_word, saved_line};
+ghost use Rattle.osb_schedule.specs.Report.{IsReport, IsSettledAs};
 ghost use Rattle.osb_schedule.specs.Run.{IsEndOf};
 ghost use Rattle.osb_world.specs.Views.{cell_at, records_of};
 
@@ -57,25 +59,28 @@ fn push_count_line(alloc: Global, text: &mut Vec<u8>, name: &str, count: u32) ->
     Ok(())
 }
 
-// Adds a line for each of the ids.
-fn push_id_lines(text: &mut Vec<u8>, world: &World, ids: &[InstanceId]) -> Result<(), Memory>
-    ensures added { OnOk result (text.new.items
-        ≡ text.old.items ++ flat_map (λ id. id_line id (cell_at world.now id)) ids.now) }
-{
-    for id in ids {
-        push_id_line(text, world, *id)?;
-    }
-    Ok(())
-}
-
-// The lines of all instances of a world.
-fn id_lines(alloc: Global, world: &World) -> Result<Vec<u8>, Memory>
-    ensures lines { IfOk result (λ text. AreIdLines world.now text.items) }
+// A line for each of the ids.
+fn id_lines(alloc: Global, world: &World, ids: &[InstanceId]) -> Result<Vec<u8>, Memory>
+    ensures lines { IfOk result (λ text. text.items ≡ flat_map (λ id. id_line id (cell_at world.now id)) ids.now) }
 {
     let mut text = Vec::new(alloc);
-    let ids = world.ids(alloc)?;
-    push_id_lines(&mut text, world, ids.as_slice())?;
+    for id in ids {
+        push_id_line(&mut text, world, *id)?;
+    }
     Ok(text)
+}
+
+// Settles the instances of these ids, where that is asked for.
+fn settle_all(world: &mut World, ids: &[InstanceId], asked: bool)
+    requires ascending { IsStrictlySortedBy nat_cmp ids.now }
+    ensures settled { IsSettledAs asked ids.now world.old world.new }
+{
+    if !asked {
+        return;
+    }
+    for id in ids {
+        world.settle(*id);
+    }
 }
 
 // Adds the line of the saved record, where it is asked for.
@@ -99,13 +104,21 @@ fn push_saved_line(
 }
 
 // The report of what the lines have left.
-pub fn report(alloc: Global, ended: &Ended, options: Options) -> Result<Vec<u8>, Memory>
-    ensures report { (bytes : List ℕ) → IsEndOf (lines bytes) ended.now
+pub fn report(alloc: Global, ended: Ended, options: Options) -> Result<Vec<u8>, Memory>
+    ensures report { (bytes : List ℕ) → IsEndOf (lines bytes) ended
         → IfOk result (λ text. IsReport options bytes text.items) }
 {
-    let mut text = id_lines(alloc, &ended.world)?;
-    push_count_line(alloc, &mut text, "applied", ended.applied)?;
-    push_count_line(alloc, &mut text, "skipped", ended.skipped)?;
-    push_saved_line(alloc, &mut text, &ended.world, options.saved)?;
+    let Ended {
+        mut world,
+        applied,
+        skipped,
+    } = ended;
+    let recorded = world.ids(alloc)?;
+    let ids = recorded.as_slice();
+    settle_all(&mut world, ids, options.settle);
+    let mut text = id_lines(alloc, &world, ids)?;
+    push_count_line(alloc, &mut text, "applied", applied)?;
+    push_count_line(alloc, &mut text, "skipped", skipped)?;
+    push_saved_line(alloc, &mut text, &world, options.saved)?;
     Ok(text)
 }

@@ -1,6 +1,6 @@
 //! Worked schedules and their reports, however the reader cuts them, and schedules that are refused.
 use crate::tests::short::{
-    MADE, PLANS, after_plans, expanded, in_pieces, outcome, outcome_with, repeated, replayed,
+    MADE, PLAIN, PLANS, after_plans, expanded, in_pieces, outcome, outcome_with, repeated, replayed,
 };
 use crate::{LineFault, Options, ReplayFault};
 use std::alloc::Global;
@@ -11,13 +11,18 @@ use std::test::Fail;
 const CUTS: [usize; 3] = [1, 7, 4096];
 
 // Replays each schedule after the plan lines, in pieces of each length, and compares with its report.
-fn compare(rt: &impl Abort, alloc: Global, cases: &[(&str, &str, &str)]) -> Result<(), Fail> {
+fn compare_with(
+    rt: &impl Abort,
+    alloc: Global,
+    options: Options,
+    cases: &[(&str, &str, &str)],
+) -> Result<(), Fail> {
     for (name, events, report) in cases {
         let schedule = after_plans(alloc, events)?;
         let report = expanded(alloc, report)?;
         for most in CUTS {
             let reader = in_pieces(schedule.as_bytes(), most);
-            let (result, written) = outcome(alloc, reader);
+            let (result, written) = outcome_with(alloc, reader, options);
             assert!(rt; result == Ok(()), "{name}, {most} bytes a call");
             assert!(rt;
                 written.as_slice() == report.as_bytes(),
@@ -26,6 +31,11 @@ fn compare(rt: &impl Abort, alloc: Global, cases: &[(&str, &str, &str)]) -> Resu
         }
     }
     Ok(())
+}
+
+// The same without options.
+fn compare(rt: &impl Abort, alloc: Global, cases: &[(&str, &str, &str)]) -> Result<(), Fail> {
+    compare_with(rt, alloc, PLAIN, cases)
 }
 
 #[test]
@@ -168,6 +178,98 @@ answer J; restart; send I; deliver I done; answer I",
 }
 
 #[test]
+fn errors_of_a_gateway(rt: HostRuntime) -> Result<(), Fail> {
+    compare(
+        &rt,
+        rt.alloc(),
+        &[
+            (
+                "in place of a delivery",
+                "create I S P no; gateway I 502; answer I",
+                "I cleaning none; applied 3; skipped 0",
+            ),
+            (
+                "in place of the answer",
+                "create I S P no; deliver I done; gateway I 503; answer I",
+                "I cleaning ready; applied 4; skipped 0",
+            ),
+            (
+                "and a delivery after it",
+                "create I S P no; gateway I 502; deliver I done; answer I",
+                "I ready ready; applied 4; skipped 0",
+            ),
+            (
+                "and a repeat after it",
+                "create I S P no; gateway I 502; repeat I done; answer I",
+                "I cleaning ready; applied 4; skipped 0",
+            ),
+            (
+                "at a poll",
+                "create I S Q yes; deliver I done; answer I; send I; gateway I 504; answer I",
+                "I polling making; applied 6; skipped 0",
+            ),
+            (
+                "at a deletion",
+                "create I S P no; restart; send I; gateway I 500; answer I",
+                "I cleaning none; applied 5; skipped 0",
+            ),
+            ("with nothing out", "gateway I 502", "applied 0; skipped 1"),
+        ],
+    )
+}
+
+#[test]
+fn instances_are_settled_where_that_is_asked_for(rt: HostRuntime) -> Result<(), Fail> {
+    let options = Options {
+        settle: true,
+        saved: false,
+    };
+    compare_with(
+        &rt,
+        rt.alloc(),
+        options,
+        &[
+            (
+                "a timeout while it is made",
+                "create I S Q yes; deliver I done; timeout I; send I; deliver I done; answer I",
+                "I gone none; applied 6; skipped 0",
+            ),
+            (
+                "a deletion that failed and is still to be polled",
+                "create I S Q yes; deliver I done; answer I; finish I fail; send I; deliver I done; answer I; \
+send I; deliver I done; answer I; finish I fail",
+                "I gone none; applied 11; skipped 0",
+            ),
+            (
+                "an answer on its way",
+                "create I S P no; deliver I done",
+                "I gone none; applied 2; skipped 0",
+            ),
+            (
+                "an instance that stays unsettled",
+                "create I S P no; deliver I done; lose I; deliver I done; garble I; answer I",
+                "I unsettled ready; applied 6; skipped 0",
+            ),
+            (
+                "an instance that is polled",
+                "create I S Q yes; deliver I done; answer I",
+                "I ready ready; applied 3; skipped 0",
+            ),
+            (
+                "an error of a gateway",
+                "create I S P no; deliver I done; gateway I 503; answer I",
+                "I gone none; applied 4; skipped 0",
+            ),
+            (
+                "two instances",
+                "create J S P no; create I S Q yes; deliver I done; answer I",
+                "I ready ready; J gone none; applied 4; skipped 0",
+            ),
+        ],
+    )
+}
+
+#[test]
 fn the_saved_record_follows_where_it_is_asked_for(rt: HostRuntime) -> Result<(), Fail> {
     let made = after_plans(rt.alloc(), MADE)?;
     let cases = [
@@ -192,7 +294,14 @@ skipped 0
     for (name, schedule, report) in cases {
         for most in CUTS {
             let reader = in_pieces(schedule.as_bytes(), most);
-            let (result, written) = outcome_with(rt.alloc(), reader, Options { saved: true });
+            let (result, written) = outcome_with(
+                rt.alloc(),
+                reader,
+                Options {
+                    settle: false,
+                    saved: true,
+                },
+            );
             assert!(rt; result == Ok(()), "{name}, {most} bytes a call");
             assert!(rt;
                 written.as_slice() == report.as_bytes(),
@@ -250,6 +359,24 @@ fn faulty_lines(rt: HostRuntime) -> Result<(), Fail> {
             LineFault::BadId,
         ),
         ("not a choice", "deliver I maybe", 1, LineFault::BadChoice),
+        (
+            "no status of a gateway",
+            "gateway I 499",
+            1,
+            LineFault::BadChoice,
+        ),
+        (
+            "a status with a zero before it",
+            "gateway I 0502",
+            1,
+            LineFault::BadChoice,
+        ),
+        (
+            "a gateway without a status",
+            "gateway I",
+            1,
+            LineFault::WordCount,
+        ),
         (
             "a byte above 127 in a comment",
             "# \u{e9}",

@@ -7,7 +7,10 @@ use std::io::{Read, Write};
 use std::test::Fail;
 
 /// The report alone.
-pub const PLAIN: Options = Options { saved: false };
+pub const PLAIN: Options = Options {
+    settle: false,
+    saved: false,
+};
 
 /// A synchronous plan and an asynchronous one.
 pub const PLANS: &str = "plan S P sync; plan S Q async";

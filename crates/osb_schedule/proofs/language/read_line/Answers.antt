@@ -1,6 +1,6 @@
 -- What is read is what the line says.
 use Rattle.std.proofs.Common.{◌≡◌, ◌≤◌, length, rules, true, sym, ap, ◌∙◌, arith}
-use Rattle.osb_schedule.specs.Language.{is_ascii, line_of, spelled}
+use Rattle.osb_schedule.specs.Language.{is_ascii, spelled}
 use Rattle.osb_schedule.specs.Words.{words_of}
 use Rattle.osb_schedule.specs.declared.limits.TheConstants.{LONGEST_LINE}
 use Rattle.osb_schedule.proofs.Spelling.{line_of-words, says_iff}

@@ -2,7 +2,6 @@
 use Rattle.std.proofs.Common.{sym, ap, ◌∙◌}
 use Rattle.osb_schedule.specs.Language.{spelled}
 use Rattle.osb_schedule.specs.Words.{words_of}
-use Rattle.osb_schedule.proofs.Spelling.{spells-reads}
 use Rattle.osb_schedule.proofs.Splitting.{spelled_comment, spelled_plain}
 use Rattle.osb_schedule.proofs.language.read_words.Goals as goal
 

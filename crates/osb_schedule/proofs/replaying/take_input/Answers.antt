@@ -1,5 +1,5 @@
 -- What a read gave joins what was read before.
-use Rattle.std.proofs.Common.{◌≡◌, ◌≤◌, ◌-◌, false, ◌++◌, length, length-take, take, arith, rules}
+use Rattle.std.proofs.Common.{◌≡◌, ◌≤◌, false, ◌++◌, length, length-take, take, arith, rules}
 use Rattle.std.proofs.KnownBytes.{Consumes-trans, Consumes-kept}
 use Rattle.std.proofs.lemmas.Bool.{false≢true}
 use Rattle.std.proofs.lemmas.List.{length-append}
