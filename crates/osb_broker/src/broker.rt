@@ -128,9 +128,11 @@ impl Broker {
     /// # Errors
     ///
     /// [`Memory`] where an allocation failed, which only a new row asks for: every other request
-    /// takes no memory. The broker is then as before. That no Poll and no Deprovision asks for any is a
-    /// clause of its own, for callers that know the kind of a request and nothing of the row; and what
-    /// holds of every row is one for callers whose own contracts want it, here as at [`Broker::finish`].
+    /// takes no memory. The broker is then as before.
+    ///
+    /// The clause `other_kinds` follows from `no_new_row`. It stands for callers that know the kind of a
+    /// request and nothing of the row. The clauses `held`, here, of [`Broker::finish`] and of
+    /// [`Broker::row`], say what holds of every broker, for callers whose own contracts want it.
     ///
     /// [`ErrorCode::Other`]: osb_message::ErrorCode::Other
     #[tactic(auto, using(osb_message::proofs::Maps::row_steps, crate::proofs::MemoryLemmas::makes_row_other))]
@@ -187,8 +189,8 @@ impl Broker {
     }
 
     /// What the broker holds of the instance, or none (this project's choice: the standard's
-    /// fetching of an instance isn't part of it). Its pair of service and plan stands in the catalogue,
-    /// and where the plan is synchronous it is ready. It takes no memory.
+    /// fetching of an instance isn't part of it). The row's pair of service and plan stands in the
+    /// catalogue, and where the plan is synchronous the row is ready. It takes no memory.
     pub fn row(&self, id: InstanceId) -> Option<BrokerRow>
         ensures row { result ≡ map.get self.now.rows id }
         ensures held { IfSome result (IsHeld self.now.catalogue) }

@@ -290,4 +290,5 @@ less_from_texts m n fits less =
           ]
     ]
 
-pub ruleset text_steps = (not_id, read_id, text_length, text_reads, text_rises, lower_some, lower_other, lower_none)
+-- what the search is told of texts
+pub ruleset text_steps = (not_id, text_length, text_reads, text_rises, lower_some, lower_other, lower_none)

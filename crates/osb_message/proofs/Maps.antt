@@ -28,6 +28,7 @@ pairs_total = then_total (on_total (λ s. s.0) nat_cmp_total) (on_total (λ s. s
 pub exact_ids : CmpEqualImpliesEq pair_cmp
 exact_ids a b h = exact_pairs nat_cmp nat_cmp exact_unsigned exact_unsigned a b h
 
+-- what a map wants to know of its keys
 pub ruleset key_facts = (nat_cmp_total, exact_unsigned, pairs_total, exact_ids)
 
 abbrev tree_keys : {K X : Type 0} → List (K × X) → List K

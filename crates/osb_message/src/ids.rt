@@ -202,7 +202,7 @@ impl<K> Id<K> {
 
     /// The text form of the id, in lower case, written into the given bytes. It takes no memory.
     ///
-    /// That the text reads as the id, and that the id has 128 bits, are clauses of their own for callers
+    /// The clauses `reads` and `fits` follow from `text` and from what an id is. They stand for callers
     /// that write ids into texts.
     pub fn text_in<'b>(&self, buffer: &'b mut [u8; 36]) -> &'b str
         ensures text { result.now ≡ id_text self.now }
@@ -214,10 +214,11 @@ impl<K> Id<K> {
             .encode_lower(buffer)
     }
 
-    /// The text form of the id, in lower case: 36 bytes of ASCII. It takes no memory.
+    /// The text form of the id, in lower case: 36 bytes of ASCII, which read as the id again and
+    /// stand in the order of the ids. It takes no memory.
     ///
-    /// That they read as the id again, and stand in the order of the ids, are clauses of their own for
-    /// callers that keep texts, or sort them, in place of ids.
+    /// The clauses `reads` and `ordered` follow from `text`. They stand for callers that keep texts, or
+    /// sort them, in place of ids.
     pub fn to_text(&self) -> [u8; 36]
         ensures text { result ≡ id_text self.now }
         ensures reads { id_of result ≡ Some self.now }

@@ -112,7 +112,9 @@ impl<V: Copy> Rows<V> {
         self.tree.remove(&id);
     }
 
-    /// The ids that have a value, ascending, which is a clause of its own for callers that promise it on.
+    /// The ids that have a value, ascending.
+    ///
+    /// The clause `ascending` follows from `keys`. It stands for callers that promise it on.
     ///
     /// # Errors
     ///
