@@ -51,9 +51,10 @@ fn all_are_found(rt: &impl Abort, list: &MessageList) {
     }
 }
 
-fn replace_all(list: &mut MessageList, step: u16) {
+fn replace_all(rt: &impl Abort, list: &mut MessageList, step: u16) {
     for n in 1..401 {
         let number = number_at(n, step);
+        assert!(rt; list.get(instance(number)).is_some(), "{number}");
         list.replace(instance(number), messages_of(number.wrapping_add(1000)));
     }
 }
@@ -80,7 +81,7 @@ fn all_are_silenced(rt: &impl Abort, list: &MessageList) {
 fn is_a_map(rt: &impl Abort, alloc: Global, step: u16) -> Result<(), Fail> {
     let mut list = filled(rt, alloc, step)?;
     all_are_found(rt, &list);
-    replace_all(&mut list, step);
+    replace_all(rt, &mut list, step);
     list.insert(instance(7), messages_of(7))?;
     all_but_7_are_replaced(rt, &list);
     list.silence_all();
