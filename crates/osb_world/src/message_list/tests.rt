@@ -54,8 +54,9 @@ fn all_are_found(rt: &impl Abort, list: &MessageList) {
 fn replace_all(rt: &impl Abort, list: &mut MessageList, step: u16) {
     for n in 1..401 {
         let number = number_at(n, step);
-        assert!(rt; list.get(instance(number)).is_some(), "{number}");
-        list.replace(instance(number), messages_of(number.wrapping_add(1000)));
+        let id = instance(number);
+        assert!(rt; list.get(id).is_some(), "{number} is there");
+        list.replace(id, messages_of(number.wrapping_add(1000)));
     }
 }
 
