@@ -4,5 +4,6 @@ pub mod Reading
 pub mod Reporting
 pub mod Running
 pub mod Runs
+pub mod Schedules
 pub mod Spelling
 pub mod Splitting

@@ -33,21 +33,31 @@ fault_long ended line few long = grind (arith, nat_tests)
 pub fault_many : (ended : List (List ℕ)) (line : List ℕ) → length ended ≡ MOST_LINES → fault_of ended line ≡ Some TooManyLines
 fault_many ended line many = grind (arith, nat_tests)
 
--- the line after the ended ones has this fault and is judged, so it is the first
+-- the line after those without a fault has this fault and is judged, so it is the first
+pub fault_in : (bytes : List ℕ) (ended : List (List ℕ)) (line : List ℕ) (after : List (List ℕ)) (fault : LineFault) (stop : Bool)
+    → lines bytes ≡ ended ++ line ∷ after
+    → ((n : ℕ) → n < length ended → fault_of (take n ended) (line_at ended n) ≡ None) → fault_of ended line ≡ Some fault
+    → (length ended < ended_lines bytes) ⊎ IsTrue stop ⊎ (LONGEST_LINE < length line) ⊎ (length ended ≡ MOST_LINES)
+    → IsFirstFault bytes stop (length ended) fault
+fault_in bytes ended line after fault stop all faultless here judged =
+    let at : line_at (lines bytes) (length ended) ≡ line = rw all (get_or_at ended line after [] (length ended) refl) in
+    record {
+      judged = (rw all (simp length-append (omega arith)), rw at judged);
+      at_line = rw (all, take_at ended (line ∷ after) (length ended) refl, get_or_at ended line after [] (length ended) refl) here;
+      none_before = λ k below.
+          let within : k ≤ length ended = omega arith in
+          rw (all, take-append-le k ended (line ∷ after) within, get_or_append_left ended (line ∷ after) [] k below) (faultless k below);
+    }
+
+-- the same after the ended lines
 pub first_fault : (bytes more : List ℕ) (ended : List (List ℕ)) (rest line : List ℕ) (after : List (List ℕ)) (fault : LineFault) (stop : Bool)
     → EndedAs bytes ended rest → lines (rest ++ more) ≡ line ∷ after → fault_of ended line ≡ Some fault
     → (length ended < ended_lines (bytes ++ more)) ⊎ IsTrue stop ⊎ (LONGEST_LINE < length line) ⊎ (length ended ≡ MOST_LINES)
     → IsFirstFault (bytes ++ more) stop (length ended) fault
 first_fault bytes more ended rest line after fault stop so_far next here judged =
-    let all : lines (bytes ++ more) ≡ ended ++ line ∷ after = so_far.cut more ∙ ap (λ tail. ended ++ tail) next in
-    let at : line_at (lines (bytes ++ more)) (length ended) ≡ line = rw all (get_or_at ended line after [] (length ended) refl) in
-    record {
-      judged = (rw all (simp length-append (omega arith)), rw at judged);
-      at_line = rw (all, take_at ended (line ∷ after) (length ended) refl, get_or_at ended line after [] (length ended) refl) here;
-      none_before = λ k below. let within : k ≤ length ended = omega arith in rw (all, take-append-le k ended (line ∷ after) within, get_or_append_left ended (line ∷ after) [] k below) (so_far.faultless k below);
-    }
+    fault_in (bytes ++ more) ended line after fault stop (so_far.cut more ∙ ap (λ tail. ended ++ tail) next) so_far.faultless here judged
 
-faultless_more : (ended : List (List ℕ)) (line : List ℕ) → ((n : ℕ) → n < length ended → fault_of (take n ended) (line_at ended n) ≡ None) → fault_of ended line ≡ None
+pub faultless_more : (ended : List (List ℕ)) (line : List ℕ) → ((n : ℕ) → n < length ended → fault_of (take n ended) (line_at ended n) ≡ None) → fault_of ended line ≡ None
     → (n : ℕ) → n < length ended + 1 → fault_of (take n (ended ++ line ∷ [])) (line_at (ended ++ line ∷ []) n) ≡ None
 faultless_more ended line before here =
     below_more _ (length ended)
@@ -153,7 +163,7 @@ refused_many bytes more reader (ended, so_far) all some =
 lines_so_far : (bytes : List ℕ) (ended : List (List ℕ)) (rest : List ℕ) → EndedAs bytes ended rest → lines bytes ≡ ended ++ lines rest
 lines_so_far bytes ended rest so_far = rw (append-nil bytes, append-nil rest) at (so_far.cut [])
 
-faultless_all : (bytes : List ℕ) (all : List (List ℕ)) (stop : Bool) → lines bytes ≡ all → ((n : ℕ) → n < length all → fault_of (take n all) (line_at all n) ≡ None) → HasNoFault bytes stop
+pub faultless_all : (bytes : List ℕ) (all : List (List ℕ)) (stop : Bool) → lines bytes ≡ all → ((n : ℕ) → n < length all → fault_of (take n all) (line_at all n) ≡ None) → HasNoFault bytes stop
 faultless_all bytes all stop same each = λ n judged. rw same (each n (rw same at judged.0))
 
 -- nothing is held, so every line has ended

@@ -37,10 +37,6 @@ words-run byte word (blank ∷ rest) run stop =
     ap (filter is_word) (slice_split_at is_blank (byte ∷ word) blank rest run (stop (omega arith)))
     ∙ ap (λ parts. (byte ∷ word) ∷ parts) (sym (ap (filter is_word) (slice_split-cons_yes is_blank blank rest (stop (omega arith)))))
 
-pub nothing : (line : List ℕ) → length line ≡ 0 → line ≡ []
-nothing [] h = refl
-nothing (byte ∷ line) h = absurd (omega arith)
-
 first_part : (line : List ℕ) (n : ℕ) → n ≤ length line → ((k : ℕ) → k < n → is_blank (slice_index line k) ≡ false)
     → (k d : ℕ) → k < length (take n line) → is_blank (get_or (take n line) k d) ≡ false
 first_part line n within run k d below =

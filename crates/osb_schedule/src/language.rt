@@ -35,13 +35,13 @@ pub enum Line {
 
 #[tactic(auto, using(crate::proofs::Splitting::ascii_all, crate::proofs::Splitting::ascii_not))]
 fn is_ascii(line: &[u8]) -> bool
-    ensures { result ≡ is_ascii line.now }
+    ensures ascii { result ≡ is_ascii line.now }
 {
     line.is_ascii()
 }
 
 fn without_carriage_return(line: &[u8]) -> &[u8]
-    ensures { result.now ≡ strip_carriage_return line.now }
+    ensures front { result.now ≡ strip_carriage_return line.now }
 {
     match line {
         [front @ .., b'\r'] => front,
@@ -51,7 +51,7 @@ fn without_carriage_return(line: &[u8]) -> &[u8]
 
 // The rows of the events.
 fn read_event(first: &[u8], words: &[u8]) -> Result<Event, LineFault>
-    ensures { result ≡ event_as first.now (words_of words.now) }
+    ensures event { result ≡ event_as first.now (words_of words.now) }
 {
     if first == b"create".as_slice() {
         read_four(words).map(|(id, service, plan, Accepts(accepts))| Event::Create {
@@ -92,7 +92,7 @@ fn read_event(first: &[u8], words: &[u8]) -> Result<Event, LineFault>
 // The table of lines: the first word of each, what follows it, and what it says. `plan` is the one line
 // that is no event.
 fn read_spelled(first: &[u8], words: &[u8]) -> Result<Line, LineFault>
-    ensures { result ≡ spelled_as first.now (words_of words.now) }
+    ensures line { result ≡ spelled_as first.now (words_of words.now) }
 {
     if first == b"plan".as_slice() {
         read_three(words).map(|(service, plan, mode)| Line::Plan {
@@ -106,7 +106,7 @@ fn read_spelled(first: &[u8], words: &[u8]) -> Result<Line, LineFault>
 }
 
 fn begins_comment(word: &[u8]) -> bool
-    ensures { result ≡ begins_comment word.now }
+    ensures comment { result ≡ begins_comment word.now }
 {
     match word {
         [first, ..] => *first == b'#',
@@ -115,7 +115,7 @@ fn begins_comment(word: &[u8]) -> bool
 }
 
 fn read_words(line: &[u8]) -> Result<Line, LineFault>
-    ensures { result ≡ spelled (words_of line.now) }
+    ensures line { result ≡ spelled (words_of line.now) }
 {
     let rest = skip_blanks(line);
     if begins_comment(rest) {

@@ -23,7 +23,10 @@
 //! line each. What the events do is `osb_world`'s to say. The language, the report and the statuses
 //! are this project's choice.
 //!
-//! Only [`replay`] takes memory.
+//! [`read_schedule`] reads a schedule that stands in memory and lets nothing happen: its plans and its
+//! events are what [`run`](osb_world::run) takes.
+//!
+//! [`replay`] and [`read_schedule`] take memory, and nothing else does.
 #![tactic(auto)]
 
 mod faults;
@@ -34,9 +37,11 @@ mod limits;
 mod line_reader;
 mod options;
 mod output;
+mod plans;
 mod replaying;
 mod report;
 mod run;
+mod schedule;
 mod words;
 mod writing;
 
@@ -46,6 +51,7 @@ pub use language::{Line, read_line};
 pub use options::Options;
 pub use output::Output;
 pub use replaying::replay;
+pub use schedule::{Schedule, read_schedule};
 
 #[cfg(test)]
 mod tests;

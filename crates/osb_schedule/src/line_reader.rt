@@ -52,7 +52,7 @@ impl LineReader {
     }
 
     fn refusal(&self, fault: LineFault) -> ScheduleFault
-        requires { self.now.ended ≤ MOST_LINES }
+        requires few { self.now.ended ≤ MOST_LINES }
         ensures line { result ≡ ScheduleFault.At (self.now.ended + 1) fault }
     {
         ScheduleFault::At {

@@ -3,15 +3,16 @@ ghost use Rattle.std.specs.Prelude.{◌≡◌, ◌+◌, ◌<◌, ◌≤◌, ℕ,
 ghost use Rattle.std.specs.Prelude.{OnErr, OnOk};
 ghost use Rattle.std.specs.FinMap as map;
 ghost use Rattle.osb_broker.specs.Answers.{Catalogue as Plans};
-ghost use Rattle.osb_schedule.specs.Schedule.{event_in, fault_after, plan_fault, said_fault, with_plan};
+ghost use Rattle.osb_schedule.specs.Schedule.{event_in, fault_after, has_begun, plan_fault, said_fault, with_plan};
 ghost use Rattle.osb_schedule.specs.Run.{IsEndOf, IsLineFault, IsRunOf, IsWorldAfter, HasRun};
 ghost use Rattle.osb_world.specs.declared.event.Event.{Event as Happening};
 ghost use Rattle.osb_schedule.specs.declared.faults.ScheduleFault.TheVariants as Why;
 
-use crate::faults::{LineFault, ScheduleFault};
+use crate::faults::ScheduleFault;
 use crate::language::{Line, read_line};
 use crate::limits::MOST_LINES;
-use osb_message::{AddFault, Catalogue, Memory, Mode, PlanId, ServiceId};
+use crate::plans::add_plan;
+use osb_message::{Catalogue, Memory, Mode, PlanId, ServiceId};
 use osb_world::{Event, Step, World};
 use std::alloc::Global;
 use std::mem;
@@ -57,26 +58,14 @@ impl Run {
         mode: Mode,
     ) -> Result<(), ScheduleFault>
         ensures good { (cat : Plans) (events : List Happening) → IsRunOf cat events self.old
-            → OnOk result ((plan_fault cat events service plan ≡ None)
+            → OnOk result ((plan_fault (has_begun events) cat service plan ≡ None)
             × IsRunOf (map.insert cat (service, plan) mode) events self.new) }
         ensures refused { (cat : Plans) (events : List Happening) → IsRunOf cat events self.old
-            → IfErr result (IsLineFault number (plan_fault cat events service plan)) }
+            → IfErr result (IsLineFault number (plan_fault (has_begun events) cat service plan)) }
         ensures counted { self.new.applied + self.new.skipped ≡ self.old.applied + self.old.skipped }
     {
-        if self.world.is_some() {
-            return Err(ScheduleFault::At {
-                line: number,
-                fault: LineFault::LatePlan,
-            });
-        }
-        match self.catalogue.add(service, plan, mode) {
-            Ok(()) => Ok(()),
-            Err(AddFault::AlreadyThere) => Err(ScheduleFault::At {
-                line: number,
-                fault: LineFault::DuplicatePlan,
-            }),
-            Err(AddFault::Memory) => Err(ScheduleFault::Memory),
-        }
+        let is_late = self.world.is_some();
+        add_plan(&mut self.catalogue, is_late, number, service, plan, mode)
     }
 
     // Makes the world of the catalogue, where there is none yet.

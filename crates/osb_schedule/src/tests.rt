@@ -4,5 +4,7 @@ mod large;
 mod lines;
 mod readers;
 mod schedules;
+mod settled;
 mod short;
+mod whole;
 mod writers;

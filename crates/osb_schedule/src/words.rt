@@ -5,7 +5,7 @@ ghost use Rattle.osb_schedule.specs.Words.{is_blank, words_of};
 use memchr::memchr2;
 
 fn is_blank(byte: u8) -> bool
-    ensures { result ≡ is_blank byte }
+    ensures blank { result ≡ is_blank byte }
 {
     byte == b' ' || byte == b'\t'
 }
@@ -33,7 +33,7 @@ fn word_length(line: &[u8]) -> usize
 
 // The first word of a line and what follows it, or none where the line has no word.
 pub fn split_word(line: &[u8]) -> Option<(&[u8], &[u8])>
-    ensures { MatchOption result (words_of line.now ≡ [])
+    ensures words { MatchOption result (words_of line.now ≡ [])
         (λ parts. words_of line.now ≡ parts.0.now ∷ words_of parts.1.now) }
 {
     let rest = skip_blanks(line);
@@ -45,7 +45,7 @@ pub fn split_word(line: &[u8]) -> Option<(&[u8], &[u8])>
 
 // The one word of a line, or none where it has more or fewer.
 pub fn one_word(line: &[u8]) -> Option<&[u8]>
-    ensures { MatchOption result (length (words_of line.now) ≢ 1)
+    ensures words { MatchOption result (length (words_of line.now) ≢ 1)
         (λ word. words_of line.now ≡ word.now ∷ []) }
 {
     let (word, rest) = split_word(line)?;
@@ -57,7 +57,7 @@ pub fn one_word(line: &[u8]) -> Option<&[u8]>
 
 // The two words of a line, or none where it has more or fewer.
 pub fn two_words(line: &[u8]) -> Option<(&[u8], &[u8])>
-    ensures { MatchOption result (length (words_of line.now) ≢ 2)
+    ensures words { MatchOption result (length (words_of line.now) ≢ 2)
         (λ words. words_of line.now ≡ words.0.now ∷ words.1.now ∷ []) }
 {
     let (first, rest) = split_word(line)?;
@@ -67,7 +67,7 @@ pub fn two_words(line: &[u8]) -> Option<(&[u8], &[u8])>
 
 // The three words of a line, or none where it has more or fewer.
 pub fn three_words(line: &[u8]) -> Option<(&[u8], &[u8], &[u8])>
-    ensures { MatchOption result (length (words_of line.now) ≢ 3)
+    ensures words { MatchOption result (length (words_of line.now) ≢ 3)
         (λ words. words_of line.now ≡ words.0.now ∷ words.1.now ∷ words.2.now ∷ []) }
 {
     let (first, rest) = split_word(line)?;
@@ -77,7 +77,7 @@ pub fn three_words(line: &[u8]) -> Option<(&[u8], &[u8], &[u8])>
 
 // The four words of a line, or none where it has more or fewer.
 pub fn four_words(line: &[u8]) -> Option<(&[u8], &[u8], &[u8], &[u8])>
-    ensures { MatchOption result (length (words_of line.now) ≢ 4)
+    ensures words { MatchOption result (length (words_of line.now) ≢ 4)
         (λ words. words_of line.now ≡ words.0.now ∷ words.1.now ∷ words.2.now ∷ words.3.now ∷ []) }
 {
     let (first, rest) = split_word(line)?;

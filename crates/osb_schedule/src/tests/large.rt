@@ -1,11 +1,10 @@
 //! Schedules as large as they may be.
-use crate::tests::short::{PLANS, expanded, in_pieces, outcome, repeated, replayed};
-use crate::{LineFault, ReplayFault};
+use crate::tests::short::{
+    CUTS, PLANS, expanded, in_pieces, outcome, outcome_with, repeated, replayed,
+};
+use crate::{LineFault, Options, ReplayFault};
 use std::alloc::Global;
 use std::test::Fail;
-
-/// How many instances three lines each leave room for, besides two plan lines.
-const INSTANCES: u32 = 33_000;
 
 /// Adds the text of an id of this number: its last twelve digits, hexadecimal, after those of zero.
 fn push_id(text: &mut String, number: u32) -> Result<(), Fail> {
@@ -22,34 +21,84 @@ fn push_id(text: &mut String, number: u32) -> Result<(), Fail> {
     Ok(())
 }
 
-/// A schedule that makes so many instances at once, and its report.
-fn many(alloc: Global) -> Result<(String, String), Fail> {
+/// A schedule that creates so many instances, has each request delivered and, where that is told, the
+/// answer taken, and a report in which each has these sides, and which ends with these counts.
+fn many(
+    alloc: Global,
+    instances: u32,
+    answered: bool,
+    sides: &str,
+    counts: &str,
+) -> Result<(String, String), Fail> {
     let service = "00000000-0000-0000-0000-0000000000a0 00000000-0000-0000-0000-0000000000b1";
     let mut schedule = expanded(alloc, PLANS)?;
     let mut report = String::new(alloc);
-    for number in 1..INSTANCES + 1 {
+    for number in 1..instances.saturating_add(1) {
         schedule.push_str("create ")?;
         push_id(&mut schedule, number)?;
         schedule.push(' ')?;
         schedule.push_str(service)?;
         schedule.push_str(" no\ndeliver ")?;
         push_id(&mut schedule, number)?;
-        schedule.push_str(" done\nanswer ")?;
-        push_id(&mut schedule, number)?;
-        schedule.push('\n')?;
+        schedule.push_str(" done\n")?;
+        if answered {
+            schedule.push_str("answer ")?;
+            push_id(&mut schedule, number)?;
+            schedule.push('\n')?;
+        }
         push_id(&mut report, number)?;
-        report.push_str(" ready ready\n")?;
+        report.push_str(sides)?;
     }
-    report.push_str("applied 99000\nskipped 0\n")?;
+    report.push_str(counts)?;
     Ok((schedule, report))
 }
 
 #[test]
 fn as_many_instances_as_three_lines_each_allow(rt: HostRuntime) -> Result<(), Fail> {
-    let (schedule, report) = many(rt.alloc())?;
+    let counts = "applied 99000\nskipped 0\n";
+    let (schedule, report) = many(rt.alloc(), 33_000, true, " ready ready\n", counts)?;
     let (result, written) = outcome(rt.alloc(), in_pieces(schedule.as_bytes(), 4096));
     assert!(rt; result == Ok(()));
     assert!(rt; written.as_slice() == report.as_bytes());
+    Ok(())
+}
+
+#[test]
+fn many_instances_are_settled(rt: HostRuntime) -> Result<(), Fail> {
+    let options = Options {
+        settle: true,
+        saved: false,
+    };
+    let counts = "applied 4000\nskipped 0\n";
+    let (schedule, report) = many(rt.alloc(), 2_000, false, " gone none\n", counts)?;
+    let reader = in_pieces(schedule.as_bytes(), 4096);
+    let (result, written) = outcome_with(rt.alloc(), reader, options);
+    assert!(rt; result == Ok(()));
+    assert!(rt; written.as_slice() == report.as_bytes());
+    Ok(())
+}
+
+#[test]
+fn as_many_empty_lines_as_there_may_be(rt: HostRuntime) -> Result<(), Fail> {
+    let mut schedule = repeated(rt.alloc(), "\n", 100_000)?;
+    for most in CUTS {
+        let (result, written) = outcome(rt.alloc(), in_pieces(schedule.as_bytes(), most));
+        assert!(rt; result == Ok(()), "{most} bytes a call");
+        assert!(rt;
+            written.as_slice() == b"applied 0\nskipped 0\n".as_slice(),
+            "{most} bytes a call"
+        );
+    }
+    schedule.push('\n')?;
+    let (line, fault) = (100_001, LineFault::TooManyLines);
+    for most in CUTS {
+        let (result, written) = outcome(rt.alloc(), in_pieces(schedule.as_bytes(), most));
+        assert!(rt;
+            result == Err(ReplayFault::Schedule { line, fault }),
+            "{most} bytes a call"
+        );
+        assert!(rt; written.is_empty(), "{most} bytes a call");
+    }
     Ok(())
 }
 
@@ -90,7 +139,7 @@ fn lines_that_are_too_long(rt: HostRuntime) -> Result<(), Fail> {
     ] {
         let mut schedule = repeated(rt.alloc(), full.as_str(), 1)?;
         schedule.push_str(end)?;
-        for most in [1, 7, 4096] {
+        for most in CUTS {
             let (result, written) = outcome(rt.alloc(), in_pieces(schedule.as_bytes(), most));
             let (line, fault) = (1, LineFault::LineTooLong);
             if taken {
@@ -107,6 +156,22 @@ fn lines_that_are_too_long(rt: HostRuntime) -> Result<(), Fail> {
                 assert!(rt; written.is_empty(), "{name}");
             }
         }
+    }
+    Ok(())
+}
+
+#[test]
+fn a_line_that_is_too_long_after_two_others(rt: HostRuntime) -> Result<(), Fail> {
+    let mut schedule = expanded(rt.alloc(), PLANS)?;
+    schedule.push_str(repeated(rt.alloc(), "#", 513)?.as_str())?;
+    let (line, fault) = (3, LineFault::LineTooLong);
+    for most in CUTS {
+        let (result, written) = outcome(rt.alloc(), in_pieces(schedule.as_bytes(), most));
+        assert!(rt;
+            result == Err(ReplayFault::Schedule { line, fault }),
+            "{most} bytes a call"
+        );
+        assert!(rt; written.is_empty(), "{most} bytes a call");
     }
     Ok(())
 }

@@ -1,42 +1,10 @@
 //! Worked schedules and their reports, however the reader cuts them, and schedules that are refused.
 use crate::tests::short::{
-    MADE, PLAIN, PLANS, after_plans, expanded, in_pieces, outcome, outcome_with, repeated, replayed,
+    CUTS, MADE, PLANS, after_plans, compare, expanded, in_pieces, outcome, outcome_with, repeated,
+    replayed,
 };
-use crate::{LineFault, Options, ReplayFault};
-use std::alloc::Global;
-use std::process::Abort;
+use crate::{LineFault, Options, ReplayFault, ScheduleFault, read_schedule};
 use std::test::Fail;
-
-/// How many bytes a reader gives a call at most.
-const CUTS: [usize; 3] = [1, 7, 4096];
-
-// Replays each schedule after the plan lines, in pieces of each length, and compares with its report.
-fn compare_with(
-    rt: &impl Abort,
-    alloc: Global,
-    options: Options,
-    cases: &[(&str, &str, &str)],
-) -> Result<(), Fail> {
-    for (name, events, report) in cases {
-        let schedule = after_plans(alloc, events)?;
-        let report = expanded(alloc, report)?;
-        for most in CUTS {
-            let reader = in_pieces(schedule.as_bytes(), most);
-            let (result, written) = outcome_with(alloc, reader, options);
-            assert!(rt; result == Ok(()), "{name}, {most} bytes a call");
-            assert!(rt;
-                written.as_slice() == report.as_bytes(),
-                "{name}, {most} bytes a call"
-            );
-        }
-    }
-    Ok(())
-}
-
-// The same without options.
-fn compare(rt: &impl Abort, alloc: Global, cases: &[(&str, &str, &str)]) -> Result<(), Fail> {
-    compare_with(rt, alloc, PLAIN, cases)
-}
 
 #[test]
 fn instances_that_are_made_or_refused(rt: HostRuntime) -> Result<(), Fail> {
@@ -79,6 +47,12 @@ fn instances_that_are_made_or_refused(rt: HostRuntime) -> Result<(), Fail> {
                 "an operation that fails",
                 "create I S Q yes; deliver I done; answer I; finish I fail; send I; deliver I done; answer I",
                 "I cleaning failed; applied 7; skipped 0",
+            ),
+            (
+                "and a deletion that fails, still to be polled",
+                "create I S Q yes; deliver I done; answer I; finish I fail; send I; deliver I done; answer I; \
+send I; deliver I done; answer I; finish I fail",
+                "I cleaning-polling delete-failed; applied 11; skipped 0",
             ),
             (
                 "and a deletion that fails",
@@ -219,57 +193,6 @@ fn errors_of_a_gateway(rt: HostRuntime) -> Result<(), Fail> {
 }
 
 #[test]
-fn instances_are_settled_where_that_is_asked_for(rt: HostRuntime) -> Result<(), Fail> {
-    let options = Options {
-        settle: true,
-        saved: false,
-    };
-    compare_with(
-        &rt,
-        rt.alloc(),
-        options,
-        &[
-            (
-                "a timeout while it is made",
-                "create I S Q yes; deliver I done; timeout I; send I; deliver I done; answer I",
-                "I gone none; applied 6; skipped 0",
-            ),
-            (
-                "a deletion that failed and is still to be polled",
-                "create I S Q yes; deliver I done; answer I; finish I fail; send I; deliver I done; answer I; \
-send I; deliver I done; answer I; finish I fail",
-                "I gone none; applied 11; skipped 0",
-            ),
-            (
-                "an answer on its way",
-                "create I S P no; deliver I done",
-                "I gone none; applied 2; skipped 0",
-            ),
-            (
-                "an instance that stays unsettled",
-                "create I S P no; deliver I done; lose I; deliver I done; garble I; answer I",
-                "I unsettled ready; applied 6; skipped 0",
-            ),
-            (
-                "an instance that is polled",
-                "create I S Q yes; deliver I done; answer I",
-                "I ready ready; applied 3; skipped 0",
-            ),
-            (
-                "an error of a gateway",
-                "create I S P no; deliver I done; gateway I 503; answer I",
-                "I gone none; applied 4; skipped 0",
-            ),
-            (
-                "two instances",
-                "create J S P no; create I S Q yes; deliver I done; answer I",
-                "I ready ready; J gone none; applied 4; skipped 0",
-            ),
-        ],
-    )
-}
-
-#[test]
 fn the_saved_record_follows_where_it_is_asked_for(rt: HostRuntime) -> Result<(), Fail> {
     let made = after_plans(rt.alloc(), MADE)?;
     let cases = [
@@ -360,21 +283,27 @@ fn faulty_lines(rt: HostRuntime) -> Result<(), Fail> {
         ),
         ("not a choice", "deliver I maybe", 1, LineFault::BadChoice),
         (
-            "no status of a gateway",
-            "gateway I 499",
-            1,
+            "a status below a gateway's",
+            "plan S P sync; plan S Q async; gateway I 499",
+            3,
+            LineFault::BadChoice,
+        ),
+        (
+            "a status above a gateway's",
+            "plan S P sync; plan S Q async; gateway I 600",
+            3,
             LineFault::BadChoice,
         ),
         (
             "a status with a zero before it",
-            "gateway I 0502",
-            1,
+            "plan S P sync; plan S Q async; gateway I 0502",
+            3,
             LineFault::BadChoice,
         ),
         (
             "a gateway without a status",
-            "gateway I",
-            1,
+            "plan S P sync; plan S Q async; gateway I",
+            3,
             LineFault::WordCount,
         ),
         (
@@ -412,6 +341,12 @@ fn faulty_lines(rt: HostRuntime) -> Result<(), Fail> {
             );
             assert!(rt; written.is_empty(), "{name}, {most} bytes a call");
         }
+        let read = read_schedule(rt.alloc(), schedule.as_bytes());
+        let found = ScheduleFault::At { line, fault };
+        assert!(rt;
+            read.is_err_and(|fault| fault == found),
+            "{name}, in memory"
+        );
     }
     Ok(())
 }
@@ -422,4 +357,6 @@ fn a_faulty_last_line_without_its_line_feed(rt: HostRuntime) {
     let (line, fault) = (2, LineFault::UnknownWord);
     assert!(rt; result == Err(ReplayFault::Schedule { line, fault }));
     assert!(rt; written.is_empty());
+    let read = read_schedule(rt.alloc(), b"\nbogus");
+    assert!(rt; read.is_err_and(|found| found == ScheduleFault::At { line, fault }));
 }

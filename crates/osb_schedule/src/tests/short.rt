@@ -4,6 +4,7 @@ use crate::{Input, Options, Output, ReplayFault, replay};
 use std::alloc::Global;
 use std::io;
 use std::io::{Read, Write};
+use std::process::Abort;
 use std::test::Fail;
 
 /// The report alone.
@@ -11,6 +12,9 @@ pub const PLAIN: Options = Options {
     settle: false,
     saved: false,
 };
+
+/// How many bytes a reader gives a call at most.
+pub const CUTS: [usize; 3] = [1, 7, 4096];
 
 /// A synchronous plan and an asynchronous one.
 pub const PLANS: &str = "plan S P sync; plan S Q async";
@@ -164,4 +168,32 @@ pub fn outcome<R: Read + Drop>(alloc: Global, reader: R) -> (Result<(), ReplayFa
 /// What a replay of the text without options writes, or its fault.
 pub fn replayed(alloc: Global, schedule: &str) -> (Result<(), ReplayFault>, Vec<u8>) {
     outcome(alloc, schedule.as_bytes())
+}
+
+/// Replays each schedule after the plan lines, in pieces of each length, and compares with its report.
+pub fn compare_with(
+    rt: &impl Abort,
+    alloc: Global,
+    options: Options,
+    cases: &[(&str, &str, &str)],
+) -> Result<(), Fail> {
+    for (name, events, report) in cases {
+        let schedule = after_plans(alloc, events)?;
+        let report = expanded(alloc, report)?;
+        for most in CUTS {
+            let reader = in_pieces(schedule.as_bytes(), most);
+            let (result, written) = outcome_with(alloc, reader, options);
+            assert!(rt; result == Ok(()), "{name}, {most} bytes a call");
+            assert!(rt;
+                written.as_slice() == report.as_bytes(),
+                "{name}, {most} bytes a call"
+            );
+        }
+    }
+    Ok(())
+}
+
+/// The same without options.
+pub fn compare(rt: &impl Abort, alloc: Global, cases: &[(&str, &str, &str)]) -> Result<(), Fail> {
+    compare_with(rt, alloc, PLAIN, cases)
 }

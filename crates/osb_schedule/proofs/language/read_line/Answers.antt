@@ -11,4 +11,5 @@ returns-clause-says c =
     let short : length c.args.line.now ≤ LONGEST_LINE = omega arith in
     let ascii : is_ascii c.args.line.now ≡ true = search rules in
     says_iff c.args.line.now c.read_words.result
-    (c.read_words.ensures ∙ ap (λ bytes. spelled (words_of bytes)) c.without_carriage_return.ensures ∙ sym (line_of-words c.args.line.now short ascii))
+    (c.read_words.ensures.line ∙ ap (λ bytes. spelled (words_of bytes)) c.without_carriage_return.ensures.front
+    ∙ sym (line_of-words c.args.line.now short ascii))

@@ -8,12 +8,19 @@ use Rattle.osb_schedule.proofs.language.read_words.Goals as goal
 pub returns-then-begins_comment : goal.returns-then-begins_comment
 returns-then-begins_comment c =
     let rest = c.skip_blanks-rest.result.now in
-    sym (spelled_comment rest c.skip_blanks-rest.ensures.begins (sym c.begins_comment.ensures ∙ c.if-begins_comment.true))
-    ∙ ap spelled c.skip_blanks-rest.ensures.same
+    let marked = sym c.begins_comment.ensures.comment ∙ c.if-begins_comment.true in
+    record {
+      line = sym (spelled_comment rest c.skip_blanks-rest.ensures.begins marked) ∙ ap spelled c.skip_blanks-rest.ensures.same;
+    }
 
 pub returns-in-Some : goal.returns-in-Some
 returns-in-Some c =
     let rest = c.skip_blanks-rest.result.now in
-    c.read_spelled.ensures
-    ∙ sym (spelled_plain rest c.in-Some.first.now (words_of c.in-Some.words.now) c.skip_blanks-rest.ensures.begins (sym c.begins_comment.ensures ∙ c.if-begins_comment.false) c.in-Some.ensures)
-    ∙ ap spelled c.skip_blanks-rest.ensures.same
+    let first = c.in-Some.first.now in
+    let words = words_of c.in-Some.words.now in
+    let other = sym c.begins_comment.ensures.comment ∙ c.if-begins_comment.false in
+    record {
+      line = c.read_spelled.ensures.line
+          ∙ sym (spelled_plain rest first words c.skip_blanks-rest.ensures.begins other c.in-Some.ensures.words)
+          ∙ ap spelled c.skip_blanks-rest.ensures.same;
+    }

@@ -2,7 +2,8 @@
 use Rattle.std.proofs.Common.{◌≡◌, ◌<◌, length, sym, ap, ◌∙◌, ◌∷◌, arith, true, false, eqb}
 use Rattle.std.proofs.lemmas.Bool.Decides.{nat_tests}
 use Rattle.osb_schedule.specs.Words.{words_of}
-use Rattle.osb_schedule.proofs.Splitting.{words-none, words-cut, nothing}
+use Rattle.osb_schedule.proofs.Cutting.{nil_of_length}
+use Rattle.osb_schedule.proofs.Splitting.{words-none, words-cut}
 use Rattle.osb_schedule.proofs.words.split_word.Goals as goal
 
 pub returns-then-is_empty : goal.returns-then-is_empty
@@ -10,7 +11,7 @@ returns-then-is_empty c =
     let rest = c.skip_blanks-rest.result.now in
     let test : eqb (length rest) 0 ≡ true = sym c.is_empty.ensures ∙ c.if-is_empty.true in
     let none : length rest ≡ 0 = grind (arith, nat_tests) in
-    sym c.skip_blanks-rest.ensures.same ∙ ap words_of (nothing rest none) ∙ words-none
+    record { words = sym c.skip_blanks-rest.ensures.same ∙ ap words_of (nil_of_length rest none) ∙ words-none }
 
 pub returns : goal.returns
 returns c =
@@ -18,6 +19,8 @@ returns c =
     let test : eqb (length rest) 0 ≡ false = sym c.is_empty.ensures ∙ c.if-is_empty.false in
     let some : 0 < length rest = grind (arith, nat_tests) in
     let word = c.word_length.ensures in
-    sym c.skip_blanks-rest.ensures.same
-    ∙ words-cut rest c.word_length.result some (c.skip_blanks-rest.ensures.begins some) word.within word.run word.stop
-    ∙ (λ i. sym c.split_at.ensures.front i ∷ words_of (sym c.split_at.ensures.back i))
+    record {
+      words = sym c.skip_blanks-rest.ensures.same
+          ∙ words-cut rest c.word_length.result some (c.skip_blanks-rest.ensures.begins some) word.within word.run word.stop
+          ∙ (λ i. sym c.split_at.ensures.front i ∷ words_of (sym c.split_at.ensures.back i));
+    }
