@@ -1,5 +1,7 @@
 -- What more bytes do to what is known of the bytes so far.
-use Rattle.std.proofs.Common.{below_more, ◌≡◌, ℕ, ◌+◌, ◌<◌, ◌≤◌, ◌⊎◌, inl, inr, Bool, true, false, eqb, List, [], ◌∷◌, ◌++◌, length, take, drop, Some, None, refl, sym, ap, ◌∙◌, subst, append_assoc, append-nil, arith, IsTrue}
+use Rattle.std.proofs.Common.{below_more, ◌≡◌, ℕ, ◌+◌, ◌<◌, ◌≤◌, ◌⊎◌, inl, inr, Bool, true, false, eqb, List, [], ◌∷◌}
+use Rattle.std.proofs.Common.{◌++◌, length, take, drop, Some, None, refl, sym, ap, ◌∙◌, subst, append_assoc, append-nil}
+use Rattle.std.proofs.Common.{arith, IsTrue}
 use Rattle.std.proofs.lemmas.Grind.{common_steps}
 use Rattle.std.proofs.lemmas.List.{take_at, get_or_at, take-append-le, get_or_append_left, length-append}
 use Rattle.std.proofs.lemmas.Bool.Decides.{nat_tests}
@@ -16,7 +18,8 @@ use Rattle.osb_schedule.specs.declared.run.Run.{Run}
 use Rattle.osb_schedule.specs.Reading.{Reading, taken, with_line, EndedAs, HasReadAs, HasRead, Refuses}
 use Rattle.osb_schedule.specs.declared.faults.ScheduleFault.{ScheduleFault}
 use Rattle.osb_schedule.specs.declared.faults.ScheduleFault.TheVariants.{At, Memory}
-use Rattle.osb_schedule.proofs.Cutting.{lines_at_feed, cut_at, front_line, some_line, unended_both, nil_of_length, held_line}
+use Rattle.osb_schedule.proofs.Cutting.{lines_at_feed, cut_at, front_line, some_line, unended_both, nil_of_length}
+use Rattle.osb_schedule.proofs.Cutting.{held_line}
 
 pub on_ok_both : {T E : Type 0} (P Q : Type 0) (r : Result T E) → OnOk r P → OnOk r Q → OnOk r (P × Q)
 on_ok_both P Q (Ok x) p q = (p, q)
@@ -27,14 +30,17 @@ pub fault_said : (ended : List (List ℕ)) (line : List ℕ) → length ended < 
     → fault_of ended line ≡ said_fault ended line
 fault_said ended line few short = grind (arith, nat_tests)
 
-pub fault_long : (ended : List (List ℕ)) (line : List ℕ) → length ended < MOST_LINES → LONGEST_LINE < length line → fault_of ended line ≡ Some LineTooLong
+pub fault_long : (ended : List (List ℕ)) (line : List ℕ) → length ended < MOST_LINES → LONGEST_LINE < length line
+    → fault_of ended line ≡ Some LineTooLong
 fault_long ended line few long = grind (arith, nat_tests)
 
-pub fault_many : (ended : List (List ℕ)) (line : List ℕ) → length ended ≡ MOST_LINES → fault_of ended line ≡ Some TooManyLines
+pub fault_many : (ended : List (List ℕ)) (line : List ℕ) → length ended ≡ MOST_LINES
+    → fault_of ended line ≡ Some TooManyLines
 fault_many ended line many = grind (arith, nat_tests)
 
 -- the line after those without a fault has this fault and is judged, so it is the first
-pub fault_in : (bytes : List ℕ) (ended : List (List ℕ)) (line : List ℕ) (after : List (List ℕ)) (fault : LineFault) (stop : Bool)
+pub fault_in : (bytes : List ℕ) (ended : List (List ℕ)) (line : List ℕ) (after : List (List ℕ)) (fault : LineFault)
+    (stop : Bool)
     → lines bytes ≡ ended ++ line ∷ after
     → ((n : ℕ) → n < length ended → fault_of (take n ended) (line_at ended n) ≡ None) → fault_of ended line ≡ Some fault
     → (length ended < ended_lines bytes) ⊎ IsTrue stop ⊎ (LONGEST_LINE < length line) ⊎ (length ended ≡ MOST_LINES)
@@ -43,52 +49,69 @@ fault_in bytes ended line after fault stop all faultless here judged =
     let at : line_at (lines bytes) (length ended) ≡ line = rw all (get_or_at ended line after [] (length ended) refl) in
     record {
       judged = (rw all (simp length-append (omega arith)), rw at judged);
-      at_line = rw (all, take_at ended (line ∷ after) (length ended) refl, get_or_at ended line after [] (length ended) refl) here;
+      at_line = rw (
+        all,
+        take_at ended (line ∷ after) (length ended) refl,
+        get_or_at ended line after [] (length ended) refl,
+      ) here;
       none_before = λ k below.
           let within : k ≤ length ended = omega arith in
-          rw (all, take-append-le k ended (line ∷ after) within, get_or_append_left ended (line ∷ after) [] k below) (faultless k below);
+          rw (all, take-append-le k ended (line ∷ after) within, get_or_append_left ended (line ∷ after) [] k below)
+          (faultless k below);
     }
 
 -- the same after the ended lines
-pub first_fault : (bytes more : List ℕ) (ended : List (List ℕ)) (rest line : List ℕ) (after : List (List ℕ)) (fault : LineFault) (stop : Bool)
+pub first_fault : (bytes more : List ℕ) (ended : List (List ℕ)) (rest line : List ℕ) (after : List (List ℕ))
+    (fault : LineFault) (stop : Bool)
     → EndedAs bytes ended rest → lines (rest ++ more) ≡ line ∷ after → fault_of ended line ≡ Some fault
-    → (length ended < ended_lines (bytes ++ more)) ⊎ IsTrue stop ⊎ (LONGEST_LINE < length line) ⊎ (length ended ≡ MOST_LINES)
+    → (length ended < ended_lines (bytes ++ more)) ⊎ IsTrue stop ⊎ (LONGEST_LINE < length line)
+    ⊎ (length ended ≡ MOST_LINES)
     → IsFirstFault (bytes ++ more) stop (length ended) fault
 first_fault bytes more ended rest line after fault stop so_far next here judged =
-    fault_in (bytes ++ more) ended line after fault stop (so_far.cut more ∙ ap (λ tail. ended ++ tail) next) so_far.faultless here judged
+    fault_in (bytes ++ more) ended line after fault stop
+    (so_far.cut more ∙ ap (λ tail. ended ++ tail) next) so_far.faultless here judged
 
-pub faultless_more : (ended : List (List ℕ)) (line : List ℕ) → ((n : ℕ) → n < length ended → fault_of (take n ended) (line_at ended n) ≡ None) → fault_of ended line ≡ None
+pub faultless_more : (ended : List (List ℕ)) (line : List ℕ)
+    → ((n : ℕ) → n < length ended → fault_of (take n ended) (line_at ended n) ≡ None) → fault_of ended line ≡ None
     → (n : ℕ) → n < length ended + 1 → fault_of (take n (ended ++ line ∷ [])) (line_at (ended ++ line ∷ []) n) ≡ None
 faultless_more ended line before here =
     below_more _ (length ended)
-    (λ n below. let within : n ≤ length ended = omega arith in rw (take-append-le n ended (line ∷ []) within, get_or_append_left ended (line ∷ []) [] n below) (before n below))
+    (λ n below. let within : n ≤ length ended = omega arith in
+    rw (take-append-le n ended (line ∷ []) within, get_or_append_left ended (line ∷ []) [] n below) (before n below))
     (rw (take_at ended (line ∷ []) (length ended) refl, get_or_at ended line [] [] (length ended) refl) here)
 
-pub ended_feed : (bytes : List ℕ) (ended : List (List ℕ)) (rest : List ℕ) → EndedAs bytes ended rest → fault_of ended rest ≡ None
+pub ended_feed : (bytes : List ℕ) (ended : List (List ℕ)) (rest : List ℕ) → EndedAs bytes ended rest
+    → fault_of ended rest ≡ None
     → EndedAs (bytes ++ 10 ∷ []) (ended ++ rest ∷ []) []
 ended_feed bytes ended rest so_far good = record {
   cut = λ more. rw (append_assoc bytes (10 ∷ []) more, append_assoc ended (rest ∷ []) (lines more))
       (so_far.cut (10 ∷ more) ∙ ap (λ tail. ended ++ tail) (lines_at_feed rest more so_far.unended));
   count = let after = so_far.count in grind (arith, common_steps);
   unended = refl;
-  faultless = λ n below. faultless_more ended rest so_far.faultless good n (let long = length-append ended (rest ∷ []) in omega arith);
+  faultless = λ n below. faultless_more ended rest so_far.faultless good n
+      (let long = length-append ended (rest ∷ []) in omega arith);
 }
 
 -- a line feed ends the held line, which has a fault
-pub refused_said : (bytes more : List ℕ) (reader : Reading) (ended : List (List ℕ)) (fault : LineFault) → HasReadAs bytes reader ended → reader.ended < MOST_LINES
+pub refused_said : (bytes more : List ℕ) (reader : Reading) (ended : List (List ℕ)) (fault : LineFault)
+    → HasReadAs bytes reader ended → reader.ended < MOST_LINES
     → said_fault ended reader.held ≡ Some fault → IsFirstFault (bytes ++ 10 ∷ more) false reader.ended fault
 refused_said bytes more reader ended fault so_far few said =
     let split = so_far.split in
     let below : length ended < MOST_LINES = omega (arith, so_far.number) in
     let here : fault_of ended reader.held ≡ Some fault =
     fault_said ended reader.held below so_far.room ∙ said in
-    let due : length ended < ended_lines (bytes ++ 10 ∷ more) = let count = split.count in grind (arith, common_steps) in
+    let due : length ended < ended_lines (bytes ++ 10 ∷ more) = let count = split.count in
+    grind (arith, common_steps) in
     subst (λ n. IsFirstFault (bytes ++ 10 ∷ more) false n fault) (sym so_far.number)
-    (first_fault bytes (10 ∷ more) ended reader.held reader.held (lines more) fault false split (lines_at_feed reader.held more split.unended) here (inl due))
+    (first_fault bytes (10 ∷ more) ended reader.held reader.held (lines more) fault false split
+    (lines_at_feed reader.held more split.unended) here (inl due))
 
 -- a line feed ends the held line, which has none
-pub good_feed : (bytes : List ℕ) (old new : Reading) (ended : List (List ℕ)) → HasReadAs bytes old ended → old.ended < MOST_LINES
-    → said_fault ended old.held ≡ None → HasRun (ended ++ old.held ∷ []) new.run → new.held ≡ [] → new.ended ≡ old.ended + 1
+pub good_feed : (bytes : List ℕ) (old new : Reading) (ended : List (List ℕ)) → HasReadAs bytes old ended
+    → old.ended < MOST_LINES
+    → said_fault ended old.held ≡ None → HasRun (ended ++ old.held ∷ []) new.run → new.held ≡ []
+    → new.ended ≡ old.ended + 1
     → HasRead (bytes ++ 10 ∷ []) new
 good_feed bytes old new ended so_far few said ran held number =
     let below : length ended < MOST_LINES = omega (arith, so_far.number) in
@@ -97,7 +120,8 @@ good_feed bytes old new ended so_far few said ran held number =
     let empty : length new.held ≡ 0 = ap length held in (
       ended ++ old.held ∷ [],
       record {
-        split = subst (EndedAs (bytes ++ 10 ∷ []) (ended ++ old.held ∷ [])) (sym held) (ended_feed bytes ended old.held so_far.split here);
+        split = subst (EndedAs (bytes ++ 10 ∷ []) (ended ++ old.held ∷ [])) (sym held)
+            (ended_feed bytes ended old.held so_far.split here);
         number = omega (arith, so_far.number);
         ran = ran;
         room = omega arith;
@@ -107,8 +131,10 @@ good_feed bytes old new ended so_far few said ran held number =
     )
 
 -- more of the line under construction
-pub held_more : (bytes part : List ℕ) (reader : Reading) (ended : List (List ℕ)) → HasReadAs bytes reader ended → reader.ended < MOST_LINES
-    → ended_lines part ≡ 0 → length reader.held + length part ≤ LONGEST_LINE → HasReadAs (bytes ++ part) (with_line reader (reader.held ++ part)) ended
+pub held_more : (bytes part : List ℕ) (reader : Reading) (ended : List (List ℕ)) → HasReadAs bytes reader ended
+    → reader.ended < MOST_LINES
+    → ended_lines part ≡ 0 → length reader.held + length part ≤ LONGEST_LINE
+    → HasReadAs (bytes ++ part) (with_line reader (reader.held ++ part)) ended
 held_more bytes part reader ended so_far few unended room =
     let split = so_far.split in
     let longer = length-append reader.held part in
@@ -127,25 +153,33 @@ held_more bytes part reader ended so_far few unended room =
     }
 
 -- the same where nothing was held
-pub held_whole : (bytes part : List ℕ) (reader : Reading) (ended : List (List ℕ)) → HasReadAs bytes reader ended → reader.ended < MOST_LINES
-    → ended_lines part ≡ 0 → length reader.held + length part ≤ LONGEST_LINE → reader.held ≡ [] → HasReadAs (bytes ++ part) (with_line reader part) ended
+pub held_whole : (bytes part : List ℕ) (reader : Reading) (ended : List (List ℕ)) → HasReadAs bytes reader ended
+    → reader.ended < MOST_LINES
+    → ended_lines part ≡ 0 → length reader.held + length part ≤ LONGEST_LINE → reader.held ≡ []
+    → HasReadAs (bytes ++ part) (with_line reader part) ended
 held_whole bytes part reader ended so_far few unended room none =
-    subst (λ front. HasReadAs (bytes ++ part) (with_line reader (front ++ part)) ended) none (held_more bytes part reader ended so_far few unended room)
+    subst (λ front. HasReadAs (bytes ++ part) (with_line reader (front ++ part)) ended) none
+    (held_more bytes part reader ended so_far few unended room)
 
 -- more than a line may have
 pub refused_long : (bytes part more : List ℕ) (reader : Reading) → HasRead bytes reader → reader.ended < MOST_LINES
-    → ended_lines part ≡ 0 → LONGEST_LINE < length reader.held + length part → IsFirstFault (bytes ++ part ++ more) false reader.ended LineTooLong
+    → ended_lines part ≡ 0 → LONGEST_LINE < length reader.held + length part
+    → IsFirstFault (bytes ++ part ++ more) false reader.ended LineTooLong
 refused_long bytes part more reader (ended, so_far) few unended long =
     let split = so_far.split in
     let below : length ended < MOST_LINES = omega (arith, so_far.number) in
     let longer = length-append reader.held part in
-    let (line, after, next, within) = front_line (reader.held ++ part) more (omega arith) (unended_both reader.held part split.unended unended) in
+    let (line, after, next, within) =
+    front_line (reader.held ++ part) more (omega arith) (unended_both reader.held part split.unended unended) in
     let over : LONGEST_LINE < length line = omega arith in
     subst (λ n. IsFirstFault (bytes ++ part ++ more) false n LineTooLong) (sym so_far.number)
-    (rw (append_assoc bytes part more) (first_fault bytes (part ++ more) ended reader.held line after LineTooLong false split (rw append_assoc at next) (fault_long ended line below over) (inr (inr (inl over)))))
+    (rw (append_assoc bytes part more)
+    (first_fault bytes (part ++ more) ended reader.held line after LineTooLong false split (rw append_assoc at next)
+    (fault_long ended line below over) (inr (inr (inl over)))))
 
 -- a byte after the last line that there may be
-pub refused_many : (bytes more : List ℕ) (reader : Reading) → HasRead bytes reader → reader.ended ≡ MOST_LINES → 0 < length more
+pub refused_many : (bytes more : List ℕ) (reader : Reading) → HasRead bytes reader → reader.ended ≡ MOST_LINES
+    → 0 < length more
     → IsFirstFault (bytes ++ more) false reader.ended TooManyLines
 refused_many bytes more reader (ended, so_far) all some =
     let split = so_far.split in
@@ -156,14 +190,17 @@ refused_many bytes more reader (ended, so_far) all some =
     ] in
     let (line, after, next) = some_line more some in
     subst (λ n. IsFirstFault (bytes ++ more) false n TooManyLines) (sym so_far.number)
-    (first_fault bytes more ended reader.held line after TooManyLines false split (rw (nil_of_length reader.held empty) next) (fault_many ended line many) (inr (inr (inr many))))
+    (first_fault bytes more ended reader.held line after TooManyLines false split
+    (rw (nil_of_length reader.held empty) next) (fault_many ended line many) (inr (inr (inr many))))
 
 -- ---- the end of the input
 
-lines_so_far : (bytes : List ℕ) (ended : List (List ℕ)) (rest : List ℕ) → EndedAs bytes ended rest → lines bytes ≡ ended ++ lines rest
+lines_so_far : (bytes : List ℕ) (ended : List (List ℕ)) (rest : List ℕ) → EndedAs bytes ended rest
+    → lines bytes ≡ ended ++ lines rest
 lines_so_far bytes ended rest so_far = rw (append-nil bytes, append-nil rest) at (so_far.cut [])
 
-pub faultless_all : (bytes : List ℕ) (all : List (List ℕ)) (stop : Bool) → lines bytes ≡ all → ((n : ℕ) → n < length all → fault_of (take n all) (line_at all n) ≡ None) → HasNoFault bytes stop
+pub faultless_all : (bytes : List ℕ) (all : List (List ℕ)) (stop : Bool) → lines bytes ≡ all
+    → ((n : ℕ) → n < length all → fault_of (take n all) (line_at all n) ≡ None) → HasNoFault bytes stop
 faultless_all bytes all stop same each = λ n judged. rw same (each n (rw same at judged.0))
 
 -- nothing is held, so every line has ended
@@ -171,11 +208,15 @@ pub none_held : (bytes : List ℕ) (reader : Reading) → HasRead bytes reader �
     → HasNoFault bytes true × HasRun (lines bytes) reader.run
 none_held bytes reader (ended, so_far) empty =
     let all : lines bytes ≡ ended =
-    lines_so_far bytes ended reader.held so_far.split ∙ ap (λ rest. ended ++ lines rest) (nil_of_length reader.held empty) ∙ append-nil ended in
-    (faultless_all bytes ended true all so_far.split.faultless, subst (λ all. HasRun all reader.run) (sym all) so_far.ran)
+    lines_so_far bytes ended reader.held so_far.split
+    ∙ ap (λ rest. ended ++ lines rest) (nil_of_length reader.held empty) ∙ append-nil ended in (
+      faultless_all bytes ended true all so_far.split.faultless,
+      subst (λ all. HasRun all reader.run) (sym all) so_far.ran,
+    )
 
 -- what is held is the last line
-pub last_good : (bytes : List ℕ) (reader : Reading) (ended : List (List ℕ)) (run : Run) → HasReadAs bytes reader ended → 0 < length reader.held
+pub last_good : (bytes : List ℕ) (reader : Reading) (ended : List (List ℕ)) (run : Run) → HasReadAs bytes reader ended
+    → 0 < length reader.held
     → said_fault ended reader.held ≡ None → HasRun (ended ++ reader.held ∷ []) run
     → HasNoFault bytes true × HasRun (lines bytes) run
 last_good bytes reader ended run so_far some said ran =
@@ -183,37 +224,46 @@ last_good bytes reader ended run so_far some said ran =
     let below : length ended < MOST_LINES = let few = so_far.within some in omega (arith, so_far.number) in
     let here : fault_of ended reader.held ≡ None = fault_said ended reader.held below so_far.room ∙ said in
     let all : lines bytes ≡ ended ++ reader.held ∷ [] =
-    lines_so_far bytes ended reader.held split ∙ ap (λ tail. ended ++ tail) (held_line reader.held some split.unended) in
+    lines_so_far bytes ended reader.held split
+    ∙ ap (λ tail. ended ++ tail) (held_line reader.held some split.unended) in
     let longer = length-append ended (reader.held ∷ []) in (
-      faultless_all bytes (ended ++ reader.held ∷ []) true all (λ n below. faultless_more ended reader.held split.faultless here n (omega arith)),
+      faultless_all bytes (ended ++ reader.held ∷ []) true all
+          (λ n below. faultless_more ended reader.held split.faultless here n (omega arith)),
       subst (λ all. HasRun all run) (sym all) ran,
     )
 
-pub last_refused : (bytes : List ℕ) (reader : Reading) (ended : List (List ℕ)) (fault : LineFault) → HasReadAs bytes reader ended → 0 < length reader.held
+pub last_refused : (bytes : List ℕ) (reader : Reading) (ended : List (List ℕ)) (fault : LineFault)
+    → HasReadAs bytes reader ended → 0 < length reader.held
     → said_fault ended reader.held ≡ Some fault → IsFirstFault bytes true reader.ended fault
 last_refused bytes reader ended fault so_far some said =
     let split = so_far.split in
     let below : length ended < MOST_LINES = let few = so_far.within some in omega (arith, so_far.number) in
     let here : fault_of ended reader.held ≡ Some fault =
     fault_said ended reader.held below so_far.room ∙ said in
-    let next : lines (reader.held ++ []) ≡ reader.held ∷ [] = rw (append-nil reader.held) (held_line reader.held some split.unended) in
+    let next : lines (reader.held ++ []) ≡ reader.held ∷ [] =
+    rw (append-nil reader.held) (held_line reader.held some split.unended) in
     rw so_far.number
-    (rw (append-nil bytes) at (first_fault bytes [] ended reader.held reader.held [] fault true split next here (inr (inl refl))))
+    (rw (append-nil bytes) at (first_fault bytes [] ended reader.held reader.held [] fault true split next here
+    (inr (inl refl))))
 
 -- the held part isn't judged before the end: it is short, and isn't line 100001
-held_unjudged : (bytes : List ℕ) (reader : Reading) (ended : List (List ℕ)) → HasReadAs bytes reader ended → 0 < length reader.held
+held_unjudged : (bytes : List ℕ) (reader : Reading) (ended : List (List ℕ)) → HasReadAs bytes reader ended
+    → 0 < length reader.held
     → IsJudged bytes false (length ended) → ⊥
 held_unjudged bytes reader ended so_far some judged =
     let split = so_far.split in
     let all : lines bytes ≡ ended ++ reader.held ∷ [] =
-    lines_so_far bytes ended reader.held split ∙ ap (λ tail. ended ++ tail) (held_line reader.held some split.unended) in
-    let at : line_at (lines bytes) (length ended) ≡ reader.held = rw all (get_or_at ended reader.held [] [] (length ended) refl) in
+    lines_so_far bytes ended reader.held split
+    ∙ ap (λ tail. ended ++ tail) (held_line reader.held some split.unended) in
+    let at : line_at (lines bytes) (length ended) ≡ reader.held =
+    rw all (get_or_at ended reader.held [] [] (length ended) refl) in
     elim judged.1 [
       | inl below ↦ omega (arith, split.count)
       | inr more ↦ elim more [
         | inl stop ↦ false≢true stop
         | inr last ↦ elim last [
-          | inl long ↦ let short : length (line_at (lines bytes) (length ended)) ≤ LONGEST_LINE = rw at so_far.room in omega arith
+          | inl long ↦ let short : length (line_at (lines bytes) (length ended)) ≤ LONGEST_LINE = rw at so_far.room in
+              omega arith
           | inr many ↦ let few = so_far.within some in omega (arith, so_far.number)
         ]
       ]
@@ -225,14 +275,20 @@ none_so_far bytes reader (ended, so_far) n judged =
     let split = so_far.split in
     elim (cases_lt 0 (length reader.held)) [
       | inr none ↦ faultless_all bytes ended false (lines_so_far bytes ended reader.held split
-          ∙ ap (λ rest. ended ++ lines rest) (nil_of_length reader.held (omega arith)) ∙ append-nil ended) split.faultless n judged
+          ∙ ap (λ rest. ended ++ lines rest) (nil_of_length reader.held (omega arith))
+          ∙ append-nil ended) split.faultless n judged
       | inl some ↦
           let all : lines bytes ≡ ended ++ reader.held ∷ [] =
-          lines_so_far bytes ended reader.held split ∙ ap (λ tail. ended ++ tail) (held_line reader.held some split.unended) in
+          lines_so_far bytes ended reader.held split
+          ∙ ap (λ tail. ended ++ tail) (held_line reader.held some split.unended) in
           elim (cases_lt n (length ended)) [
             | inl below ↦
                 let within : n ≤ length ended = omega arith in
-                rw (all, take-append-le n ended (reader.held ∷ []) within, get_or_append_left ended (reader.held ∷ []) [] n below) (split.faultless n below)
+                rw (
+                  all,
+                  take-append-le n ended (reader.held ∷ []) within,
+                  get_or_append_left ended (reader.held ∷ []) [] n below,
+                ) (split.faultless n below)
             | inr over ↦
                 let longer = length-append ended (reader.held ∷ []) in
                 let inside = rw all at judged.0 in
@@ -244,14 +300,16 @@ none_so_far bytes reader (ended, so_far) n judged =
 -- ---- in the words of the reader's contracts
 
 -- the held line's own fault, where a line feed ends it
-pub refused_feed : (bytes more : List ℕ) (reader : Reading) (ended : List (List ℕ)) (fault : ScheduleFault) → HasReadAs bytes reader ended → reader.ended < MOST_LINES
+pub refused_feed : (bytes more : List ℕ) (reader : Reading) (ended : List (List ℕ)) (fault : ScheduleFault)
+    → HasReadAs bytes reader ended → reader.ended < MOST_LINES
     → IsLineFault (reader.ended + 1) (said_fault ended reader.held) fault → Refuses (bytes ++ 10 ∷ more) false fault
 refused_feed bytes more reader ended (At line found) so_far few (number, own) =
     (reader.ended, number, refused_said bytes more reader ended found so_far few own)
 refused_feed bytes more reader ended Memory so_far few own = tt
 
 -- the held line's own fault, where the input ends it
-pub refused_end : (bytes : List ℕ) (reader : Reading) (ended : List (List ℕ)) (fault : ScheduleFault) → HasReadAs bytes reader ended → 0 < length reader.held
+pub refused_end : (bytes : List ℕ) (reader : Reading) (ended : List (List ℕ)) (fault : ScheduleFault)
+    → HasReadAs bytes reader ended → 0 < length reader.held
     → IsLineFault (reader.ended + 1) (said_fault ended reader.held) fault → Refuses bytes true fault
 refused_end bytes reader ended (At line found) so_far some (number, own) =
     (reader.ended, number, last_refused bytes reader ended found so_far some own)
@@ -271,22 +329,27 @@ pub passed_rest : (bytes front rest piece : List ℕ) → front ++ rest ≡ piec
 passed_rest bytes front rest piece all = append_assoc bytes front rest ∙ ap (λ tail. bytes ++ tail) all
 
 -- the same, the rest cut at a line feed
-pub passed_cut : (bytes front rest piece : List ℕ) (n : ℕ) → front ++ rest ≡ piece → n < length rest → eqb (slice_index rest n) 10 ≡ true
+pub passed_cut : (bytes front rest piece : List ℕ) (n : ℕ) → front ++ rest ≡ piece → n < length rest
+    → eqb (slice_index rest n) 10 ≡ true
     → ((bytes ++ front) ++ take n rest) ++ 10 ∷ drop (n + 1) rest ≡ bytes ++ piece
 passed_cut bytes front rest piece n all below feed =
     append_assoc (bytes ++ front) (take n rest) (10 ∷ drop (n + 1) rest)
     ∙ ap (λ tail. (bytes ++ front) ++ tail) (cut_at rest n below feed) ∙ passed_rest bytes front rest piece all
 
 -- one line more is passed
-pub passed_line : (piece rest : List ℕ) (n : ℕ) (old now new : Reading) → Passed piece rest old now → n < length rest → eqb (slice_index rest n) 10 ≡ true
-    → ((bytes : List ℕ) → HasRead bytes now → HasRead ((bytes ++ take n rest) ++ 10 ∷ []) new) → taken now + length (take n rest) < taken new
+pub passed_line : (piece rest : List ℕ) (n : ℕ) (old now new : Reading) → Passed piece rest old now → n < length rest
+    → eqb (slice_index rest n) 10 ≡ true
+    → ((bytes : List ℕ) → HasRead bytes now → HasRead ((bytes ++ take n rest) ++ 10 ∷ []) new)
+    → taken now + length (take n rest) < taken new
     → Passed piece (drop (n + 1) rest) old new
 passed_line piece rest n old now new before below feed read moved = record {
   front = before.front ++ (take n rest ++ 10 ∷ []);
   all = append_assoc before.front (take n rest ++ 10 ∷ []) (drop (n + 1) rest)
-      ∙ ap (λ tail. before.front ++ tail) (append_assoc (take n rest) (10 ∷ []) (drop (n + 1) rest) ∙ cut_at rest n below feed) ∙ before.all;
+      ∙ ap (λ tail. before.front ++ tail)
+      (append_assoc (take n rest) (10 ∷ []) (drop (n + 1) rest) ∙ cut_at rest n below feed) ∙ before.all;
   read = λ bytes so_far. subst (λ all. HasRead all new)
-      (append_assoc (bytes ++ before.front) (take n rest) (10 ∷ []) ∙ append_assoc bytes before.front (take n rest ++ 10 ∷ []))
+      (append_assoc (bytes ++ before.front) (take n rest) (10 ∷ [])
+      ∙ append_assoc bytes before.front (take n rest ++ 10 ∷ []))
       (read (bytes ++ before.front) (before.read bytes so_far));
   moved =
       let line = length-append (take n rest) (10 ∷ []) in

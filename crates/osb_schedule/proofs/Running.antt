@@ -1,5 +1,6 @@
 -- What one more line does to what is kept of the lines so far.
-use Rattle.std.proofs.Common.{◌≡◌, ℕ, ◌+◌, Bool, true, false, cond, List, [], ◌∷◌, ◌++◌, length, refl, sym, ap, ◌∙◌, subst, arith, append_assoc, append-nil}
+use Rattle.std.proofs.Common.{◌≡◌, ℕ, ◌+◌, Bool, true, false, cond, List, [], ◌∷◌, ◌++◌, length, refl, sym, ap, ◌∙◌}
+use Rattle.std.proofs.Common.{subst, arith, append_assoc, append-nil}
 use Rattle.std.proofs.lemmas.List.{length-append}
 use Rattle.std.proofs.lemmas.List.Concat.{flat_map-append}
 use Rattle.std.proofs.lemmas.List.Sums.{fold-append}
@@ -20,14 +21,20 @@ use Rattle.osb_world.specs.Views.{WorldState, catalogue_of, cell_at, step_of}
 use Rattle.osb_schedule.proofs.Runs.{cell_after-more}
 
 -- one event more
-pub world-more : (cat : Catalogue) (events : List Event) (event : Event) (old new : WorldState) → IsWorldAfter cat events old
-    → ((q : ℕ) → cell_at new q ≡ next_cell (catalogue_of old) q (cell_at old q) event) → catalogue_of new ≡ catalogue_of old
+pub world-more : (cat : Catalogue) (events : List Event) (event : Event) (old new : WorldState)
+    → IsWorldAfter cat events old
+    → ((q : ℕ) → cell_at new q ≡ next_cell (catalogue_of old) q (cell_at old q) event)
+    → catalogue_of new ≡ catalogue_of old
     → IsWorldAfter cat (events ++ event ∷ []) new
-world-more cat events event old new (same, cells) stepped kept =
-    (kept ∙ same, λ q. stepped q ∙ (λ i. next_cell (same i) q (cells q i) event) ∙ sym (cell_after-more cat q events event))
+world-more cat events event old new (same, cells) stepped kept = (
+  kept ∙ same,
+  λ q. stepped q ∙ (λ i. next_cell (same i) q (cells q i) event)
+      ∙ sym (cell_after-more cat q events event),
+)
 
 applied_after-more : (cat : Catalogue) (before events : List Event) (event : Event)
-    → applied_after cat before (events ++ event ∷ []) ≡ applied_after cat before events + cond (applies_at (λ id. cell_after cat id (before ++ events)) event) 1 0
+    → applied_after cat before (events ++ event ∷ []) ≡ applied_after cat before events + cond
+    (applies_at (λ id. cell_after cat id (before ++ events)) event) 1 0
 applied_after-more cat before [] event =
     let e : before ++ [] ≡ before = append-nil before in
     rw e (omega arith)
@@ -38,19 +45,23 @@ applied_after-more cat before (first ∷ events) event =
     omega arith
 
 pub applied-more : (cat : Catalogue) (events : List Event) (event : Event)
-    → applied_count cat (events ++ event ∷ []) ≡ applied_count cat events + cond (applies_at (λ id. cell_after cat id events) event) 1 0
+    → applied_count cat (events ++ event ∷ []) ≡ applied_count cat events + cond
+    (applies_at (λ id. cell_after cat id events) event) 1 0
 applied-more cat events event = applied_after-more cat [] events event
 
 pub length-more : (events : List Event) (event : Event) → length (events ++ event ∷ []) ≡ length events + 1
 length-more events event = length-append events (event ∷ [])
 
 -- one line more
-pub catalogue-more : (earlier : List (List ℕ)) (line : List ℕ) → catalogue_in (earlier ++ line ∷ []) ≡ with_plan (catalogue_in earlier) (line_of line)
+pub catalogue-more : (earlier : List (List ℕ)) (line : List ℕ)
+    → catalogue_in (earlier ++ line ∷ []) ≡ with_plan (catalogue_in earlier) (line_of line)
 catalogue-more earlier line = fold-append (λ cat line. with_plan cat (line_of line)) map.empty earlier (line ∷ [])
 
-pub events-more : (earlier : List (List ℕ)) (line : List ℕ) → events_in (earlier ++ line ∷ []) ≡ events_in earlier ++ event_in (line_of line)
+pub events-more : (earlier : List (List ℕ)) (line : List ℕ)
+    → events_in (earlier ++ line ∷ []) ≡ events_in earlier ++ event_in (line_of line)
 events-more earlier line =
-    flat_map-append (λ line. event_in (line_of line)) earlier (line ∷ []) ∙ ap (λ events. events_in earlier ++ events) (append-nil (event_in (line_of line)))
+    flat_map-append (λ line. event_in (line_of line)) earlier (line ∷ [])
+    ∙ ap (λ events. events_in earlier ++ events) (append-nil (event_in (line_of line)))
 
 -- an event that applied is counted as that, and one that was skipped isn't
 is_applied : (b : Bool) → Applied ≡ step_of b → b ≡ true
@@ -62,20 +73,27 @@ is_skipped false e = refl
 is_skipped true e = absurd (cc)
 
 -- the event applies to the world as to the cells after the events so far
-applies_after : (cat : Catalogue) (events : List Event) (event : Event) (world : WorldState) → IsWorldAfter cat events world
+applies_after : (cat : Catalogue) (events : List Event) (event : Event) (world : WorldState)
+    → IsWorldAfter cat events world
     → applies_at (λ id. cell_after cat id events) event ≡ applies_at (cell_at world) event
 applies_after cat events event world after = sym (λ i. applies_at (λ id. after.1 id i) event)
 
-pub counts-applied : (cat : Catalogue) (events : List Event) (event : Event) (world : WorldState) → IsWorldAfter cat events world
-    → Applied ≡ step_of (applies_at (cell_at world) event) → applied_count cat (events ++ event ∷ []) ≡ applied_count cat events + 1
+pub counts-applied : (cat : Catalogue) (events : List Event) (event : Event) (world : WorldState)
+    → IsWorldAfter cat events world
+    → Applied ≡ step_of (applies_at (cell_at world) event)
+    → applied_count cat (events ++ event ∷ []) ≡ applied_count cat events + 1
 counts-applied cat events event world after told =
-    let yes : applies_at (λ id. cell_after cat id events) event ≡ true = applies_after cat events event world after ∙ is_applied _ told in
+    let yes : applies_at (λ id. cell_after cat id events) event ≡ true = applies_after cat events event world after
+    ∙ is_applied _ told in
     applied-more cat events event ∙ ap (λ b. applied_count cat events + cond b 1 0) yes
 
-pub counts-skipped : (cat : Catalogue) (events : List Event) (event : Event) (world : WorldState) → IsWorldAfter cat events world
-    → Skipped ≡ step_of (applies_at (cell_at world) event) → applied_count cat (events ++ event ∷ []) ≡ applied_count cat events
+pub counts-skipped : (cat : Catalogue) (events : List Event) (event : Event) (world : WorldState)
+    → IsWorldAfter cat events world
+    → Skipped ≡ step_of (applies_at (cell_at world) event)
+    → applied_count cat (events ++ event ∷ []) ≡ applied_count cat events
 counts-skipped cat events event world after told =
-    let no : applies_at (λ id. cell_after cat id events) event ≡ false = applies_after cat events event world after ∙ is_skipped _ told in
+    let no : applies_at (λ id. cell_after cat id events) event ≡ false = applies_after cat events event world after
+    ∙ is_skipped _ told in
     let same : applied_count cat events + 0 ≡ applied_count cat events = omega arith in
     applied-more cat events event ∙ ap (λ b. applied_count cat events + cond b 1 0) no ∙ same
 
@@ -84,8 +102,10 @@ pub said-as : (earlier : List (List ℕ)) (line : List ℕ) (said : Result Line 
 unfolding said_fault
 said-as earlier line said e = ap (fault_after (catalogue_in earlier) (events_in earlier)) e
 
-pub run-more : (earlier : List (List ℕ)) (line : List ℕ) (said : Result Line LineFault) (run : Run) → line_of line ≡ said
-    → IsRunOf (with_plan (catalogue_in earlier) said) (events_in earlier ++ event_in said) run → HasRun (earlier ++ line ∷ []) run
+pub run-more : (earlier : List (List ℕ)) (line : List ℕ) (said : Result Line LineFault) (run : Run)
+    → line_of line ≡ said
+    → IsRunOf (with_plan (catalogue_in earlier) said) (events_in earlier ++ event_in said) run
+    → HasRun (earlier ++ line ∷ []) run
 run-more earlier line said run e told =
     let catalogue = catalogue-more earlier line ∙ ap (with_plan (catalogue_in earlier)) e in
     let events = events-more earlier line ∙ ap (λ o. events_in earlier ++ event_in o) e in

@@ -27,7 +27,8 @@ cell_steps-events_of : (cat : Catalogue) (q : ℕ) (c : Cell) (e : Event) (es : 
     → cell_steps cat c (events_of q (e ∷ es)) ≡ cell_steps cat (next_cell cat q c e) (events_of q es)
 cell_steps-events_of cat q c e es = stepped_by cat q c e es _ refl
 
-steps_more : (cat : Catalogue) (c : Cell) (es : List Event) (e : Event) → cell_steps cat c (es ++ e ∷ []) ≡ cell_step cat (cell_steps cat c es) e
+steps_more : (cat : Catalogue) (c : Cell) (es : List Event) (e : Event)
+    → cell_steps cat c (es ++ e ∷ []) ≡ cell_step cat (cell_steps cat c es) e
 steps_more cat c [] e = refl
 steps_more cat c (x ∷ es) e = steps_more cat (cell_step cat c x) es e
 
@@ -40,32 +41,38 @@ more_by cat q c es e false m = rw m (ap (cell_steps cat c) (append-nil es))
 pub cell_after-more : (cat : Catalogue) (q : ℕ) (es : List Event) (e : Event)
     → cell_after cat q (es ++ e ∷ []) ≡ next_cell cat q (cell_after cat q es) e
 cell_after-more cat q es e =
-    ap (cell_steps cat empty_cell) (filter-append (is_of q) es (e ∷ [])) ∙ more_by cat q empty_cell (events_of q es) e _ refl
+    ap (cell_steps cat empty_cell) (filter-append (is_of q) es (e ∷ []))
+    ∙ more_by cat q empty_cell (events_of q es) e _ refl
 
 -- a record is made by a Create, and never goes
 same_mapped : {A : Type 0} (f : A → A) (p : Option A) → is_some (option_map f p) ≡ is_some p
 same_mapped f None = refl
 same_mapped f (Some row) = refl
 
-create_records : (p : Option PlatformRow) (row : PlatformRow) (made c : Cell) → c.platform ≡ p → made.platform ≡ Some row
+create_records : (p : Option PlatformRow) (row : PlatformRow) (made c : Cell) → c.platform ≡ p
+    → made.platform ≡ Some row
     → is_some (if is_none p then made else c).platform ≡ true
 create_records None row made c e f = ap is_some f
 create_records (Some old) row made c e f = ap is_some e
 
-deliver_records : (cat : Catalogue) (c : Cell) (outcome : Outcome) (o : Option Request) → is_some (delivered cat c outcome o).platform ≡ is_some c.platform
+deliver_records : (cat : Catalogue) (c : Cell) (outcome : Outcome) (o : Option Request)
+    → is_some (delivered cat c outcome o).platform ≡ is_some c.platform
 deliver_records cat c outcome None = refl
 deliver_records cat c outcome (Some r) = refl
 
-repeat_records : (cat : Catalogue) (c : Cell) (outcome : Outcome) (o : Option Request) → is_some (repeated cat c outcome o).platform ≡ is_some c.platform
+repeat_records : (cat : Catalogue) (c : Cell) (outcome : Outcome) (o : Option Request)
+    → is_some (repeated cat c outcome o).platform ≡ is_some c.platform
 repeat_records cat c outcome None = refl
 repeat_records cat c outcome (Some r) = refl
 
-answer_records : (c : Cell) (o : Option Request) (t : Option Answer) → is_some (taken c o t).platform ≡ is_some c.platform
+answer_records : (c : Cell) (o : Option Request) (t : Option Answer)
+    → is_some (taken c o t).platform ≡ is_some c.platform
 answer_records c None t = refl
 answer_records c (Some r) None = refl
 answer_records c (Some r) (Some a) = same_mapped _ c.platform
 
-either_records : (b : Bool) (made c : Cell) → is_some made.platform ≡ is_some c.platform → is_some (if b then made else c).platform ≡ is_some c.platform
+either_records : (b : Bool) (made c : Cell) → is_some made.platform ≡ is_some c.platform
+    → is_some (if b then made else c).platform ≡ is_some c.platform
 either_records true made c e = e
 either_records false made c e = refl
 
@@ -73,13 +80,17 @@ unchanged : (cat : Catalogue) (c : Cell) (e : Event) → is_some (changed_cell c
     → is_some (cell_step cat c e).platform ≡ (is_some c.platform || false)
 unchanged cat c e same = either_records (applies c e) (changed_cell cat c e) c same ∙ sym (or-false _)
 
-records : (cat : Catalogue) (q : ℕ) (c : Cell) (e : Event) → is_of q e ≡ true → is_some (cell_step cat c e).platform ≡ (is_some c.platform || creates q e)
+records : (cat : Catalogue) (q : ℕ) (c : Cell) (e : Event) → is_of q e ≡ true
+    → is_some (cell_step cat c e).platform ≡ (is_some c.platform || creates q e)
 records cat q c (Event.Create id service plan accepts) m =
-    rw m (create_records c.platform _ (changed_cell cat c (Event.Create id service plan accepts)) c refl refl ∙ sym (or-true _))
+    rw m (create_records c.platform _ (changed_cell cat c (Event.Create id service plan accepts)) c refl refl
+    ∙ sym (or-true _))
 records cat q c (Event.Remove id) m = unchanged cat c (Event.Remove id) (same_mapped _ c.platform)
 records cat q c (Event.Send id) m = unchanged cat c (Event.Send id) (same_mapped _ c.platform)
-records cat q c (Event.Deliver id outcome) m = unchanged cat c (Event.Deliver id outcome) (deliver_records cat c outcome c.out)
-records cat q c (Event.Repeat id outcome) m = unchanged cat c (Event.Repeat id outcome) (repeat_records cat c outcome c.out)
+records cat q c (Event.Deliver id outcome) m =
+    unchanged cat c (Event.Deliver id outcome) (deliver_records cat c outcome c.out)
+records cat q c (Event.Repeat id outcome) m =
+    unchanged cat c (Event.Repeat id outcome) (repeat_records cat c outcome c.out)
 records cat q c (Event.Answer id) m = unchanged cat c (Event.Answer id) (answer_records c c.out c.travelling)
 records cat q c (Event.Timeout id) m = unchanged cat c (Event.Timeout id) (same_mapped _ c.platform)
 records cat q c (Event.Expire id) m = unchanged cat c (Event.Expire id) (same_mapped _ c.platform)
@@ -90,16 +101,21 @@ creates_none : (q : ℕ) (e : Event) → is_of q e ≡ false → creates q e ≡
 creates_none q (Event.Create id service plan accepts) m = m
 creates_none q e m = refl
 
-next_records : (cat : Catalogue) (q : ℕ) (c : Cell) (e : Event) (b : Bool) → is_of q e ≡ b → is_some (next_cell cat q c e).platform ≡ (is_some c.platform || creates q e)
+next_records : (cat : Catalogue) (q : ℕ) (c : Cell) (e : Event) (b : Bool) → is_of q e ≡ b
+    → is_some (next_cell cat q c e).platform ≡ (is_some c.platform || creates q e)
 next_records cat q c e true m = rw m (records cat q c e m)
 next_records cat q c e false m = rw (m, creates_none q e m) (sym (or-false _))
 
-recorded_from : (cat : Catalogue) (q : ℕ) (es : List Event) (c : Cell) → is_some (cell_steps cat c (events_of q es)).platform ≡ (is_some c.platform || list_any (creates q) es)
+recorded_from : (cat : Catalogue) (q : ℕ) (es : List Event) (c : Cell)
+    → is_some (cell_steps cat c (events_of q es)).platform ≡ (is_some c.platform || list_any (creates q) es)
 recorded_from cat q [] c = sym (or-false _)
 recorded_from cat q (e ∷ es) c =
-    ap (λ (d : Cell). is_some d.platform) (cell_steps-events_of cat q c e es) ∙ recorded_from cat q es (next_cell cat q c e)
-    ∙ ap (λ b. b || list_any (creates q) es) (next_records cat q c e _ refl) ∙ or_assoc (is_some c.platform) (creates q e) (list_any (creates q) es)
+    ap (λ (d : Cell). is_some d.platform) (cell_steps-events_of cat q c e es)
+    ∙ recorded_from cat q es (next_cell cat q c e)
+    ∙ ap (λ b. b || list_any (creates q) es) (next_records cat q c e _ refl)
+    ∙ or_assoc (is_some c.platform) (creates q e) (list_any (creates q) es)
 
 -- an id has a record exactly where some Create names it
-pub recorded : (cat : Catalogue) (q : ℕ) (events : List Event) → is_some (cell_after cat q events).platform ≡ list_any (creates q) events
+pub recorded : (cat : Catalogue) (q : ℕ) (events : List Event)
+    → is_some (cell_after cat q events).platform ≡ list_any (creates q) events
 recorded cat q events = recorded_from cat q events empty_cell

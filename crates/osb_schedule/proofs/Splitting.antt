@@ -1,5 +1,7 @@
 -- Where words begin and end.
-use Rattle.std.proofs.Common.{◌≡◌, ℕ, ◌<◌, ◌+◌, true, false, List, [], ◌∷◌, ◌++◌, zero, suc, ◌≤◌, length, take, drop, get_or, refl, ap, sym, subst, ◌∙◌, append-nil, take-append-drop, length-take, length-drop, true≢false, arith, eqb, inl, inr}
+use Rattle.std.proofs.Common.{◌≡◌, ℕ, ◌<◌, ◌+◌, true, false, List, [], ◌∷◌, ◌++◌, zero, suc, ◌≤◌, length, take, drop}
+use Rattle.std.proofs.Common.{get_or, refl, ap, sym, subst, ◌∙◌, append-nil, take-append-drop, length-take, length-drop}
+use Rattle.std.proofs.Common.{true≢false, arith, eqb, inl, inr}
 use Rattle.std.proofs.lemmas.List.{get_or-take, get_or-drop, get_or_default, get_or_past}
 use Rattle.std.proofs.lemmas.List.Folds.{list_all_at}
 use Rattle.std.proofs.lemmas.List.Sums.{fails_before_first, passes_at_first, prefix_len-le-length}
@@ -23,19 +25,22 @@ pub words-none : words_of [] ≡ []
 unfolding words_of
 words-none = refl
 
-pub words-drop : (line : List ℕ) → 0 < length line → is_blank (slice_index line 0) ≡ true → words_of (drop 1 line) ≡ words_of line
+pub words-drop : (line : List ℕ) → 0 < length line → is_blank (slice_index line 0) ≡ true
+    → words_of (drop 1 line) ≡ words_of line
 words-drop [] some blank = absurd (omega arith)
 words-drop (byte ∷ rest) some blank = sym (words-blank byte rest blank)
 
 -- a run of other bytes before a blank, or at the end, is a word
 pub words-run : (byte : ℕ) (word rest : List ℕ) → All (λ b. is_blank b ≡ false) (byte ∷ word)
-    → (0 < length rest → is_blank (slice_index rest 0) ≡ true) → words_of ((byte ∷ word) ++ rest) ≡ (byte ∷ word) ∷ words_of rest
+    → (0 < length rest → is_blank (slice_index rest 0) ≡ true)
+    → words_of ((byte ∷ word) ++ rest) ≡ (byte ∷ word) ∷ words_of rest
 unfolding words_of
 words-run byte word [] run stop =
     ap words_of (append-nil (byte ∷ word)) ∙ ap (filter is_word) (slice_split_none is_blank (byte ∷ word) run)
 words-run byte word (blank ∷ rest) run stop =
     ap (filter is_word) (slice_split_at is_blank (byte ∷ word) blank rest run (stop (omega arith)))
-    ∙ ap (λ parts. (byte ∷ word) ∷ parts) (sym (ap (filter is_word) (slice_split-cons_yes is_blank blank rest (stop (omega arith)))))
+    ∙ ap (λ parts. (byte ∷ word) ∷ parts)
+    (sym (ap (filter is_word) (slice_split-cons_yes is_blank blank rest (stop (omega arith)))))
 
 first_part : (line : List ℕ) (n : ℕ) → n ≤ length line → ((k : ℕ) → k < n → is_blank (slice_index line k) ≡ false)
     → (k d : ℕ) → k < length (take n line) → is_blank (get_or (take n line) k d) ≡ false
@@ -53,7 +58,8 @@ next_part line n stop some =
 
 -- the same of a line that is cut where its first word ends
 pub words-cut : (line : List ℕ) (n : ℕ) → 0 < length line → is_blank (slice_index line 0) ≡ false → n ≤ length line
-    → ((k : ℕ) → k < n → is_blank (slice_index line k) ≡ false) → (n < length line → is_blank (slice_index line n) ≡ true)
+    → ((k : ℕ) → k < n → is_blank (slice_index line k) ≡ false)
+    → (n < length line → is_blank (slice_index line n) ≡ true)
     → words_of line ≡ take n line ∷ words_of (drop n line)
 words-cut [] n some begins within run stop = absurd (omega arith)
 words-cut (byte ∷ line) zero some begins within run stop = absurd (true≢false (sym (stop (omega arith)) ∙ begins))
@@ -69,7 +75,8 @@ pub record Run (line : List ℕ) (n : ℕ) : Type 0 where
   pub run : (k : ℕ) → k < n → is_blank (slice_index line k) ≡ false
   pub stop : n < length line → is_blank (slice_index line n) ≡ true
 
-first_run : (line : List ℕ) → 0 < length line → is_blank (slice_index line 0) ≡ false → Run line (position_or_len is_blank line)
+first_run : (line : List ℕ) → 0 < length line → is_blank (slice_index line 0) ≡ false
+    → Run line (position_or_len is_blank line)
 first_run line some begins =
     let n = position_or_len is_blank line in
     let stops : n < length line → is_blank (slice_index line n) ≡ true = passes_at_first is_blank line 0 in
@@ -87,18 +94,24 @@ first_run line some begins =
 
 -- the first word begins as the line does, if the line begins with no blank
 words-first : (line : List ℕ) → 0 < length line → is_blank (slice_index line 0) ≡ false
-    → (first : List ℕ) × (words : List (List ℕ)) × (words_of line ≡ first ∷ words) × (slice_index first 0 ≡ slice_index line 0)
+    → (first : List ℕ) × (words : List (List ℕ)) × (words_of line ≡ first ∷ words)
+    × (slice_index first 0 ≡ slice_index line 0)
 words-first line some begins =
     let n = position_or_len is_blank line in
-    let r = first_run line some begins in
-    (take n line, words_of (drop n line), words-cut line n some begins r.within r.run r.stop, get_or-take n line 0 0 r.some)
+    let r = first_run line some begins in (
+      take n line,
+      words_of (drop n line),
+      words-cut line n some begins r.within r.run r.stop,
+      get_or-take n line 0 0 r.some,
+    )
 
 -- ---- a line is spaced out as its words, and as no others
 
 words-gap : (gap rest : List ℕ) → IsGap gap → words_of (gap ++ rest) ≡ words_of rest
 words-gap [] rest all = refl
 words-gap (blank ∷ gap) rest all =
-    words-blank blank (gap ++ rest) (all 0 0 (omega arith)) ∙ words-gap gap rest (λ k d below. all (suc k) d (omega arith))
+    words-blank blank (gap ++ rest) (all 0 0 (omega arith))
+    ∙ words-gap gap rest (λ k d below. all (suc k) d (omega arith))
 
 words-word : (word rest : List ℕ) → IsWord word → EndsWord rest → words_of (word ++ rest) ≡ word ∷ words_of rest
 words-word [] rest (some, all) stop = absurd (omega arith)
@@ -107,19 +120,23 @@ words-word (byte ∷ word) rest (some, all) stop = words-run byte word rest all 
 pub words-only : (words : List (List ℕ)) (bytes : List ℕ) → IsSpacedOut bytes words → words_of bytes ≡ words
 words-only [] bytes gap = ap words_of (sym (append-nil bytes)) ∙ words-gap bytes [] gap ∙ words-none
 words-only (word ∷ words) bytes (gap, rest, cut, blank, is_word, stop, later) =
-    ap words_of cut ∙ words-gap gap (word ++ rest) blank ∙ words-word word rest is_word stop ∙ ap (λ more. word ∷ more) (words-only words rest later)
+    ap words_of cut ∙ words-gap gap (word ++ rest) blank ∙ words-word word rest is_word stop
+    ∙ ap (λ more. word ∷ more) (words-only words rest later)
 
-gap-cons : (byte : ℕ) (gap : List ℕ) → is_blank byte ≡ true → IsGap gap → (k d : ℕ) → k < length (byte ∷ gap) → is_blank (get_or (byte ∷ gap) k d) ≡ true
+gap-cons : (byte : ℕ) (gap : List ℕ) → is_blank byte ≡ true → IsGap gap → (k d : ℕ) → k < length (byte ∷ gap)
+    → is_blank (get_or (byte ∷ gap) k d) ≡ true
 gap-cons byte gap blank all zero d below = blank
 gap-cons byte gap blank all (suc k) d below = all k d (omega arith)
 
-spaced-blank : (byte : ℕ) (bytes : List ℕ) (words : List (List ℕ)) → is_blank byte ≡ true → IsSpacedOut bytes words → IsSpacedOut (byte ∷ bytes) words
+spaced-blank : (byte : ℕ) (bytes : List ℕ) (words : List (List ℕ)) → is_blank byte ≡ true → IsSpacedOut bytes words
+    → IsSpacedOut (byte ∷ bytes) words
 spaced-blank byte bytes [] blank all = gap-cons byte bytes blank all
 spaced-blank byte bytes (word ∷ words) blank (gap, rest, cut, all, is_word, stop, later) =
     (byte ∷ gap, rest, ap (λ more. byte ∷ more) cut, gap-cons byte gap blank all, is_word, stop, later)
 
 spaced-word : (line : List ℕ) → 0 < length line → is_blank (slice_index line 0) ≡ false
-    → ((rest : List ℕ) → length rest < length line → IsSpacedOut rest (words_of rest)) → IsSpacedOut line (words_of line)
+    → ((rest : List ℕ) → length rest < length line → IsSpacedOut rest (words_of rest))
+    → IsSpacedOut line (words_of line)
 spaced-word line some begins later =
     let n = position_or_len is_blank line in
     let r = first_run line some begins in
@@ -127,29 +144,39 @@ spaced-word line some begins later =
     let r-within = r.within in
     let long : 0 < length (take n line) = omega (arith, length-take n line) in
     let shorter : length (drop n line) < length line = omega (arith, length-drop n line) in
-    subst (IsSpacedOut line) (sym (words-cut line n some begins r.within r.run r.stop))
-    ([], drop n line, sym (take-append-drop n line), (λ k d below. absurd (omega arith)), (long, first_part line n r.within r.run), next_part line n r.stop, later (drop n line) shorter)
+    subst (IsSpacedOut line) (sym (words-cut line n some begins r.within r.run r.stop)) (
+      [],
+      drop n line,
+      sym (take-append-drop n line),
+      (λ k d below. absurd (omega arith)),
+      (long, first_part line n r.within r.run),
+      next_part line n r.stop,
+      later (drop n line) shorter,
+    )
 
 spaced-within : (m : ℕ) (bytes : List ℕ) → length bytes ≤ m → IsSpacedOut bytes (words_of bytes)
 spaced-within m [] within = subst (IsSpacedOut []) (sym words-none) (λ k d below. absurd (omega arith))
 spaced-within zero (byte ∷ bytes) within = absurd (omega arith)
 spaced-within (suc m) (byte ∷ bytes) within =
     elim (cases_Bool (is_blank byte)) [
-      | inl blank ↦ subst (IsSpacedOut (byte ∷ bytes)) (sym (words-blank byte bytes blank)) (spaced-blank byte bytes (words_of bytes) blank (spaced-within m bytes (omega arith)))
+      | inl blank ↦ subst (IsSpacedOut (byte ∷ bytes)) (sym (words-blank byte bytes blank))
+          (spaced-blank byte bytes (words_of bytes) blank (spaced-within m bytes (omega arith)))
       | inr other ↦ spaced-word (byte ∷ bytes) (omega arith) other (λ rest shorter. spaced-within m rest (omega arith))
     ]
 
 pub spaced-words : (bytes : List ℕ) → IsSpacedOut bytes (words_of bytes)
 spaced-words bytes = spaced-within (length bytes) bytes (omega arith)
 
-pub spelled_comment : (line : List ℕ) → (0 < length line → is_blank (slice_index line 0) ≡ false) → begins_comment line ≡ true → spelled (words_of line) ≡ Ok Nothing
+pub spelled_comment : (line : List ℕ) → (0 < length line → is_blank (slice_index line 0) ≡ false)
+    → begins_comment line ≡ true → spelled (words_of line) ≡ Ok Nothing
 spelled_comment [] begins marked = absurd (true≢false (sym marked))
 spelled_comment (byte ∷ line) begins marked =
     let (first, words, cut, same) = words-first (byte ∷ line) (omega arith) (begins (omega arith)) in
     let head : begins_comment first ≡ true = ap (λ b. eqb b 35) same ∙ marked in
     rw (cut, head) refl
 
-pub spelled_plain : (line first : List ℕ) (words : List (List ℕ)) → (0 < length line → is_blank (slice_index line 0) ≡ false) → begins_comment line ≡ false
+pub spelled_plain : (line first : List ℕ) (words : List (List ℕ))
+    → (0 < length line → is_blank (slice_index line 0) ≡ false) → begins_comment line ≡ false
     → words_of line ≡ first ∷ words → spelled (words_of line) ≡ spelled_as first words
 spelled_plain [] first words begins other cut =
     let long : 0 ≡ suc (length words) = ap length (sym words-none ∙ cut) in

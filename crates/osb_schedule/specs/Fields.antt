@@ -1,5 +1,6 @@
 -- What stands in a line after its first word.
-use Rattle.std.specs.Prelude.{ℕ, ◌+◌, ◌-◌, ◌*◌, true, false, ◌&&◌, List, [], ◌∷◌, ◌==◌, if◌then◌else◌, Result, Ok, Err, codes, ok_or}
+use Rattle.std.specs.Prelude.{ℕ, ◌+◌, ◌-◌, ◌*◌, true, false, ◌&&◌, List, [], ◌∷◌, ◌==◌, if◌then◌else◌, Result, Ok, Err}
+use Rattle.std.specs.Prelude.{codes, ok_or}
 use Rattle.std.specs.Char.{is_ascii_digit}
 use Rattle.std.specs.Str.{bytes_eq}
 use Rattle.osb_message.specs.IdText.{id_of}
@@ -60,18 +61,22 @@ abbrev pub one_field : {A : Type 0} → (List ℕ → Result A LineFault) → Li
 one_field field (word ∷ []) = field word
 one_field field words = Err WordCount
 
-abbrev pub two_fields : {A B : Type 0} → (List ℕ → Result A LineFault) → (List ℕ → Result B LineFault) → List (List ℕ) → Result (A × B) LineFault
+abbrev pub two_fields : {A B : Type 0} → (List ℕ → Result A LineFault) → (List ℕ → Result B LineFault) → List (List ℕ)
+    → Result (A × B) LineFault
 two_fields first second (a ∷ b ∷ []) = and_then (first a) (λ x. and_then (second b) (λ y. Ok (x, y)))
 two_fields first second words = Err WordCount
 
-abbrev pub three_fields : {A B C : Type 0} → (List ℕ → Result A LineFault) → (List ℕ → Result B LineFault) → (List ℕ → Result C LineFault)
+abbrev pub three_fields : {A B C : Type 0} → (List ℕ → Result A LineFault) → (List ℕ → Result B LineFault)
+    → (List ℕ → Result C LineFault)
     → List (List ℕ) → Result (A × B × C) LineFault
 three_fields first second third (a ∷ b ∷ c ∷ []) =
     and_then (first a) (λ x. and_then (second b) (λ y. and_then (third c) (λ z. Ok (x, y, z))))
 three_fields first second third words = Err WordCount
 
-abbrev pub four_fields : {A B C D : Type 0} → (List ℕ → Result A LineFault) → (List ℕ → Result B LineFault) → (List ℕ → Result C LineFault)
+abbrev pub four_fields : {A B C D : Type 0} → (List ℕ → Result A LineFault) → (List ℕ → Result B LineFault)
+    → (List ℕ → Result C LineFault)
     → (List ℕ → Result D LineFault) → List (List ℕ) → Result (A × B × C × D) LineFault
 four_fields first second third fourth (a ∷ b ∷ c ∷ d ∷ []) =
-    and_then (first a) (λ w. and_then (second b) (λ x. and_then (third c) (λ y. and_then (fourth d) (λ z. Ok (w, x, y, z)))))
+    and_then (first a) (λ w.
+    and_then (second b) (λ x. and_then (third c) (λ y. and_then (fourth d) (λ z. Ok (w, x, y, z)))))
 four_fields first second third fourth words = Err WordCount

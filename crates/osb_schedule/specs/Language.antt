@@ -1,5 +1,6 @@
 -- What a line of a schedule says.
-use Rattle.std.specs.Prelude.{ℕ, Bool, List, [], ◌∷◌, ◌==◌, if◌then◌else◌, Result, Ok, Err, codes, length, nat_le, nat_lt, slice_index}
+use Rattle.std.specs.Prelude.{ℕ, Bool, List, [], ◌∷◌, ◌==◌, if◌then◌else◌, Result, Ok, Err, codes, length, nat_le}
+use Rattle.std.specs.Prelude.{nat_lt, slice_index}
 use Rattle.std.specs.List.{list_all}
 use Rattle.std.specs.Str.{bytes_eq}
 use Rattle.std.specs.Str.Lines.{strip_carriage_return}
@@ -10,7 +11,8 @@ use Rattle.osb_schedule.specs.declared.faults.LineFault.{LineFault}
 use Rattle.osb_schedule.specs.declared.faults.LineFault.TheVariants.{LineTooLong, NotAscii, UnknownWord}
 use Rattle.osb_schedule.specs.declared.language.Line.{Line}
 use Rattle.osb_schedule.specs.declared.limits.TheConstants.{LONGEST_LINE}
-use Rattle.osb_schedule.specs.Fields.{and_then, choice, consents, endings, four_fields, id_field, modes, no_fields, one_field}
+use Rattle.osb_schedule.specs.Fields.{and_then, choice, consents, endings, four_fields, id_field, modes, no_fields}
+use Rattle.osb_schedule.specs.Fields.{one_field}
 use Rattle.osb_schedule.specs.Fields.{outcomes, status_field, three_fields, two_fields}
 use Rattle.osb_schedule.specs.Words.{words_of}
 
@@ -24,7 +26,8 @@ of_outcome event words = and_then (two_fields id_field (choice outcomes) words) 
 
 abbrev pub create_as : List (List ℕ) → Result Event LineFault
 create_as words =
-    and_then (four_fields id_field id_field id_field (choice consents) words) (λ p. Ok (Happens.Create p.0 p.1 p.2 p.3.0))
+    and_then (four_fields id_field id_field id_field (choice consents) words)
+    (λ p. Ok (Happens.Create p.0 p.1 p.2 p.3.0))
 
 abbrev pub finish_as : List (List ℕ) → Result Event LineFault
 finish_as words = and_then (two_fields id_field (choice endings) words) (λ p. Ok (Happens.Finish p.0 p.1.0))
@@ -56,7 +59,8 @@ event_as first words =
 -- all lines: a plan, or an event
 abbrev pub spelled_as : List ℕ → List (List ℕ) → Result Line LineFault
 spelled_as first words =
-    if bytes_eq first (codes "plan") then plan_as words else and_then (event_as first words) (λ event. Ok (Line.Event event))
+    if bytes_eq first (codes "plan") then plan_as words else
+    and_then (event_as first words) (λ event. Ok (Line.Event event))
 
 -- a first word that begins with # makes a comment
 abbrev pub begins_comment : List ℕ → Bool

@@ -20,7 +20,8 @@ pub record ReadsWhole (before after : Option (List ℕ)) (bytes : List ℕ) : Ty
   pub faultless : HasNoFault bytes true
 
 -- the first line with a fault, among those that are judged in the bytes read
-pub record ReadsFault (before after : Option (List ℕ)) (bytes : List ℕ) (ended : Bool) (n : ℕ) (fault : LineFault) : Type 0 where
+pub record ReadsFault (before after : Option (List ℕ)) (bytes : List ℕ) (ended : Bool) (n : ℕ)
+    (fault : LineFault) : Type 0 where
   pub consumed : Consumes before after bytes
   pub at_end : IsTrue ended → IsAtEnd after
   pub first : IsFirstFault bytes ended n fault

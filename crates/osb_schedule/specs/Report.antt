@@ -1,5 +1,6 @@
 -- The report of a schedule (this project's choice).
-use Rattle.std.specs.Prelude.{◌≡◌, ◌↔◌, Bool, true, false, Contains, IsTrue, ℕ, ◌+◌, ◌-◌, ◌==◌, if◌then◌else◌, cond, List, [], ◌∷◌, ◌++◌, length, Option, Some, None, codes}
+use Rattle.std.specs.Prelude.{◌≡◌, ◌↔◌, Bool, true, false, Contains, IsTrue, ℕ, ◌+◌, ◌-◌, ◌==◌, if◌then◌else◌, cond}
+use Rattle.std.specs.Prelude.{List, [], ◌∷◌, ◌++◌, length, Option, Some, None, codes}
 use Rattle.std.specs.FinMap as map
 use Rattle.std.specs.Fmt.{decimal}
 use Rattle.std.specs.List.{flat_map, list_any}
@@ -66,7 +67,8 @@ settled_as settle cat id cell = if settle then settled_cell cat id cell else cel
 -- the cell of an id that the report tells of: each created instance is settled where that is asked for
 abbrev pub reported_cell : Bool → Catalogue → List Event → ℕ → Cell
 reported_cell settle cat events id =
-    if list_any (creates id) events then settled_as settle cat id (cell_after cat id events) else cell_after cat id events
+    if list_any (creates id) events then settled_as settle cat id (cell_after cat id events) else
+    cell_after cat id events
 
 -- what the platform records then
 abbrev pub AreRecords : Bool → Catalogue → List Event → map.FinMap nat_cmp PlatformRow → Type 0

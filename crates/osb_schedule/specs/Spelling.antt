@@ -39,7 +39,8 @@ ending_word false = codes "fail"
 
 -- the first word of an event, and what follows it
 abbrev pub event_row : Event → List ℕ × List Field
-event_row (Happens.Create id service plan accepts) = (codes "create", an_id id ∷ an_id service ∷ an_id plan ∷ the_word (accepts_word accepts) ∷ [])
+event_row (Happens.Create id service plan accepts) =
+    (codes "create", an_id id ∷ an_id service ∷ an_id plan ∷ the_word (accepts_word accepts) ∷ [])
 event_row (Happens.Remove id) = (codes "remove", an_id id ∷ [])
 event_row (Happens.Send id) = (codes "send", an_id id ∷ [])
 event_row (Happens.Deliver id outcome) = (codes "deliver", an_id id ∷ the_word (outcome_word outcome) ∷ [])

@@ -1,5 +1,6 @@
 -- The words of a line.
-use Rattle.std.specs.Prelude.{◌≡◌, ℕ, ◌<◌, Bool, true, false, ◌||◌, List, [], ◌∷◌, ◌++◌, ◌==◌, filter, length, slice_index}
+use Rattle.std.specs.Prelude.{◌≡◌, ℕ, ◌<◌, Bool, true, false, ◌||◌, List, [], ◌∷◌, ◌++◌, ◌==◌, filter, length}
+use Rattle.std.specs.Prelude.{slice_index}
 use Rattle.std.specs.List.{All, slice_split}
 
 -- spaces and tabs stand between words
@@ -31,4 +32,5 @@ EndsWord bytes = 0 < length bytes → is_blank (slice_index bytes 0) ≡ true
 abbrev pub IsSpacedOut : List ℕ → List (List ℕ) → Type 0
 IsSpacedOut bytes [] = IsGap bytes
 IsSpacedOut bytes (word ∷ words) =
-    (gap : List ℕ) × (rest : List ℕ) × (bytes ≡ gap ++ (word ++ rest)) × IsGap gap × IsWord word × EndsWord rest × IsSpacedOut rest words
+    (gap : List ℕ) × (rest : List ℕ) × (bytes ≡ gap ++ (word ++ rest)) × IsGap gap × IsWord word × EndsWord rest
+    × IsSpacedOut rest words

@@ -84,9 +84,9 @@ fn report_input<R: Read>(
 
 /// Reads a schedule, lets its events happen one after another, and at its end writes the report:
 /// a line for each created instance, ascending, with what the platform records and what the broker
-/// holds, then how many events applied and how many didn't, and then, where the options say so, the
-/// platform's saved record. Where the options say so, each of them is settled before. The language of
-/// schedules and the report are this project's choice.
+/// holds, then how many events applied and how many didn't. Where the options say so, each created
+/// instance is settled before, which counts as no event, and the platform's saved record follows. The
+/// language of schedules and the report are this project's choice.
 ///
 /// It asks for at most 4,096 bytes in one read, and keeps none of those that it has run; what takes
 /// memory is the world of the instances, and the report. What is read before a fault stays read. It

@@ -10,7 +10,8 @@ returns-then-begins_comment c =
     let rest = c.skip_blanks-rest.result.now in
     let marked = sym c.begins_comment.ensures.comment ∙ c.if-begins_comment.true in
     record {
-      line = sym (spelled_comment rest c.skip_blanks-rest.ensures.begins marked) ∙ ap spelled c.skip_blanks-rest.ensures.same;
+      line = sym (spelled_comment rest c.skip_blanks-rest.ensures.begins marked)
+          ∙ ap spelled c.skip_blanks-rest.ensures.same;
     }
 
 pub returns-in-Some : goal.returns-in-Some

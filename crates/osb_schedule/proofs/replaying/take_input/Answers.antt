@@ -24,7 +24,8 @@ pieces-preserved g c =
     let (bytes, consumed, read, all, within) = c.pieces.invariant in
     let front = take c.in-Ok.count c.read.new.buffer in
     let fits : c.in-Ok.count ≤ c.pieces.left = search rules in
-    let count : length front ≡ c.in-Ok.count = omega (arith, length-take c.in-Ok.count c.read.new.buffer, c.in-Ok.ensures.bound) in
+    let count : length front ≡ c.in-Ok.count =
+    omega (arith, length-take c.in-Ok.count c.read.new.buffer, c.in-Ok.ensures.bound) in
     let longer = length-append bytes front in
     let moves = c.in_ok-take_piece.ensures.moves in (
       bytes ++ front,
@@ -40,7 +41,8 @@ returns-in_err-take_piece-clause-fault g c =
     let (bytes, consumed, read, all, within) = c.pieces.invariant in
     let front = take c.in-Ok.count c.read.new.buffer in
     rw (p.1, p.2)
-    (explained _ _ c.read.new.self.refused false false (bytes ++ front) c.in_err-take_piece.field-0.0 (Consumes-trans _ _ _ bytes front consumed c.in-Ok.ensures.bytes.0)
+    (explained _ _ c.read.new.self.refused false false (bytes ++ front) c.in_err-take_piece.field-0.0
+    (Consumes-trans _ _ _ bytes front consumed c.in-Ok.ensures.bytes.0)
     (λ stop. absurd (false≢true stop)) (c.in_err-take_piece.ensures.refused bytes read))
 
 pub returns-in_err-take_piece-clause-bound : goal.returns-in_err-take_piece-clause-bound
@@ -48,6 +50,7 @@ returns-in_err-take_piece-clause-bound g c =
     let (bytes, consumed, read, all, within) = c.pieces.invariant in
     let front = take c.in-Ok.count c.read.new.buffer in
     let fits : c.in-Ok.count ≤ c.pieces.left = search rules in
-    let count : length front ≡ c.in-Ok.count = omega (arith, length-take c.in-Ok.count c.read.new.buffer, c.in-Ok.ensures.bound) in
+    let count : length front ≡ c.in-Ok.count =
+    omega (arith, length-take c.in-Ok.count c.read.new.buffer, c.in-Ok.ensures.bound) in
     let longer = length-append bytes front in
     (bytes ++ front, Consumes-trans _ _ _ bytes front consumed c.in-Ok.ensures.bytes.0, omega arith)

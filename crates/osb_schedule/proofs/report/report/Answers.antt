@@ -15,7 +15,8 @@ returns c = record {
       let world = c.settle_all.new.world in
       let ids : List ℕ = c.in_ok-recorded.recorded.items in
       let same : c.as_slice-ids.result.now ≡ ids = c.as_slice-ids.ensures.value in
-      let settled = subst (λ listed. IsSettledAs options.settle listed ended.world world) same c.settle_all.ensures.settled in
+      let settled = subst (λ listed. IsSettledAs options.settle listed ended.world world) same
+      c.settle_all.ensures.settled in
       let applied : List ℕ = count_line (codes "applied") ended.applied in
       let skipped : List ℕ = count_line (codes "skipped") ended.skipped in
       let saved : List ℕ = saved_line options.saved (records_of world) in

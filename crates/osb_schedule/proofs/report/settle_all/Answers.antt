@@ -13,7 +13,8 @@ pub loop-id-preserved : goal.loop-id-preserved
 loop-id-preserved c =
     let ids = c.args.ids.now in
     let id = c.id-item.result in
-    settled_more ids c.loop-id.id-index id c.args.world.now c.loop-id.world c.settle.new.self c.requires.ascending c.loop-id-test.true
+    settled_more ids c.loop-id.id-index id c.args.world.now c.loop-id.world c.settle.new.self c.requires.ascending
+    c.loop-id-test.true
     (c.id-item.is ∙ get_or_default_zero ids c.loop-id.id-index id c.loop-id-test.true) c.loop-id.invariant
     c.settle.ensures.cell c.settle.ensures.others c.settle.ensures.catalogue
 

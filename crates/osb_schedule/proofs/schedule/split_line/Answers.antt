@@ -10,7 +10,8 @@ pub returns-in-Some-clause-cut : goal.returns-in-Some-clause-cut
 returns-in-Some-clause-cut c =
     let bytes = c.args.bytes.now in
     let feed = c.in-Some.feed in
-    let unended : ended_lines (take feed bytes) ≡ 0 = unended_before bytes feed (λ k below. c.in-Some.ensures.0.before k (omega arith) below) in
+    let unended : ended_lines (take feed bytes) ≡ 0 =
+    unended_before bytes feed (λ k below. c.in-Some.ensures.0.before k (omega arith) below) in
     ap lines (sym (cut_at bytes feed c.in-Some.ensures.0.high c.in-Some.ensures.1))
     ∙ lines_at_feed (take feed bytes) (drop (feed + 1) bytes) unended
     ∙ ap (λ rest. take feed bytes ∷ lines rest) (sym (take_rest bytes (feed + 1)))

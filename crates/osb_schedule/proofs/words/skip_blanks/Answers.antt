@@ -11,4 +11,5 @@ loop-rest-preserved c =
     let rest = c.loop-rest.rest.now in
     let test : eqb (length rest) 0 ≡ false = sym c.is_empty.ensures ∙ c.loop-rest-test.true in
     let some : 0 < length rest = grind (arith, nat_tests) in
-    ap words_of (take_rest rest 1) ∙ words-drop rest some (sym c.is_blank.ensures.blank ∙ c.if-is_blank.true) ∙ c.loop-rest.invariant
+    ap words_of (take_rest rest 1) ∙ words-drop rest some (sym c.is_blank.ensures.blank ∙ c.if-is_blank.true)
+    ∙ c.loop-rest.invariant

@@ -21,6 +21,7 @@ returns c =
     let word = c.word_length.ensures in
     record {
       words = sym c.skip_blanks-rest.ensures.same
-          ∙ words-cut rest c.word_length.result some (c.skip_blanks-rest.ensures.begins some) word.within word.run word.stop
+          ∙ words-cut rest c.word_length.result some
+          (c.skip_blanks-rest.ensures.begins some) word.within word.run word.stop
           ∙ (λ i. sym c.split_at.ensures.front i ∷ words_of (sym c.split_at.ensures.back i));
     }

@@ -4,14 +4,19 @@ use Rattle.std.proofs.lemmas.List.{take_rest}
 use Rattle.std.proofs.KnownBytes.{Appends-trans}
 use Rattle.osb_schedule.proofs.writing.write_whole.Goals as goal
 
-moves_front : (all done rest : List ℕ) (n : ℕ) → all ≡ done ++ rest → all ≡ (done ++ take n rest) ++ take (length rest - n) (drop n rest)
+moves_front : (all done rest : List ℕ) (n : ℕ) → all ≡ done ++ rest
+    → all ≡ (done ++ take n rest) ++ take (length rest - n) (drop n rest)
 moves_front all done rest n split =
-    split ∙ ap (λ bytes. done ++ bytes) (sym (take-append-drop n rest)) ∙ sym (append_assoc done (take n rest) (drop n rest))
+    split ∙ ap (λ bytes. done ++ bytes) (sym (take-append-drop n rest))
+    ∙ sym (append_assoc done (take n rest) (drop n rest))
     ∙ ap (λ bytes. (done ++ take n rest) ++ bytes) (sym (take_rest rest n))
 
 pub loop-rest-preserved : goal.loop-rest-preserved
 loop-rest-preserved g c =
     let (done, split, appended) = c.loop-rest.invariant in
     let rest = c.loop-rest.rest.now in
-    let count = c.in_ok-count.count in
-    (done ++ take count rest, moves_front _ done rest count split, Appends-trans _ _ _ _ _ appended c.in_ok-count.ensures.bytes)
+    let count = c.in_ok-count.count in (
+      done ++ take count rest,
+      moves_front _ done rest count split,
+      Appends-trans _ _ _ _ _ appended c.in_ok-count.ensures.bytes,
+    )

@@ -13,21 +13,28 @@ pub returns-in_err-take_held-clause-refused : goal.returns-in_err-take_held-clau
 returns-in_err-take_held-clause-refused c = λ bytes (ended, so_far).
     let p = err_from_is_err_and c.from_residual.result c.from_residual.ensures.1 in
     let some : 0 < length c.args.self.held = c.holds.ensures.holds.0 c.if-holds.true in
-    rw (p.1, p.2) (refused_end bytes c.args.self ended _ so_far some (c.in_err-take_held.ensures.refused ended so_far.ran))
+    rw (p.1, p.2) (refused_end bytes c.args.self ended _ so_far some
+    (c.in_err-take_held.ensures.refused ended so_far.ran))
 
 pub returns-clause-good : goal.returns-clause-good
 returns-clause-good c = λ bytes so_far.
     elim c.if-holds.branch [
       | then-holds+in_ok-take_held w ↦
+          let same = ap (λ (reader : Reading). reader.run) (c.self-2.view_is ∙ w.self-is) in
           let some : 0 < length c.args.self.held = c.holds.ensures.holds.0 w.if-holds.true in
           let good = w.in_ok-take_held.ensures.good so_far.0 so_far.1.ran in
-          let last = last_good bytes c.args.self so_far.0 _ so_far.1 some good.0 good.1 in
-          (last.0, c.end.ensures.ended (lines bytes) (subst (HasRun (lines bytes)) (sym (ap (λ (reader : Reading). reader.run) (c.self-2.view_is ∙ w.self-is))) last.1))
+          let last = last_good bytes c.args.self so_far.0 _ so_far.1 some good.0 good.1 in (
+            last.0,
+            c.end.ensures.ended (lines bytes) (subst (HasRun (lines bytes)) (sym same) last.1),
+          )
       | else-holds w ↦
+          let same = ap (λ (reader : Reading). reader.run) (c.self-2.view_is ∙ w.self-is) in
           let empty : length c.args.self.held ≡ 0 = elim (cases_lt 0 (length c.args.self.held)) [
             | inl some ↦ absurd (false≢true (sym w.if-holds.false ∙ c.holds.ensures.holds.1 some))
             | inr none ↦ omega arith
           ] in
-          let last = none_held bytes c.args.self so_far empty in
-          (last.0, c.end.ensures.ended (lines bytes) (subst (HasRun (lines bytes)) (sym (ap (λ (reader : Reading). reader.run) (c.self-2.view_is ∙ w.self-is))) last.1))
+          let last = none_held bytes c.args.self so_far empty in (
+            last.0,
+            c.end.ensures.ended (lines bytes) (subst (HasRun (lines bytes)) (sym same) last.1),
+          )
     ]

@@ -17,7 +17,8 @@ returns-then-self-eq0-clause-good c = λ bytes (ended, so_far).
     let empty : length old.held ≡ 0 = rw (← c.self.view_is) (simp length-take (omega arith)) in
     let line = held_whole bytes part old ended so_far few c.requires.unended room (nil_of_length old.held empty) in
     on_ok_weaker c.take_in_place.result
-    (λ given. good_feed (bytes ++ part) (with_line old part) c.take_in_place.new.self ended line few given.0.0 given.0.1 given.1.0 given.1.1)
+    (λ given. good_feed (bytes ++ part)
+    (with_line old part) c.take_in_place.new.self ended line few given.0.0 given.0.1 given.1.0 given.1.1)
     (on_ok_both _ _ c.take_in_place.result (c.take_in_place.ensures.good ended so_far.ran) c.take_in_place.ensures.next)
 
 pub returns-then-self-eq0-clause-refused : goal.returns-then-self-eq0-clause-refused
@@ -27,18 +28,22 @@ returns-then-self-eq0-clause-refused c = λ bytes more (ended, so_far).
     let (few, room) = c.in_ok-judge_part.ensures.room in
     let empty : length old.held ≡ 0 = rw (← c.self.view_is) (simp length-take (omega arith)) in
     let line = held_whole bytes part old ended so_far few c.requires.unended room (nil_of_length old.held empty) in
-    IfErr-weaker c.take_in_place.result (IsLineFault (old.ended + 1) (said_fault ended part)) (Refuses (bytes ++ part ++ 10 ∷ more) false)
-    (λ fault own. refused_feed (bytes ++ part) more (with_line old part) ended fault line few own) (c.take_in_place.ensures.refused ended so_far.ran)
+    IfErr-weaker c.take_in_place.result (IsLineFault (old.ended + 1) (said_fault ended part))
+    (Refuses (bytes ++ part ++ 10 ∷ more) false)
+    (λ fault own. refused_feed (bytes ++ part) more (with_line old part) ended fault line few own)
+    (c.take_in_place.ensures.refused ended so_far.ran)
 
 pub returns-clause-good : goal.returns-clause-good
 returns-clause-good c = λ bytes (ended, so_far).
     let old = c.args.self.now in
     let part = c.args.part.now in
     let (few, room) = c.in_ok-judge_part.ensures.room in
-    let line = subst (λ reader. HasReadAs (bytes ++ part) reader ended) (sym c.append.ensures.held) (held_more bytes part old ended so_far few c.requires.unended room) in
+    let line = subst (λ reader. HasReadAs (bytes ++ part) reader ended) (sym c.append.ensures.held)
+    (held_more bytes part old ended so_far few c.requires.unended room) in
     let late : c.append.new.self.ended < MOST_LINES = rw c.append.ensures.held few in
     on_ok_weaker c.take_held.result
-    (λ given. good_feed (bytes ++ part) c.append.new.self c.take_held.new.self ended line late given.0.0 given.0.1 given.1.0 given.1.1)
+    (λ given. good_feed (bytes ++ part) c.append.new.self c.take_held.new.self ended line late given.0.0 given.0.1
+    given.1.0 given.1.1)
     (on_ok_both _ _ c.take_held.result (c.take_held.ensures.good ended line.ran) c.take_held.ensures.next)
 
 pub returns-clause-refused : goal.returns-clause-refused
@@ -46,7 +51,11 @@ returns-clause-refused c = λ bytes more (ended, so_far).
     let old = c.args.self.now in
     let part = c.args.part.now in
     let (few, room) = c.in_ok-judge_part.ensures.room in
-    let line = subst (λ reader. HasReadAs (bytes ++ part) reader ended) (sym c.append.ensures.held) (held_more bytes part old ended so_far few c.requires.unended room) in
+    let line = subst (λ reader. HasReadAs (bytes ++ part) reader ended) (sym c.append.ensures.held)
+    (held_more bytes part old ended so_far few c.requires.unended room) in
     let late : c.append.new.self.ended < MOST_LINES = rw c.append.ensures.held few in
-    IfErr-weaker c.take_held.result (IsLineFault (c.append.new.self.ended + 1) (said_fault ended c.append.new.self.held)) (Refuses (bytes ++ part ++ 10 ∷ more) false)
-    (λ fault own. refused_feed (bytes ++ part) more c.append.new.self ended fault line late own) (c.take_held.ensures.refused ended line.ran)
+    IfErr-weaker c.take_held.result
+    (IsLineFault (c.append.new.self.ended + 1) (said_fault ended c.append.new.self.held))
+    (Refuses (bytes ++ part ++ 10 ∷ more) false)
+    (λ fault own. refused_feed (bytes ++ part) more c.append.new.self ended fault line late own)
+    (c.take_held.ensures.refused ended line.ran)

@@ -7,12 +7,20 @@ use Rattle.osb_schedule.proofs.line_reader.LineReader.judge_part.Goals as goal
 pub returns-then-is_full-clause-refused : goal.returns-then-is_full-clause-refused
 returns-then-is_full-clause-refused c = λ bytes more so_far some.
     let all : c.args.self.now.ended ≡ MOST_LINES = c.is_full.ensures.full c.if-is_full.true in
-    rw c.refusal.ensures.line
-    (c.args.self.now.ended, refl, rw (append_assoc bytes c.args.part.now more) (refused_many bytes (c.args.part.now ++ more) c.args.self.now so_far all some))
+    rw c.refusal.ensures.line (
+      c.args.self.now.ended,
+      refl,
+      rw (append_assoc bytes c.args.part.now more)
+          (refused_many bytes (c.args.part.now ++ more) c.args.self.now so_far all some),
+    )
 
 pub returns-then-not-fits-clause-refused : goal.returns-then-not-fits-clause-refused
 returns-then-not-fits-clause-refused c = λ bytes more so_far some.
     let few = c.is_full.ensures.room c.if-is_full.false in
     let long : LONGEST_LINE < length c.args.self.now.held + length c.args.part.now = search rules in
-    rw c.refusal-then-not-fits.ensures.line
-    (c.args.self.now.ended, refl, refused_long bytes c.args.part.now more c.args.self.now so_far few c.requires.unended long)
+    rw c.refusal-then-not-fits.ensures.line (
+      c.args.self.now.ended,
+      refl,
+      refused_long bytes c.args.part.now more c.args.self.now so_far few c.requires.unended
+          long,
+    )

@@ -11,7 +11,8 @@ use Rattle.osb_schedule.proofs.line_reader.LineReader.take_piece.Goals as goal
 
 pub end_line-requires : goal.end_line-requires
 end_line-requires c = record {
-  unended = unended_before c.loop-feed.rest.now c.in-Some.feed (λ k below. c.in-Some.ensures.0.before k (omega arith) below);
+  unended = unended_before c.loop-feed.rest.now c.in-Some.feed
+      (λ k below. c.in-Some.ensures.0.before k (omega arith) below);
 }
 
 pub take_part-requires : goal.take_part-requires
@@ -43,11 +44,13 @@ loop-feed-preserved c =
 pub returns-clause-good : goal.returns-clause-good
 returns-clause-good c = λ bytes so_far.
     let before = c.loop-feed.invariant in
-    subst (λ all. OnOk c.take_part.result (HasRead all c.take_part.new.self)) (passed_rest bytes before.front c.loop-feed.rest.now c.args.piece.now before.all)
+    subst (λ all. OnOk c.take_part.result (HasRead all c.take_part.new.self))
+    (passed_rest bytes before.front c.loop-feed.rest.now c.args.piece.now before.all)
     (c.take_part.ensures.good (bytes ++ before.front) (before.read bytes so_far))
 
 pub returns-clause-refused : goal.returns-clause-refused
 returns-clause-refused c = λ bytes so_far.
     let before = c.loop-feed.invariant in
-    subst (λ all. IfErr c.take_part.result (Refuses all false)) (passed_rest bytes before.front c.loop-feed.rest.now c.args.piece.now before.all)
+    subst (λ all. IfErr c.take_part.result (Refuses all false))
+    (passed_rest bytes before.front c.loop-feed.rest.now c.args.piece.now before.all)
     (c.take_part.ensures.refused (bytes ++ before.front) (before.read bytes so_far))

@@ -13,8 +13,17 @@ returns-in-Ok-Applied-clause-good c = λ cat events told.
     let counted = counts-applied cat events event c.in-Some.world after stepped in
     let longer = length-more events event in
     record {
-      world = (omega arith, world-more cat events event c.in-Some.world c.step.new.self after c.in-Ok-Applied.ensures.cells c.in-Ok-Applied.ensures.catalogue);
-      counts = record { applied = ap (λ n. n + 1) (c.begin.ensures.applied ∙ told.counts.applied) ∙ sym counted; all = let all = told.counts.all in let a = c.begin.ensures.applied in let s = c.begin.ensures.skipped in omega arith };
+      world = (
+        omega arith,
+        world-more cat events event c.in-Some.world c.step.new.self after
+            c.in-Ok-Applied.ensures.cells c.in-Ok-Applied.ensures.catalogue,
+      );
+      counts = record {
+        applied = ap (λ n. n + 1) (c.begin.ensures.applied ∙ told.counts.applied)
+            ∙ sym counted;
+        all = let all = told.counts.all in let a = c.begin.ensures.applied in let s =
+            c.begin.ensures.skipped in omega arith;
+      };
     }
 
 pub returns-in-Ok-Skipped-clause-good : goal.returns-in-Ok-Skipped-clause-good
@@ -26,6 +35,15 @@ returns-in-Ok-Skipped-clause-good c = λ cat events told.
     let counted = counts-skipped cat events event c.in-Some.world after stepped in
     let longer = length-more events event in
     record {
-      world = (omega arith, world-more cat events event c.in-Some.world c.step.new.self after c.in-Ok-Skipped.ensures.cells c.in-Ok-Skipped.ensures.catalogue);
-      counts = record { applied = c.begin.ensures.applied ∙ told.counts.applied ∙ sym counted; all = let all = told.counts.all in let a = c.begin.ensures.applied in let s = c.begin.ensures.skipped in omega arith };
+      world = (
+        omega arith,
+        world-more cat events event c.in-Some.world c.step.new.self after
+            c.in-Ok-Skipped.ensures.cells c.in-Ok-Skipped.ensures.catalogue,
+      );
+      counts = record {
+        applied = c.begin.ensures.applied ∙ told.counts.applied
+            ∙ sym counted;
+        all = let all = told.counts.all in let a = c.begin.ensures.applied in let s =
+            c.begin.ensures.skipped in omega arith;
+      };
     }

@@ -19,7 +19,8 @@ returns-in-Ok-clause-good c = λ earlier told.
 pub returns-in-Ok-clause-refused : goal.returns-in-Ok-clause-refused
 returns-in-Ok-clause-refused c = λ earlier told.
     let says : line_of c.args.line.now ≡ Ok c.in-Ok.said = sym c.read_line.ensures.exact ∙ c.in-Ok.is in
-    subst (λ fault. IfErr c.take_said.result (IsLineFault c.args.number fault)) (sym (said-as earlier c.args.line.now (Ok c.in-Ok.said) says))
+    subst (λ fault. IfErr c.take_said.result (IsLineFault c.args.number fault))
+    (sym (said-as earlier c.args.line.now (Ok c.in-Ok.said) says))
     (c.take_said.ensures.refused (catalogue_in earlier) (events_in earlier) told)
 
 pub returns-in-Err-clause-refused : goal.returns-in-Err-clause-refused

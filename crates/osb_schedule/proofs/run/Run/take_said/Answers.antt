@@ -25,5 +25,9 @@ returns-in-Plan-clause-good c = λ cat events told.
     let line = Says.Plan c.in-Plan.service c.in-Plan.plan c.in-Plan.mode in
     subst (λ (said : Line). OnOk c.add_plan.result (Takes cat events c.add_plan.new.self said)) (sym c.in-Plan.is)
     (on_ok_weaker c.add_plan.result
-    (λ given. (given.0, subst (λ now. IsRunOf (with_plan cat (Ok line)) now c.add_plan.new.self) (sym (append-nil events)) given.1))
+    (λ given. (
+      given.0,
+      subst (λ now. IsRunOf (with_plan cat (Ok line)) now c.add_plan.new.self)
+          (sym (append-nil events)) given.1,
+    ))
     (c.add_plan.ensures.good cat events told))

@@ -14,7 +14,8 @@ returns-in-Ok-clause-good c = λ earlier told count.
     on_ok_weaker c.take_said.result
     (λ (none, catalogue, events). (
       schedule_fault earlier c.args.line.now (Ok c.in-Ok.said) c.args.self.now told says few ∙ none,
-      schedule_more earlier c.args.line.now (Ok c.in-Ok.said) c.args.self.now c.take_said.new.self told says catalogue events,
+      schedule_more earlier c.args.line.now
+          (Ok c.in-Ok.said) c.args.self.now c.take_said.new.self told says catalogue events,
     )) c.take_said.ensures.good
 
 pub returns-in-Ok-clause-refused : goal.returns-in-Ok-clause-refused
@@ -22,7 +23,8 @@ returns-in-Ok-clause-refused c = λ earlier told count.
     let says : line_of c.args.line.now ≡ Ok c.in-Ok.said = sym c.read_line.ensures.exact ∙ c.in-Ok.is in
     let few : length earlier < MOST_LINES = omega arith in
     subst (λ fault. IfErr c.take_said.result (IsLineFault (c.args.before + 1) fault))
-    (sym (schedule_fault earlier c.args.line.now (Ok c.in-Ok.said) c.args.self.now told says few)) c.take_said.ensures.refused
+    (sym (schedule_fault earlier c.args.line.now (Ok c.in-Ok.said) c.args.self.now told says few))
+    c.take_said.ensures.refused
 
 pub returns-in-Err-clause-refused : goal.returns-in-Err-clause-refused
 returns-in-Err-clause-refused c = λ earlier told count.
