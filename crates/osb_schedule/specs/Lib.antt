@@ -4,6 +4,7 @@ pub mod Faults
 pub mod Fields
 pub mod Language
 pub mod Lines
+pub mod MitigationTable
 pub mod Reading
 pub mod Replay
 pub mod Report

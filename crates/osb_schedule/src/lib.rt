@@ -26,6 +26,8 @@
 //! [`read_schedule`] reads a schedule that stands in memory and lets nothing happen: its plans and its
 //! events are what [`run`](osb_world::run) takes.
 //!
+//! [`write_table`] writes the orphan mitigation table, as the crate `osb_platform` decides it.
+//!
 //! [`replay`] and [`read_schedule`] take memory, and nothing else does.
 #![tactic(auto)]
 
@@ -42,6 +44,7 @@ mod replaying;
 mod report;
 mod run;
 mod schedule;
+mod table;
 mod words;
 mod writing;
 
@@ -52,6 +55,7 @@ pub use options::Options;
 pub use output::Output;
 pub use replaying::replay;
 pub use schedule::{Schedule, read_schedule};
+pub use table::write_table;
 
 #[cfg(test)]
 mod tests;

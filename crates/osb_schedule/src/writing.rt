@@ -7,7 +7,7 @@ use crate::output::Output;
 use std::io::Write;
 
 // Writes all of the bytes, as often as it takes.
-fn write_whole<W: Write>(output: &mut Output<W>, bytes: &[u8]) -> Result<(), DeviceFault>
+pub fn write_whole<W: Write>(output: &mut Output<W>, bytes: &[u8]) -> Result<(), DeviceFault>
     ensures bytes { OnOk result (Appends (W.contents output.old.device) (W.contents output.new.device)
         bytes.now) }
     ensures refused { OnErr result (IsTrue output.new.refused) }
