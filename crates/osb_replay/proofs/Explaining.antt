@@ -1,0 +1,31 @@
+-- An error of the command explains the fault that it is told as.
+use Rattle.std.proofs.Common.{◌≡◌, true, List, refl, ap, ◌∙◌, inl, inr, ◌⊎◌, subst}
+use Rattle.clap.specs.Faults.{fault_of, is_simple_and_free}
+use Rattle.clap.specs.Kinds.{HasKind, IsAmong}
+use Rattle.clap.specs.Simple.{App}
+use Rattle.clap.specs.Values.{kind_of}
+use Rattle.clap.specs.Walk.{Text}
+use Rattle.clap.specs.declared.error.Error.{Error}
+use Rattle.clap.specs.declared.error.kind.ErrorKind.{ErrorKind}
+use Rattle.clap.specs.declared.error.kind.ErrorKind.TheVariants.{OutOfMemory}
+use Rattle.osb_replay.specs.CommandLine.{command, Explains, IsTold}
+use Rattle.osb_replay.specs.declared.command_line.WordsFault.{WordsFault}
+use Rattle.osb_replay.specs.declared.command_line.WordsFault.TheVariants.{Help, Refused, Memory}
+
+command_is_free : is_simple_and_free command ≡ true
+command_is_free = refl
+
+of_kind : (words : List Text) (kind : ErrorKind) (fault : WordsFault) → IsTold kind fault
+    → (kind ≡ OutOfMemory) ⊎ IsAmong kind (fault_of command words) → Explains words fault
+of_kind words kind (Help text) told (inl memory) = cc
+of_kind words kind (Help text) told (inr among) = subst (λ k. IsAmong k (fault_of command words)) told among
+of_kind words kind (Refused text) told (inl memory) = absurd (told.1 memory)
+of_kind words kind (Refused text) told (inr among) = inl (kind, among, told.0)
+of_kind words kind Memory told among = tt
+
+-- the command that was made is the one that is meant
+pub explained : (made : App) (words : List Text) (e : Error) (fault : WordsFault) → made ≡ command
+    → (is_simple_and_free made ≡ true → HasKind (fault_of made words) e) → IsTold (kind_of e) fault → Explains words fault
+explained made words e fault is kinds told =
+    of_kind words (kind_of e) fault told
+    (subst (λ a. HasKind (fault_of a words) e) is (kinds (ap is_simple_and_free is ∙ command_is_free)))

@@ -1,0 +1,7 @@
+-- An error of the command is told as what it is.
+use Rattle.osb_replay.proofs.Explaining.{explained}
+use Rattle.osb_replay.proofs.command_line.read_words.Goals as goal
+
+pub returns-clause-fault : goal.returns-clause-fault
+returns-clause-fault c =
+    explained _ _ c.in-Err.error c.fault_by.result c.in-Ok.ensures.shape c.in-Err.ensures.kinds c.fault_by.ensures.kind

@@ -1,0 +1,36 @@
+-- What the program does of what it is asked for (this project's choice).
+use Rattle.std.specs.Prelude.{◌≡◌, Bool, Err, IsTrue, List, ℕ, Ok, Option, Result, ⊤}
+use Rattle.std.specs.Io.KnownBytes.{Appends}
+use Rattle.osb_schedule.specs.Conversions.{exit_status}
+use Rattle.osb_schedule.specs.MitigationTable.{table_text}
+use Rattle.osb_schedule.specs.Replay as replay
+use Rattle.osb_schedule.specs.Replay.{ReadsWhole, WritesReport}
+use Rattle.osb_schedule.specs.declared.faults.ReplayFault.{ReplayFault}
+use Rattle.osb_schedule.specs.declared.faults.ReplayFault.TheVariants.{Write}
+use Rattle.osb_replay.specs.declared.command_line.Asked.{Asked}
+use Rattle.osb_replay.specs.declared.command_line.Asked.TheVariants.{Replay, Table}
+use Rattle.osb_replay.specs.declared.command_line.WordsFault.{WordsFault}
+use Rattle.osb_replay.specs.declared.command_line.WordsFault.TheVariants.{Help, Refused, Memory}
+
+-- what was asked for is done: the reader had these bytes left, before and after, and the writer held those
+abbrev pub IsDone : Asked → Option (List ℕ) → Option (List ℕ) → Option (List ℕ) → Option (List ℕ) → Type 0
+IsDone (Replay options) left left_after held held_after =
+    (bytes : List ℕ) × ReadsWhole left left_after bytes × WritesReport options held held_after bytes
+IsDone Table left left_after held held_after = Appends held held_after table_text
+
+-- what a fault says of what was read, and of which device refused
+abbrev pub Explains : Asked → Option (List ℕ) → Option (List ℕ) → Bool → Bool → ReplayFault → Type 0
+Explains (Replay options) left left_after input_refused output_refused fault =
+    replay.Explains left left_after input_refused output_refused fault
+Explains Table left left_after input_refused output_refused fault = (fault ≡ Write) × IsTrue output_refused
+
+-- the status that the program ends with: 0 where what was asked for is done
+abbrev pub ending : Result ⊤ ReplayFault → ℕ
+ending (Ok done) = 0
+ending (Err fault) = exit_status fault
+
+-- a fault that is no call for help
+abbrev pub IsNoHelp : WordsFault → Type 0
+IsNoHelp (Help text) = ⊥
+IsNoHelp (Refused text) = ⊤
+IsNoHelp Memory = ⊤
