@@ -1,0 +1,85 @@
+//! Each library call that may run out of memory, made where a check refuses one of its allocations, and
+//! made again after the refusal.
+//!
+//! `refusal_cases PART` tells one part, without a word it tells all of them, and `refusal_cases parts`
+//! names them. Four lines tell of a call: what there is before it (`before`), its name (`call`), what it
+//! returned (`returned`), and what there is then (`after`). The name of a call that takes no memory ends
+//! in `without memory`.
+#![tactic(auto)]
+
+mod broker;
+mod catalogue;
+mod instances;
+mod platform;
+mod rows;
+mod telling;
+mod world;
+
+use anyhow::{Result, bail};
+use std::alloc::Global;
+use std::env;
+
+// The parts, in the order in which they are told.
+const PARTS: [&str; 15] = [
+    "rows-insert",
+    "rows-set",
+    "rows-ids",
+    "catalogue-add",
+    "broker-handle",
+    "platform-create",
+    "platform-ids",
+    "platform-save",
+    "load-format-1",
+    "load-format-2",
+    "world-steps",
+    "world-restart",
+    "world-ids",
+    "world-save",
+    "run",
+];
+
+fn tell(rt: &impl Print, alloc: Global, part: &str) -> Result<()> {
+    match part {
+        "rows-insert" => rows::insert(rt, alloc),
+        "rows-set" => rows::set(rt, alloc),
+        "rows-ids" => rows::ids(rt, alloc),
+        "catalogue-add" => catalogue::add(rt, alloc),
+        "broker-handle" => broker::handle(rt, alloc),
+        "platform-create" => platform::create(rt, alloc),
+        "platform-ids" => platform::ids(rt, alloc),
+        "platform-save" => platform::save(rt, alloc),
+        "load-format-1" => platform::load(rt, alloc, platform::FORMAT_1),
+        "load-format-2" => platform::load(rt, alloc, platform::FORMAT_2),
+        "world-steps" => world::steps(rt, alloc),
+        "world-restart" => world::restart(rt, alloc),
+        "world-ids" => world::ids(rt, alloc),
+        "world-save" => world::save(rt, alloc),
+        "run" => world::run_events(rt, alloc),
+        _ => bail!("no part has this name"),
+    }
+}
+
+fn tell_all(rt: &impl Print, alloc: Global) -> Result<()> {
+    for part in PARTS {
+        tell(rt, alloc, part)?;
+    }
+    Ok(())
+}
+
+// Names the parts, for the check that goes through them.
+fn list(rt: &impl Print) -> Result<()> {
+    for part in PARTS {
+        println!(rt; "{part}")?;
+    }
+    Ok(())
+}
+
+fn main(rt: HostRuntime) -> Result<()> {
+    let mut words = env::args(&rt)?;
+    let _program = words.next();
+    match words.next() {
+        None => tell_all(&rt, rt.alloc()),
+        Some(word) if word.as_str() == "parts" => list(&rt),
+        Some(part) => tell(&rt, rt.alloc(), part.as_str()),
+    }
+}

@@ -1,0 +1,144 @@
+//! A world is stepped, restarted, listed, saved, and made by a run.
+use crate::instances::{catalogue, create, deliver, first, made, second};
+use crate::telling::{Case, Returned, listed, saved, tell};
+use anyhow::Result;
+use osb_message::{Catalogue, InstanceId, Memory};
+use osb_world::{Event, Step, World, run};
+use std::alloc::Global;
+
+#[derive(Clone, Copy)]
+enum Call {
+    Step(Event),
+    Ids,
+    Save,
+    Run,
+}
+
+#[derive(Drop)]
+struct WorldCase {
+    world: World,
+    call: Call,
+    // A run takes its catalogue with it: one for each time that it is made.
+    catalogues: Vec<Catalogue>,
+    alloc: Global,
+}
+
+// What the platform records of an instance, what the broker holds, the request that is out and the
+// answer that travels.
+fn cell_text(alloc: Global, world: &World, id: InstanceId) -> Result<String> {
+    let cell = world.cell(id);
+    let record = cell.platform.map(|row| row.state);
+    let row = cell.broker.map(|row| row.phase);
+    let out = cell.out.map(|request| request.kind);
+    let answer = cell.travelling;
+    Ok(format!(in alloc; "{record:?} {row:?} {out:?} {answer:?}")?)
+}
+
+fn stepped(returned: Result<Step, Memory>) -> Returned {
+    match returned {
+        Ok(Step::Applied) => Returned::Word("Applied"),
+        Ok(Step::Skipped) => Returned::Word("Skipped"),
+        Err(Memory) => Returned::Memory,
+    }
+}
+
+impl WorldCase {
+    fn run(&mut self) -> Returned {
+        let Some(catalogue) = self.catalogues.pop() else {
+            return Returned::Word("no catalogue is left");
+        };
+        match run(self.alloc, catalogue, &made()) {
+            Ok(world) => {
+                self.world = world;
+                Returned::Word("Ok")
+            }
+            Err(Memory) => Returned::Memory,
+        }
+    }
+}
+
+impl Case for WorldCase {
+    fn state(&self, alloc: Global) -> Result<String> {
+        let one = cell_text(alloc, &self.world, first())?;
+        let two = cell_text(alloc, &self.world, second())?;
+        Ok(format!(in alloc; "{one}; {two}")?)
+    }
+
+    fn call(&mut self) -> Returned {
+        match self.call {
+            Call::Step(event) => stepped(self.world.step(self.alloc, event)),
+            Call::Ids => listed(self.world.ids(self.alloc)),
+            Call::Save => saved(self.world.save(self.alloc)),
+            Call::Run => self.run(),
+        }
+    }
+}
+
+// A world after these events, and the call to make on it.
+fn case_after(alloc: Global, events: &[Event], call: Call) -> Result<WorldCase> {
+    Ok(WorldCase {
+        world: run(alloc, catalogue(alloc)?, events)?,
+        call,
+        catalogues: Vec::new(alloc),
+        alloc,
+    })
+}
+
+fn step_name(event: &Event) -> &'static str {
+    match event {
+        Event::Create { .. } => "World::step, Create",
+        Event::Deliver { .. } => "World::step, Deliver",
+        Event::Restart => "World::step, Restart",
+        Event::Send { .. } => "World::step, Send, without memory",
+        Event::Garble { .. } => "World::step, Garble, without memory",
+        Event::Answer { .. } => "World::step, Answer, without memory",
+        _ => "World::step",
+    }
+}
+
+// Two instances are made, the answer of one is garbled, the platform restarts and cleans that one up.
+pub fn steps(rt: &impl Print, alloc: Global) -> Result<()> {
+    let events = [
+        create(first()),
+        create(second()),
+        deliver(first()),
+        deliver(second()),
+        Event::Garble { id: first() },
+        Event::Answer { id: first() },
+        Event::Answer { id: second() },
+        Event::Restart,
+        Event::Send { id: first() },
+        deliver(first()),
+        Event::Answer { id: first() },
+    ];
+    let mut case = case_after(alloc, &[], Call::Ids)?;
+    for event in events {
+        case.call = Call::Step(event);
+        tell(rt, alloc, step_name(&event), &mut case)?;
+    }
+    Ok(())
+}
+
+// The platform restarts while the answer to a Provision travels.
+pub fn restart(rt: &impl Print, alloc: Global) -> Result<()> {
+    let events = [create(first()), deliver(first())];
+    let mut case = case_after(alloc, &events, Call::Step(Event::Restart))?;
+    tell(rt, alloc, step_name(&Event::Restart), &mut case)
+}
+
+pub fn ids(rt: &impl Print, alloc: Global) -> Result<()> {
+    let mut case = case_after(alloc, &made(), Call::Ids)?;
+    tell(rt, alloc, "World::ids", &mut case)
+}
+
+pub fn save(rt: &impl Print, alloc: Global) -> Result<()> {
+    let mut case = case_after(alloc, &made(), Call::Save)?;
+    tell(rt, alloc, "World::save", &mut case)
+}
+
+pub fn run_events(rt: &impl Print, alloc: Global) -> Result<()> {
+    let mut case = case_after(alloc, &[], Call::Run)?;
+    case.catalogues.push(catalogue(alloc)?)?;
+    case.catalogues.push(catalogue(alloc)?)?;
+    tell(rt, alloc, "run", &mut case)
+}
