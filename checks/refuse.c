@@ -11,11 +11,12 @@
      CUT_WRITES=1    a write on standard output takes one byte at most
      TOLD_CALLS=1    allocations count only from a write that begins with "call " to the next that begins
                      with "returned "; else all of them count
-     COUNTS=FILE     where to write at the end how many allocations there were, how many of them were
-                     refused, how many reads, how many writes on standard output, and how many of those
-                     came before the end of standard input
+     COUNTS=FILE     where to write at the end how many allocations there were, how many came before the
+                     first read, how many were refused, how many reads there were, how many writes on
+                     standard output, and how many of those came before the end of standard input
 
-   It needs the GNU C library, whose __libc_malloc and so on do the work. */
+   A program that hasn't ended after twenty seconds is ended by SIGALRM. It needs the GNU C library, whose
+   __libc_malloc and so on do the work. */
 #include <errno.h>
 #include <fcntl.h>
 #include <stdio.h>
@@ -34,7 +35,7 @@ static unsigned long refuse, fail_read, fail_write;
 static int refuse_on, cut_reads, cut_writes, told_calls;
 static enum failure failure;
 
-static unsigned long allocations, refusals, reads, writes, early_writes;
+static unsigned long allocations, early_allocations, refusals, reads, writes, early_writes;
 static int counting, input_ended;
 
 static unsigned long number(const char *name)
@@ -64,17 +65,19 @@ __attribute__((constructor)) static void begin(void)
     cut_writes = number("CUT_WRITES") == 1;
     told_calls = number("TOLD_CALLS") == 1;
     counting = !told_calls;
+    alarm(20);
 }
 
 __attribute__((destructor)) static void end(void)
 {
     const char *name = getenv("COUNTS");
-    char text[128];
+    char text[160];
     int file, length;
     counting = 0;
     if (!name)
         return;
-    length = snprintf(text, sizeof text, "%lu %lu %lu %lu %lu\n", allocations, refusals, reads, writes, early_writes);
+    length = snprintf(text, sizeof text, "%lu %lu %lu %lu %lu %lu\n", allocations, early_allocations, refusals, reads,
+                      writes, early_writes);
     file = open(name, O_WRONLY | O_CREAT | O_TRUNC, 0666);
     if (file < 0 || syscall(SYS_write, file, text, (size_t)length) != length)
         _exit(99);
@@ -125,6 +128,8 @@ static size_t cut(int is_cut, size_t length)
 ssize_t read(int file, void *buffer, size_t length)
 {
     ssize_t count;
+    if (reads == 0)
+        early_allocations = allocations;
     if (++reads == fail_read)
         return fail();
     count = syscall(SYS_read, file, buffer, cut(cut_reads, length));

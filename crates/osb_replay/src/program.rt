@@ -48,10 +48,14 @@ pub fn words_of<R: Env + AllocGlobal>(rt: &R) -> Result<Vec<String>, WordsFault>
         Err(error) if error.kind() == ErrorKind::InvalidData => return Err(not_utf_8(rt.alloc())),
         Err(_) => return Err(WordsFault::Memory),
     };
-    match words.collect::<Vec<String>>(rt.alloc()) {
-        Ok(words) => Ok(words),
-        Err(_) => Err(WordsFault::Memory),
+    // `collect` would go on where its first allocation fails.
+    let mut texts = Vec::new(rt.alloc());
+    for word in words {
+        let Ok(()) = texts.push(word) else {
+            return Err(WordsFault::Memory);
+        };
     }
+    Ok(texts)
 }
 
 /// Does what was asked for, from the reader to the writer. It takes memory for a replay alone.
