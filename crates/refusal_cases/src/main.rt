@@ -22,7 +22,6 @@ use std::env;
 // The parts, in the order in which they are told.
 const PARTS: [&str; 15] = [
     "rows-insert",
-    "rows-set",
     "rows-ids",
     "catalogue-add",
     "broker-handle",
@@ -41,7 +40,6 @@ const PARTS: [&str; 15] = [
 fn tell(rt: &impl Print, alloc: Global, part: &str) -> Result<()> {
     match part {
         "rows-insert" => rows::insert(rt, alloc),
-        "rows-set" => rows::set(rt, alloc),
         "rows-ids" => rows::ids(rt, alloc),
         "catalogue-add" => catalogue::add(rt, alloc),
         "broker-handle" => broker::handle(rt, alloc),

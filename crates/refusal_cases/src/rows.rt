@@ -8,7 +8,6 @@ use std::alloc::Global;
 #[derive(Clone, Copy)]
 enum Call {
     Insert(u8),
-    Set(Option<u8>),
     Ids,
 }
 
@@ -28,7 +27,6 @@ impl Case for RowsCase {
     fn call(&mut self) -> Returned {
         match self.call {
             Call::Insert(value) => done(self.rows.insert(first(), value)),
-            Call::Set(value) => done(self.rows.set(first(), value)),
             Call::Ids => listed(self.rows.ids(self.alloc)),
         }
     }
@@ -47,13 +45,6 @@ pub fn insert(rt: &impl Print, alloc: Global) -> Result<()> {
     tell(rt, alloc, "Rows::insert", &mut case)?;
     case.call = Call::Insert(2);
     tell(rt, alloc, "Rows::insert again, without memory", &mut case)
-}
-
-pub fn set(rt: &impl Print, alloc: Global) -> Result<()> {
-    let mut case = case_of(alloc, Call::Set(Some(1)));
-    tell(rt, alloc, "Rows::set", &mut case)?;
-    case.call = Call::Set(None);
-    tell(rt, alloc, "Rows::set to none, without memory", &mut case)
 }
 
 pub fn ids(rt: &impl Print, alloc: Global) -> Result<()> {
