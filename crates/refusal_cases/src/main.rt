@@ -20,7 +20,7 @@ use std::alloc::Global;
 use std::env;
 
 // The parts, in the order in which they are told.
-const PARTS: [&str; 15] = [
+const PARTS: [&str; 14] = [
     "rows-insert",
     "rows-ids",
     "catalogue-add",
