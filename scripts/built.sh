@@ -1,13 +1,15 @@
 # What the built program was made of. Read by the launcher, and by check, which marks the program that
-# the gate has proved and built as the current one. $top is the folder of the repository.
-out=$top/crates/osb_replay/out
-program=$out/osb_replay
+# the gate has proved and built as the current one. $top is the folder of the repository. The program is
+# that of the crate $built_crate, osb_replay where nothing else is said, under the name $built_file in its folder out.
+: "${built_crate:=osb_replay}" "${built_file:=$built_crate}"
+out=$top/crates/$built_crate/out
+program=$out/$built_file
 built=$out/built
 
 # The crates that the program is made of, lowest first. crates.txt has a line 'NAME: DEP DEP ..' for
 # each crate; a DEP without a line is the kit's.
 crates() {
-    awk '
+    awk -v of="$built_crate" '
         function visit(name, deps, count, i) {
             if (!(name in below) || seen[name]++) return
             count = split(below[name], deps, " ")
@@ -16,7 +18,7 @@ crates() {
         }
         { sub(/#.*/, "") }
         /:/ { name = $1; sub(/:.*/, "", name); sub(/^[^:]*:/, ""); below[name] = $0 }
-        END { visit("osb_replay") }' "$top/crates.txt"
+        END { visit(of) }' "$top/crates.txt"
 }
 
 # A digest of the names and contents of the sources. It fails where one of them can't be read.
@@ -51,7 +53,10 @@ kit() {
 # program whose kit isn't there any more is current too.
 is_current() {
     local old_sources old_program old_version old_kit kit
-    [ -x "$program" ] && [ -r "$built" ] || return 1
+    case $program in
+        *.a) [ -r "$program" ] ;;
+        *) [ -x "$program" ] ;;
+    esac && [ -r "$built" ] || return 1
     { read -r old_sources && read -r old_program && read -r old_version && read -r old_kit; } <"$built" || return 1
     [ "$old_sources" = "$1" ] && [ "$old_program" = "$(sha256sum <"$program")" ] || return 1
     kit=$(kit)

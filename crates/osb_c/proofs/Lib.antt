@@ -1,0 +1,3 @@
+mod BoxValues
+mod BrokerValues
+mod PlatformValues

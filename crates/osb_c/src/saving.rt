@@ -1,0 +1,203 @@
+//! The saved record, and the list of the recorded ids.
+ghost use Rattle.std.specs.Prelude.{◌≡◌, ◌≢◌, ◌↔◌, ◌⊎◌, ◌<◌, [], ◌∷◌, ℕ, Some, Ok, Err, IsTrue};
+ghost use Rattle.std.specs.Prelude.{IsSome, IsNone, IfSome, IsSomeAnd, Contains, length, take, drop, map as each};
+ghost use Rattle.std.specs.FinMap as map;
+ghost use Rattle.std.specs.List.Sorted.{IsStrictlySortedBy};
+ghost use Rattle.std.specs.Ordering.{nat_cmp};
+ghost use Rattle.std.specs.Str.{IsUtf8};
+ghost use Rattle.serde_json.specs.Read.{read};
+ghost use Rattle.osb_platform.specs.PlatformRow.{IsRestarted};
+ghost use Rattle.osb_platform.specs.SavedRecord.{saved_value, saved_text, rows_in, IsRecordOf};
+ghost use Rattle.osb_c.specs.Handles.{Records};
+ghost use Rattle.osb_c.specs.Ids.{number_of};
+ghost use Rattle.osb_c.specs.Status.{code, is_one_of, load_status};
+
+use crate::ids::{OsbId, id_out};
+use crate::platform_handle::OsbPlatform;
+use crate::status::Status;
+use osb_message::InstanceId;
+use osb_platform::{LoadFault, Platform};
+use std::alloc::Global;
+
+// Writes a text at the front of the room, if it is as long.
+fn write_text(text: &str, room: &mut [u8]) -> Status
+    ensures done { result ≡ Status.Done → take (length text.now) room.new ≡ text.now }
+    ensures rest { drop (length text.now) room.new ≡ drop (length text.now) room.old }
+    ensures fits { (result ≡ Status.TooSmall) ↔ (length room.old < length text.now) }
+    ensures statuses { (result ≡ Status.Done) ⊎ (result ≡ Status.TooSmall) }
+    ensures unwritten { result ≡ Status.TooSmall → room.new ≡ room.old }
+{
+    let bytes = text.as_bytes();
+    if room.len() < bytes.len() {
+        return Status::TooSmall;
+    }
+    room[..bytes.len()].copy_from_slice(bytes);
+    Status::Done
+}
+
+/// Writes the saved record of the platform, in format 2, to the front of `room`, and its length to `needed`;
+/// the rest of the room is as before. There is no NUL after it. The platform is as before. All of it is this
+/// project's choice.
+///
+/// It returns `Done`; `EmptyHandle` exactly where the handle is empty; `TooSmall` where the room isn't
+/// `needed` bytes, which are written all the same; or `Memory`, in place of either but `EmptyHandle`, where
+/// an allocation failed. Where it isn't `Done`, the room is as before, and where it is neither that nor
+/// `TooSmall`, `needed` too.
+#[unsafe(no_mangle)]
+pub extern "C" fn osb_platform_save(
+    alloc: Global,
+    platform: &mut OsbPlatform,
+    room: &mut [u8],
+    needed: &mut usize,
+) -> u32
+    ensures text { result ≡ code Status.Done → IsSomeAnd platform.old.held (λ records.
+        (needed.new ≡ length (saved_text records)) × (take needed.new room.new ≡ saved_text records)) }
+    ensures reads { result ≡ code Status.Done → IsSomeAnd platform.old.held (λ records.
+        read (take needed.new room.new) ≡ Some (saved_value records)) }
+    ensures record { result ≡ code Status.Done → IsSomeAnd platform.old.held (λ records.
+        IsRecordOf records (take needed.new room.new)) }
+    ensures utf8 { result ≡ code Status.Done → IsUtf8 (take needed.new room.new) }
+    ensures rest { result ≡ code Status.Done → drop needed.new room.new ≡ drop needed.new room.old }
+
+    ensures too_small { result ≡ code Status.TooSmall → IsSomeAnd platform.old.held (λ records.
+        (needed.new ≡ length (saved_text records)) × (length room.old < needed.new)) }
+    ensures empty_handle { (result ≡ code Status.EmptyHandle) ↔ IsNone platform.old.held }
+    ensures statuses { IsTrue (is_one_of
+        (Status.Done ∷ Status.EmptyHandle ∷ Status.TooSmall ∷ Status.Memory ∷ []) result) }
+    ensures kept { platform.new.held ≡ platform.old.held }
+    ensures unwritten { result ≢ code Status.Done → room.new ≡ room.old }
+    ensures unmeasured { result ≢ code Status.Done → result ≢ code Status.TooSmall → needed.new ≡ needed.old }
+{
+    let Some(held) = platform.take(alloc) else {
+        return Status::EmptyHandle.code();
+    };
+    let saved = held.save(alloc);
+    platform.put(held);
+    let Ok(text) = saved else {
+        return Status::Memory.code();
+    };
+    *needed = text.len();
+    write_text(text.as_str(), room).code()
+}
+
+// Why no platform is loaded.
+fn fault_status(fault: LoadFault) -> Status
+    ensures status { result ≡ load_status fault }
+{
+    match fault {
+        LoadFault::NotJson => Status::NotJson,
+        LoadFault::NotAnObject => Status::NotAnObject,
+        LoadFault::BadVersion => Status::BadVersion,
+        LoadFault::BadOuter => Status::BadOuter,
+        LoadFault::BadKey => Status::BadKey,
+        LoadFault::BadMember => Status::BadMember,
+        LoadFault::Memory => Status::Memory,
+    }
+}
+
+/// Makes the platform that a saved record names, after a restart, in an empty handle: `wanted` becomes
+/// `cleaning`, every other state stays, and nothing is out. The text may be of format 1 or 2, in any
+/// spacing. All of it is this project's choice.
+///
+/// It returns `Done`; `FullHandle` exactly where the handle isn't empty; else the first of these that fits:
+/// `NotUtf8` where the bytes aren't UTF-8, `NotJson` where the text has no reading as JSON, `NotAnObject`
+/// where the value isn't an object, `BadVersion` where it has a `version` that isn't the number 2,
+/// `BadOuter` where it has a `version` and not exactly one further member, the object `instances`, `BadKey`
+/// where some instance's name isn't the text of an id in lower case, `BadMember` where some instance isn't
+/// an object with the members `plan`, `service` and `state` and no other, two texts of ids in lower case
+/// and one of the seven words; or, in place of any of these or of `Done`, `Memory` where an allocation
+/// failed. Where it isn't `Done`, the handle is as before.
+#[unsafe(no_mangle)]
+pub extern "C" fn osb_platform_load(alloc: Global, platform: &mut OsbPlatform, text: &[u8]) -> u32
+    ensures loaded { result ≡ code Status.Done → IsSomeAnd platform.new.held (λ records.
+        (named : Records) × (rows_in text.now ≡ Ok named) × IsRestarted named records) }
+    ensures reload { (saved : Records) → IsRecordOf saved text.now → IsUtf8 text.now
+        → IsNone platform.old.held → (result ≡ code Status.Memory)
+        ⊎ ((result ≡ code Status.Done) × IsSomeAnd platform.new.held (IsRestarted saved)) }
+
+    ensures full_handle { (result ≡ code Status.FullHandle) ↔ IsSome platform.old.held }
+    ensures not_utf8 { (result ≡ code Status.NotUtf8) ↔ (IsNone platform.old.held × ¬ (IsUtf8 text.now)) }
+    ensures faults { (fault : LoadFault) → fault ≢ LoadFault.Memory
+        → result ≡ code (load_status fault) → rows_in text.now ≡ Err fault }
+    ensures statuses { IsTrue (is_one_of (Status.Done ∷ Status.FullHandle ∷ Status.NotUtf8 ∷ Status.NotJson
+        ∷ Status.NotAnObject ∷ Status.BadVersion ∷ Status.BadOuter ∷ Status.BadKey ∷ Status.BadMember
+        ∷ Status.Memory ∷ []) result) }
+    ensures refused { result ≢ code Status.Done → platform.new.held ≡ platform.old.held }
+{
+    if let Some(held) = platform.take(alloc) {
+        platform.put(held);
+        return Status::FullHandle.code();
+    }
+    let Ok(text) = std::str::from_utf8(text) else {
+        return Status::NotUtf8.code();
+    };
+    let loaded = match Platform::load(alloc, text) {
+        Ok(loaded) => loaded,
+        Err(fault) => return fault_status(fault).code(),
+    };
+    let Ok(made) = Box::new(alloc, loaded) else {
+        return Status::Memory.code();
+    };
+    platform.put(made);
+    Status::Done.code()
+}
+
+// Writes ids at the front of the room, if there are as many places.
+fn write_ids(ids: &Vec<InstanceId>, room: &mut [OsbId]) -> Status
+    ensures done { result ≡ Status.Done → each number_of (take (length ids.now.items) room.new) ≡ ids.now.items }
+    ensures rest { drop (length ids.now.items) room.new ≡ drop (length ids.now.items) room.old }
+    ensures fits { (result ≡ Status.TooSmall) ↔ (length room.old < length ids.now.items) }
+    ensures statuses { (result ≡ Status.Done) ⊎ (result ≡ Status.TooSmall) }
+    ensures unwritten { result ≡ Status.TooSmall → room.new ≡ room.old }
+{
+    if room.len() < ids.len() {
+        return Status::TooSmall;
+    }
+    for at in 0..ids.len() {
+        room[at] = id_out(ids[at]);
+    }
+    Status::Done
+}
+
+/// Writes the recorded ids, ascending, to the front of `room`, and how many they are to `needed`; the rest of
+/// the room is as before. The platform is as before. All of it is this project's choice.
+///
+/// It returns `Done`; `EmptyHandle` exactly where the handle is empty; `TooSmall` where the room hasn't
+/// `needed` places, which are written all the same; or `Memory`, in place of either but `EmptyHandle`, where
+/// an allocation failed. Where it isn't `Done`, the room is as before, and where it is neither that nor
+/// `TooSmall`, `needed` too.
+#[unsafe(no_mangle)]
+pub extern "C" fn osb_platform_ids(
+    alloc: Global,
+    platform: &mut OsbPlatform,
+    room: &mut [OsbId],
+    needed: &mut usize,
+) -> u32
+    ensures keys { result ≡ code Status.Done → IsSomeAnd platform.old.held (λ records.
+        (needed.new ≡ length (map.keys records)) × (each number_of (take needed.new room.new) ≡ map.keys records)) }
+    ensures recorded { result ≡ code Status.Done → IsSomeAnd platform.old.held (λ records. (q : ℕ)
+        → Contains (each number_of (take needed.new room.new)) q ↔ IsSome (map.get records q)) }
+    ensures ascending { result ≡ code Status.Done →
+        IsStrictlySortedBy nat_cmp (each number_of (take needed.new room.new)) }
+    ensures rest { result ≡ code Status.Done → drop needed.new room.new ≡ drop needed.new room.old }
+
+    ensures too_small { result ≡ code Status.TooSmall → IsSomeAnd platform.old.held (λ records.
+        (needed.new ≡ length (map.keys records)) × (length room.old < needed.new)) }
+    ensures empty_handle { (result ≡ code Status.EmptyHandle) ↔ IsNone platform.old.held }
+    ensures statuses { IsTrue (is_one_of
+        (Status.Done ∷ Status.EmptyHandle ∷ Status.TooSmall ∷ Status.Memory ∷ []) result) }
+    ensures kept { platform.new.held ≡ platform.old.held }
+    ensures unwritten { result ≢ code Status.Done → room.new ≡ room.old }
+    ensures unmeasured { result ≢ code Status.Done → result ≢ code Status.TooSmall → needed.new ≡ needed.old }
+{
+    let Some(held) = platform.take(alloc) else {
+        return Status::EmptyHandle.code();
+    };
+    let listed = held.ids(alloc);
+    platform.put(held);
+    let Ok(ids) = listed else {
+        return Status::Memory.code();
+    };
+    *needed = ids.len();
+    write_ids(&ids, room).code()
+}

@@ -1,0 +1,96 @@
+/* One instance, by both sides: the answer to its Provision gets lost, the platform crashes, is loaded again,
+ * and cleans up. What it prints stands in story.out beside it. */
+#include "osb.h"
+#include <inttypes.h>
+#include <stdio.h>
+#include <stdlib.h>
+#include <string.h>
+
+static const char *const states[] = {"wanted", "polling", "ready", "cleaning", "cleaning-polling", "gone", "unsettled"};
+static const char *const kinds[] = {"Provision", "Poll", "Deprovision"};
+
+/* Ends the program where a call wasn't done: in this story each of them can be. */
+static void done(uint32_t status, const char *call)
+{
+    if (status != OSB_DONE) {
+        fprintf(stderr, "%s: status %" PRIu32 "\n", call, status);
+        exit(1);
+    }
+}
+
+static struct osb_id id_of(const char *text)
+{
+    struct osb_id id = {0, 0};
+    done(osb_id_from_text((const uint8_t *)text, strlen(text), &id), "osb_id_from_text");
+    return id;
+}
+
+/* The saved record, in memory that the caller frees. A real platform writes it to a file, before anything is
+ * sent or shown. */
+static uint8_t *saved(struct osb_platform *platform, size_t *length)
+{
+    uint8_t nothing[1], *text;
+    uint32_t status = osb_platform_save(platform, nothing, 0, length);
+    if (status != OSB_TOO_SMALL)
+        done(status, "osb_platform_save");
+    text = malloc(*length);
+    if (!text)
+        done(OSB_MEMORY, "malloc");
+    done(osb_platform_save(platform, text, *length, length), "osb_platform_save");
+    return text;
+}
+
+static void show(struct osb_platform *platform, struct osb_broker *broker, struct osb_id id)
+{
+    struct osb_platform_row record = {0};
+    struct osb_broker_row row = {0};
+    done(osb_platform_row(platform, id, &record), "osb_platform_row");
+    printf("recorded: %s, held: %s\n", states[record.state],
+           osb_broker_row(broker, id, &row) == OSB_DONE ? "yes" : "no");
+}
+
+int main(void)
+{
+    struct osb_platform platform = {0};
+    struct osb_broker broker = {0};
+    struct osb_request request = {0};
+    struct osb_answer answer = {0};
+    struct osb_id id = id_of("00000000-0000-0000-0000-000000000001");
+    struct osb_plan plan = {{0}, {0}, false};
+    size_t length = 0;
+    uint8_t *text;
+
+    plan.service = id_of("00000000-0000-0000-0000-0000000000a0");
+    plan.plan = id_of("00000000-0000-0000-0000-0000000000b1");
+    done(osb_broker_new(&broker, &plan, 1), "osb_broker_new");
+    done(osb_platform_new(&platform), "osb_platform_new");
+
+    /* The Provision is recorded and saved before it is sent. */
+    done(osb_platform_create(&platform, id, plan.service, plan.plan, false, &request), "osb_platform_create");
+    text = saved(&platform, &length);
+    done(osb_broker_handle(&broker, &request, OSB_WORK_DONE, &answer), "osb_broker_handle");
+    printf("%s: %d, and the answer gets lost\n", kinds[request.kind], answer.status);
+    show(&platform, &broker, id);
+
+    /* The platform crashes, and goes on from what it had saved. */
+    osb_platform_free(&platform);
+    done(osb_platform_load(&platform, text, length), "osb_platform_load");
+    free(text);
+    printf("the platform crashes, and is loaded again\n");
+    show(&platform, &broker, id);
+
+    /* Until nothing is due any more. */
+    while (osb_platform_send(&platform, id, &request) == OSB_DONE) {
+        done(osb_broker_handle(&broker, &request, OSB_WORK_DONE, &answer), "osb_broker_handle");
+        done(osb_platform_answer(&platform, id, answer), "osb_platform_answer");
+        printf("%s: %d\n", kinds[request.kind], answer.status);
+    }
+    show(&platform, &broker, id);
+
+    text = saved(&platform, &length);
+    printf("%.*s\n", (int)length, (const char *)text);
+    free(text);
+    osb_platform_free(&platform);
+    osb_broker_free(&broker);
+    return 0;
+}

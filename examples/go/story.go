@@ -1,0 +1,148 @@
+// One instance, by both sides: the answer to its Provision gets lost, the platform crashes, is loaded again, and
+// cleans up. What it prints stands in story.out beside it.
+package main
+
+/*
+#cgo LDFLAGS: -losb
+#include "osb.h"
+*/
+import "C"
+
+import (
+	"fmt"
+	"os"
+	"unsafe"
+)
+
+// A Status is what a call returned that wasn't done.
+type Status C.uint32_t
+
+func (s Status) Error() string { return fmt.Sprintf("libosb: status %d", uint32(s)) }
+
+func done(status C.uint32_t) error {
+	if status != C.OSB_DONE {
+		return Status(status)
+	}
+	return nil
+}
+
+// A pointer that is never null, not even to no bytes.
+func room(bytes []byte) *C.uint8_t {
+	if len(bytes) == 0 {
+		bytes = make([]byte, 1)
+	}
+	return (*C.uint8_t)(unsafe.Pointer(&bytes[0]))
+}
+
+func idOf(text string) (id C.struct_osb_id, err error) {
+	given := []byte(text)
+	err = done(C.osb_id_from_text(room(given), C.size_t(len(given)), &id))
+	return id, err
+}
+
+// A Platform owns a handle, which C code alone moves or frees.
+type Platform struct{ handle C.struct_osb_platform }
+
+func (p *Platform) save() ([]byte, error) {
+	var text []byte
+	var needed C.size_t
+	for {
+		status := C.osb_platform_save(&p.handle, room(text), C.size_t(len(text)), &needed)
+		if status != C.OSB_TOO_SMALL {
+			return text, done(status)
+		}
+		text = make([]byte, needed)
+	}
+}
+
+func (p *Platform) load(text []byte) error {
+	return done(C.osb_platform_load(&p.handle, room(text), C.size_t(len(text))))
+}
+
+// A Broker owns a handle.
+type Broker struct{ handle C.struct_osb_broker }
+
+var kinds = []string{"Provision", "Poll", "Deprovision"}
+var states = []string{"wanted", "polling", "ready", "cleaning", "cleaning-polling", "gone", "unsettled"}
+
+func show(platform *Platform, broker *Broker, id C.struct_osb_id) error {
+	var record C.struct_osb_platform_row
+	var row C.struct_osb_broker_row
+	if err := done(C.osb_platform_row(&platform.handle, id, &record)); err != nil {
+		return err
+	}
+	held := "no"
+	if C.osb_broker_row(&broker.handle, id, &row) == C.OSB_DONE {
+		held = "yes"
+	}
+	fmt.Printf("recorded: %s, held: %s\n", states[record.state], held)
+	return nil
+}
+
+// The first error of the calls, in their order.
+func first(errs ...error) error {
+	for _, err := range errs {
+		if err != nil {
+			return err
+		}
+	}
+	return nil
+}
+
+func story() error {
+	var platform Platform
+	var broker Broker
+	var request C.struct_osb_request
+	var answer C.struct_osb_answer
+	defer func() {
+		C.osb_platform_free(&platform.handle)
+		C.osb_broker_free(&broker.handle)
+	}()
+	id, err1 := idOf("00000000-0000-0000-0000-000000000001")
+	service, err2 := idOf("00000000-0000-0000-0000-0000000000a0")
+	plan, err3 := idOf("00000000-0000-0000-0000-0000000000b1")
+	sold := C.struct_osb_plan{service: service, plan: plan}
+	if err := first(err1, err2, err3, done(C.osb_broker_new(&broker.handle, &sold, 1)),
+		done(C.osb_platform_new(&platform.handle))); err != nil {
+		return err
+	}
+
+	// The Provision is recorded and saved before it is sent.
+	if err := done(C.osb_platform_create(&platform.handle, id, service, plan, false, &request)); err != nil {
+		return err
+	}
+	saved, err := platform.save()
+	if err := first(err, done(C.osb_broker_handle(&broker.handle, &request, C.OSB_WORK_DONE, &answer))); err != nil {
+		return err
+	}
+	fmt.Printf("%s: %d, and the answer gets lost\n", kinds[request.kind], answer.status)
+	if err := show(&platform, &broker, id); err != nil {
+		return err
+	}
+
+	C.osb_platform_free(&platform.handle)
+	fmt.Println("the platform crashes, and is loaded again")
+	if err := first(platform.load(saved), show(&platform, &broker, id)); err != nil {
+		return err
+	}
+	for C.osb_platform_send(&platform.handle, id, &request) == C.OSB_DONE {
+		if err := first(done(C.osb_broker_handle(&broker.handle, &request, C.OSB_WORK_DONE, &answer)),
+			done(C.osb_platform_answer(&platform.handle, id, answer))); err != nil {
+			return err
+		}
+		fmt.Printf("%s: %d\n", kinds[request.kind], answer.status)
+	}
+	if err := show(&platform, &broker, id); err != nil {
+		return err
+	}
+	saved, err = platform.save()
+	fmt.Println(string(saved))
+	return err
+}
+
+func main() {
+	if err := story(); err != nil {
+		fmt.Fprintln(os.Stderr, err)
+		os.Exit(1)
+	}
+}

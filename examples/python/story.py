@@ -1,0 +1,38 @@
+"""One instance, by both sides: the answer to its Provision gets lost, the platform crashes, is loaded again, and
+cleans up. What it prints stands in story.out beside it. LIBOSB names the library where the system doesn't find it.
+"""
+from osb import Broker, Id, Kind, OsbError, Outcome, Plan, Platform, State, Status
+
+INSTANCE = Id.of("00000000-0000-0000-0000-000000000001")
+SERVICE = Id.of("00000000-0000-0000-0000-0000000000a0")
+PLAN = Id.of("00000000-0000-0000-0000-0000000000b1")
+
+
+def show(platform: Platform, broker: Broker) -> None:
+    state = State(platform.row(INSTANCE).state).name.lower().replace("_", "-")
+    print(f"recorded: {state}, held: {'yes' if broker.row(INSTANCE) else 'no'}")
+
+
+with Broker([Plan(SERVICE, PLAN, False)]) as broker:
+    with Platform() as platform:
+        # The Provision is recorded and saved before it is sent.
+        request = platform.create(INSTANCE, SERVICE, PLAN, False)
+        saved = platform.save()
+        answer = broker.handle(request, Outcome.WORK_DONE)
+        print(f"{Kind(request.kind).name.capitalize()}: {answer.status}, and the answer gets lost")
+        show(platform, broker)
+
+    print("the platform crashes, and is loaded again")
+    with Platform(saved) as platform:
+        show(platform, broker)
+        try:
+            while True:
+                request = platform.send(INSTANCE)
+                answer = broker.handle(request, Outcome.WORK_DONE)
+                platform.answer(INSTANCE, answer)
+                print(f"{Kind(request.kind).name.capitalize()}: {answer.status}")
+        except OsbError as end:
+            if end.status != Status.NOTHING_DUE:
+                raise
+        show(platform, broker)
+        print(platform.save().decode())
