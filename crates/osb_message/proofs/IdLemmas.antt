@@ -80,8 +80,8 @@ simple_length s = refl
 read_at_36 : (s : List ℕ) → length s ≡ 36
     → parsed s
     ≡ (if has_hyphens s
-       then (if list_all is_hex_digit (digits_of s) then Some (by_index 16 (byte_of_digits (digits_of s))) else None)
-       else None)
+    then (if list_all is_hex_digit (digits_of s) then Some (by_index 16 (byte_of_digits (digits_of s))) else None)
+    else None)
 read_at_36 s len = let long = simple_length s in rw (len, long) refl
 
 -- what `id_of` says, by the three tests

@@ -81,7 +81,7 @@ module _ {K X : Type 0} {R : K → K → Ordering} (o : IsTotalOrder R) where
   entries-tree exact m ordered =
       let s = sorted m.entries ordered in
       let same = same_map o exact (from_entries m.entries) (from_sorted m.entries)
-          (λ q. get-from_entries o m.entries q ∙ sym (get-from_sorted R m.entries q s)) in
+      (λ q. get-from_entries o m.entries q ∙ sym (get-from_sorted R m.entries q s)) in
       ap entries same ∙ entries-from_sorted R m.entries s
 
 -- at keys that are numbers
