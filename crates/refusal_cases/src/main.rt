@@ -12,6 +12,7 @@ mod catalogue;
 mod instances;
 mod platform;
 mod rows;
+mod schedules;
 mod telling;
 mod world;
 
@@ -20,7 +21,7 @@ use std::alloc::Global;
 use std::env;
 
 // The parts, in the order in which they are told.
-const PARTS: [&str; 14] = [
+const PARTS: [&str; 15] = [
     "rows-insert",
     "rows-ids",
     "catalogue-add",
@@ -35,6 +36,7 @@ const PARTS: [&str; 14] = [
     "world-ids",
     "world-save",
     "run",
+    "read-schedule",
 ];
 
 fn tell(rt: &impl Print, alloc: Global, part: &str) -> Result<()> {
@@ -53,6 +55,7 @@ fn tell(rt: &impl Print, alloc: Global, part: &str) -> Result<()> {
         "world-ids" => world::ids(rt, alloc),
         "world-save" => world::save(rt, alloc),
         "run" => world::run_events(rt, alloc),
+        "read-schedule" => schedules::read(rt, alloc),
         _ => bail!("no part has this name"),
     }
 }
