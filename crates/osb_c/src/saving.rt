@@ -1,6 +1,6 @@
 //! The saved record, and the list of the recorded ids.
 ghost use Rattle.std.specs.Prelude.{◌≡◌, ◌≢◌, ◌↔◌, ◌⊎◌, ◌<◌, [], ◌∷◌, ℕ, Some, Ok, Err, IsTrue};
-ghost use Rattle.std.specs.Prelude.{IsSome, IsNone, IfSome, IsSomeAnd, Contains, length, take, drop, map as each};
+ghost use Rattle.std.specs.Prelude.{IsSome, IsNone, IsSomeAnd, Contains, length, take, drop, map as each};
 ghost use Rattle.std.specs.FinMap as map;
 ghost use Rattle.std.specs.List.Sorted.{IsStrictlySortedBy};
 ghost use Rattle.std.specs.Ordering.{nat_cmp};
