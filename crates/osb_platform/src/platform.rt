@@ -125,8 +125,7 @@ impl Platform {
     /// lower case, and `state`, the word of the state. Which request is out isn't saved. A platform with
     /// no instances is saved as `{"instances":{},"version":2}`. All of this is this project's choice.
     ///
-    /// Save after each call, before anything is sent or shown: a platform that is loaded from an older
-    /// record may not know of what its broker holds.
+    /// When to save is told in docs/saved-record.md.
     ///
     /// # Errors
     ///

@@ -147,9 +147,6 @@ impl World {
     /// before. Platform and broker agree on it, and every other cell and the catalogue are as before.
     /// It takes no memory: once the Timeout has come, no Provision is out, and no other request makes
     /// a broker's row.
-    ///
-    /// Two rounds aren't enough: where a deletion has failed and that is still to be polled, the first
-    /// polls it, the second deletes again, and the third polls that.
     pub fn settle(&mut self, id: InstanceId)
         ensures cell { cell_at self.new id ≡ settled_cell (catalogue_of self.old) id (cell_at self.old id) }
         ensures settled { IsSettled (cell_at self.new id) }
