@@ -1,6 +1,7 @@
 //! Schedules as large as they may be.
 use crate::tests::short::{
-    CUTS, PLANS, expanded, in_pieces, outcome, outcome_with, repeated, replayed,
+    PLAIN, PLANS, check_fault, check_report, expanded, in_pieces, outcome, outcome_with, repeated,
+    replayed,
 };
 use crate::{LineFault, Options, ReplayFault};
 use std::alloc::Global;
@@ -81,24 +82,18 @@ fn many_instances_are_settled(rt: HostRuntime) -> Result<(), Fail> {
 #[test]
 fn as_many_empty_lines_as_there_may_be(rt: HostRuntime) -> Result<(), Fail> {
     let mut schedule = repeated(rt.alloc(), "\n", 100_000)?;
-    for most in CUTS {
-        let (result, written) = outcome(rt.alloc(), in_pieces(schedule.as_bytes(), most));
-        assert!(rt; result == Ok(()), "{most} bytes a call");
-        assert!(rt;
-            written.as_slice() == b"applied 0\nskipped 0\n".as_slice(),
-            "{most} bytes a call"
-        );
-    }
+    let report = "applied 0\nskipped 0\n";
+    check_report(&rt, rt.alloc(), "100,000", PLAIN, schedule.as_str(), report);
     schedule.push('\n')?;
-    let (line, fault) = (100_001, LineFault::TooManyLines);
-    for most in CUTS {
-        let (result, written) = outcome(rt.alloc(), in_pieces(schedule.as_bytes(), most));
-        assert!(rt;
-            result == Err(ReplayFault::Schedule { line, fault }),
-            "{most} bytes a call"
-        );
-        assert!(rt; written.is_empty(), "{most} bytes a call");
-    }
+    let fault = LineFault::TooManyLines;
+    check_fault(
+        &rt,
+        rt.alloc(),
+        "one more",
+        schedule.as_str(),
+        100_001,
+        fault,
+    );
     Ok(())
 }
 
@@ -131,32 +126,33 @@ fn as_many_and_as_long_lines_as_there_may_be(rt: HostRuntime) -> Result<(), Fail
 #[test]
 fn lines_that_are_too_long(rt: HostRuntime) -> Result<(), Fail> {
     let full = repeated(rt.alloc(), "#", 511)?;
-    for (name, end, taken) in [
-        ("513 bytes", "##", false),
-        ("513 bytes and a line feed", "##\n", false),
-        ("512 bytes and a carriage return", "#\r\n", false),
-        ("511 bytes and a carriage return", "\r\n", true),
+    for (name, end) in [
+        ("513 bytes", "##"),
+        ("513 bytes and a line feed", "##\n"),
+        ("512 bytes and a carriage return", "#\r\n"),
     ] {
         let mut schedule = repeated(rt.alloc(), full.as_str(), 1)?;
         schedule.push_str(end)?;
-        for most in CUTS {
-            let (result, written) = outcome(rt.alloc(), in_pieces(schedule.as_bytes(), most));
-            let (line, fault) = (1, LineFault::LineTooLong);
-            if taken {
-                assert!(rt; result == Ok(()), "{name}, {most} bytes a call");
-                assert!(rt;
-                    written.as_slice() == b"applied 0\nskipped 0\n".as_slice(),
-                    "{name}"
-                );
-            } else {
-                assert!(rt;
-                    result == Err(ReplayFault::Schedule { line, fault }),
-                    "{name}, {most} bytes a call"
-                );
-                assert!(rt; written.is_empty(), "{name}");
-            }
-        }
+        check_fault(
+            &rt,
+            rt.alloc(),
+            name,
+            schedule.as_str(),
+            1,
+            LineFault::LineTooLong,
+        );
     }
+    let mut schedule = repeated(rt.alloc(), full.as_str(), 1)?;
+    schedule.push_str("\r\n")?;
+    let report = "applied 0\nskipped 0\n";
+    check_report(
+        &rt,
+        rt.alloc(),
+        "511 bytes and a carriage return",
+        PLAIN,
+        schedule.as_str(),
+        report,
+    );
     Ok(())
 }
 
@@ -164,14 +160,13 @@ fn lines_that_are_too_long(rt: HostRuntime) -> Result<(), Fail> {
 fn a_line_that_is_too_long_after_two_others(rt: HostRuntime) -> Result<(), Fail> {
     let mut schedule = expanded(rt.alloc(), PLANS)?;
     schedule.push_str(repeated(rt.alloc(), "#", 513)?.as_str())?;
-    let (line, fault) = (3, LineFault::LineTooLong);
-    for most in CUTS {
-        let (result, written) = outcome(rt.alloc(), in_pieces(schedule.as_bytes(), most));
-        assert!(rt;
-            result == Err(ReplayFault::Schedule { line, fault }),
-            "{most} bytes a call"
-        );
-        assert!(rt; written.is_empty(), "{most} bytes a call");
-    }
+    check_fault(
+        &rt,
+        rt.alloc(),
+        "513 bytes",
+        schedule.as_str(),
+        3,
+        LineFault::LineTooLong,
+    );
     Ok(())
 }

@@ -1,9 +1,10 @@
 //! Worked schedules and their reports, however the reader cuts them, and schedules that are refused.
 use crate::tests::short::{
-    CUTS, MADE, PLANS, after_plans, compare, expanded, in_pieces, outcome, outcome_with, repeated,
-    replayed,
+    MADE, PLAIN, PLANS, after_plans, check_fault, check_report, compare, expanded, repeated,
 };
-use crate::{LineFault, Options, ReplayFault, ScheduleFault, read_schedule};
+use crate::{LineFault, Options};
+use std::alloc::Global;
+use std::process::Abort;
 use std::test::Fail;
 
 #[test]
@@ -214,23 +215,12 @@ skipped 0
             "applied 0\nskipped 0\n{\"instances\":{},\"version\":2}\n",
         ),
     ];
+    let options = Options {
+        settle: false,
+        saved: true,
+    };
     for (name, schedule, report) in cases {
-        for most in CUTS {
-            let reader = in_pieces(schedule.as_bytes(), most);
-            let (result, written) = outcome_with(
-                rt.alloc(),
-                reader,
-                Options {
-                    settle: false,
-                    saved: true,
-                },
-            );
-            assert!(rt; result == Ok(()), "{name}, {most} bytes a call");
-            assert!(rt;
-                written.as_slice() == report.as_bytes(),
-                "{name}, {most} bytes a call"
-            );
-        }
+        check_report(&rt, rt.alloc(), name, options, schedule, report);
     }
     Ok(())
 }
@@ -238,14 +228,16 @@ skipped 0
 #[test]
 fn schedules_without_events(rt: HostRuntime) -> Result<(), Fail> {
     let plans = expanded(rt.alloc(), PLANS)?;
-    for (name, schedule) in [("nothing at all", ""), ("plans alone", plans.as_str())] {
-        let (result, written) = replayed(rt.alloc(), schedule);
-        assert!(rt; result == Ok(()), "{name}");
-        assert!(rt;
-            written.as_slice() == b"applied 0\nskipped 0\n".as_slice(),
-            "{name}"
-        );
-    }
+    let report = "applied 0\nskipped 0\n";
+    check_report(&rt, rt.alloc(), "nothing at all", PLAIN, "", report);
+    check_report(
+        &rt,
+        rt.alloc(),
+        "plans alone",
+        PLAIN,
+        plans.as_str(),
+        report,
+    );
     Ok(())
 }
 
@@ -253,110 +245,106 @@ fn schedules_without_events(rt: HostRuntime) -> Result<(), Fail> {
 fn accepted_spellings(rt: HostRuntime) -> Result<(), Fail> {
     let mut schedule = repeated(rt.alloc(), "#", 512)?;
     schedule.push_str("\n \t\nrestart\r\n  restart\t")?;
-    for most in CUTS {
-        let (result, written) = outcome(rt.alloc(), in_pieces(schedule.as_bytes(), most));
-        assert!(rt; result == Ok(()), "{most} bytes a call");
-        assert!(rt;
-            written.as_slice() == b"applied 2\nskipped 0\n".as_slice(),
-            "{most} bytes a call"
-        );
+    let report = "applied 2\nskipped 0\n";
+    check_report(
+        &rt,
+        rt.alloc(),
+        "spellings",
+        PLAIN,
+        schedule.as_str(),
+        report,
+    );
+    Ok(())
+}
+
+// That each schedule is refused with its fault.
+fn refused(
+    rt: &impl Abort,
+    alloc: Global,
+    cases: &[(&str, &str, u32, LineFault)],
+) -> Result<(), Fail> {
+    for (name, short, line, fault) in cases {
+        let schedule = expanded(alloc, short)?;
+        check_fault(rt, alloc, name, schedule.as_str(), *line, *fault);
     }
     Ok(())
 }
 
 #[test]
-fn faulty_lines(rt: HostRuntime) -> Result<(), Fail> {
+fn lines_that_say_nothing_known(rt: HostRuntime) -> Result<(), Fail> {
+    let early = "plan S P sync; send 0000000-0000-0000-0000-000000000001";
+    refused(
+        &rt,
+        rt.alloc(),
+        &[
+            (
+                "a word that begins no line",
+                "bogus",
+                1,
+                LineFault::UnknownWord,
+            ),
+            ("capitals", "Restart", 1, LineFault::UnknownWord),
+            ("a word too many", "restart now", 1, LineFault::WordCount),
+            ("an id of 35 characters", early, 2, LineFault::BadId),
+            ("not a choice", "deliver I maybe", 1, LineFault::BadChoice),
+            (
+                "a byte above 127 in a comment",
+                "# \u{e9}",
+                1,
+                LineFault::NotAscii,
+            ),
+        ],
+    )
+}
+
+#[test]
+fn statuses_that_no_gateway_has(rt: HostRuntime) -> Result<(), Fail> {
     let cases = [
-        (
-            "a word that begins no line",
-            "bogus",
-            1,
-            LineFault::UnknownWord,
-        ),
-        ("capitals", "Restart", 1, LineFault::UnknownWord),
-        ("a word too many", "restart now", 1, LineFault::WordCount),
-        (
-            "an id of 35 characters",
-            "plan S P sync; send 0000000-0000-0000-0000-000000000001",
-            2,
-            LineFault::BadId,
-        ),
-        ("not a choice", "deliver I maybe", 1, LineFault::BadChoice),
-        (
-            "a status below a gateway's",
-            "plan S P sync; plan S Q async; gateway I 499",
-            3,
-            LineFault::BadChoice,
-        ),
-        (
-            "a status above a gateway's",
-            "plan S P sync; plan S Q async; gateway I 600",
-            3,
-            LineFault::BadChoice,
-        ),
-        (
-            "a status with a zero before it",
-            "plan S P sync; plan S Q async; gateway I 0502",
-            3,
-            LineFault::BadChoice,
-        ),
-        (
-            "a gateway without a status",
-            "plan S P sync; plan S Q async; gateway I",
-            3,
-            LineFault::WordCount,
-        ),
-        (
-            "a byte above 127 in a comment",
-            "# \u{e9}",
-            1,
-            LineFault::NotAscii,
-        ),
-        (
-            "a plan twice",
-            "plan S P sync; plan S P async",
-            2,
-            LineFault::DuplicatePlan,
-        ),
-        (
-            "a plan after an event",
-            "plan S P sync; restart; plan S Q async",
-            3,
-            LineFault::LatePlan,
-        ),
-        (
-            "a plan twice, after an event",
-            "plan S P sync; restart; plan S P sync",
-            3,
-            LineFault::LatePlan,
-        ),
+        ("below", "gateway I 499", LineFault::BadChoice),
+        ("above", "gateway I 600", LineFault::BadChoice),
+        ("a zero before it", "gateway I 0502", LineFault::BadChoice),
+        ("none", "gateway I", LineFault::WordCount),
     ];
-    for (name, short, line, fault) in cases {
-        let schedule = expanded(rt.alloc(), short)?;
-        for most in CUTS {
-            let (result, written) = outcome(rt.alloc(), in_pieces(schedule.as_bytes(), most));
-            assert!(rt;
-                result == Err(ReplayFault::Schedule { line, fault }),
-                "{name}, {most} bytes a call"
-            );
-            assert!(rt; written.is_empty(), "{name}, {most} bytes a call");
-        }
-        let read = read_schedule(rt.alloc(), schedule.as_bytes());
-        let found = ScheduleFault::At { line, fault };
-        assert!(rt;
-            read.is_err_and(|fault| fault == found),
-            "{name}, in memory"
-        );
+    for (name, event, fault) in cases {
+        let schedule = after_plans(rt.alloc(), event)?;
+        check_fault(&rt, rt.alloc(), name, schedule.as_str(), 3, fault);
     }
     Ok(())
+}
+
+#[test]
+fn plan_lines_that_come_late_or_twice(rt: HostRuntime) -> Result<(), Fail> {
+    let late = "plan S P sync; restart; plan S Q async";
+    let late_and_twice = "plan S P sync; restart; plan S P sync";
+    refused(
+        &rt,
+        rt.alloc(),
+        &[
+            (
+                "twice",
+                "plan S P sync; plan S P async",
+                2,
+                LineFault::DuplicatePlan,
+            ),
+            ("after an event", late, 3, LineFault::LatePlan),
+            (
+                "twice, after an event",
+                late_and_twice,
+                3,
+                LineFault::LatePlan,
+            ),
+        ],
+    )
 }
 
 #[test]
 fn a_faulty_last_line_without_its_line_feed(rt: HostRuntime) {
-    let (result, written) = replayed(rt.alloc(), "\nbogus");
-    let (line, fault) = (2, LineFault::UnknownWord);
-    assert!(rt; result == Err(ReplayFault::Schedule { line, fault }));
-    assert!(rt; written.is_empty());
-    let read = read_schedule(rt.alloc(), b"\nbogus");
-    assert!(rt; read.is_err_and(|found| found == ScheduleFault::At { line, fault }));
+    check_fault(
+        &rt,
+        rt.alloc(),
+        "a word that begins no line",
+        "\nbogus",
+        2,
+        LineFault::UnknownWord,
+    );
 }

@@ -1,6 +1,6 @@
 //! Schedules whose instances are settled in the end.
 use crate::Options;
-use crate::tests::short::{CUTS, after_plans, compare_with, in_pieces, outcome_with};
+use crate::tests::short::{after_plans, check_report, compare_with};
 use std::test::Fail;
 
 const SETTLED: Options = Options {
@@ -87,14 +87,13 @@ skipped 0
 {\"plan\":\"00000000-0000-0000-0000-0000000000b1\",\
 \"service\":\"00000000-0000-0000-0000-0000000000a0\",\"state\":\"gone\"}},\"version\":2}
 ";
-    for most in CUTS {
-        let reader = in_pieces(schedule.as_bytes(), most);
-        let (result, written) = outcome_with(rt.alloc(), reader, options);
-        assert!(rt; result == Ok(()), "{most} bytes a call");
-        assert!(rt;
-            written.as_slice() == report.as_bytes(),
-            "{most} bytes a call"
-        );
-    }
+    check_report(
+        &rt,
+        rt.alloc(),
+        "settled and saved",
+        options,
+        schedule.as_str(),
+        report,
+    );
     Ok(())
 }

@@ -1,6 +1,6 @@
 //! Schedules in short form, devices that give or take a few bytes a call, and what a replay makes of
 //! them.
-use crate::{Input, Options, Output, ReplayFault, replay};
+use crate::{Input, LineFault, Options, Output, ReplayFault, ScheduleFault, read_schedule, replay};
 use std::alloc::Global;
 use std::io;
 use std::io::{Read, Write};
@@ -14,7 +14,7 @@ pub const PLAIN: Options = Options {
 };
 
 /// How many bytes a reader gives a call at most.
-pub const CUTS: [usize; 3] = [1, 7, 4096];
+const CUTS: [usize; 3] = [1, 7, 4096];
 
 /// A synchronous plan and an asynchronous one.
 pub const PLANS: &str = "plan S P sync; plan S Q async";
@@ -170,7 +170,50 @@ pub fn replayed(alloc: Global, schedule: &str) -> (Result<(), ReplayFault>, Vec<
     outcome(alloc, schedule.as_bytes())
 }
 
-/// Replays each schedule after the plan lines, in pieces of each length, and compares with its report.
+/// That the schedule has this report, in pieces of each length.
+pub fn check_report(
+    rt: &impl Abort,
+    alloc: Global,
+    name: &str,
+    options: Options,
+    schedule: &str,
+    report: &str,
+) {
+    for most in CUTS {
+        let reader = in_pieces(schedule.as_bytes(), most);
+        let (result, written) = outcome_with(alloc, reader, options);
+        assert!(rt; result == Ok(()), "{name}, {most} bytes a call");
+        assert!(rt;
+            written.as_slice() == report.as_bytes(),
+            "{name}, {most} bytes a call"
+        );
+    }
+}
+
+/// That the schedule is refused with this fault, in pieces of each length and as a whole.
+pub fn check_fault(
+    rt: &impl Abort,
+    alloc: Global,
+    name: &str,
+    schedule: &str,
+    line: u32,
+    fault: LineFault,
+) {
+    for most in CUTS {
+        let (result, written) = outcome(alloc, in_pieces(schedule.as_bytes(), most));
+        let found = ReplayFault::Schedule { line, fault };
+        assert!(rt; result == Err(found), "{name}, {most} bytes a call");
+        assert!(rt; written.is_empty(), "{name}, {most} bytes a call");
+    }
+    let read = read_schedule(alloc, schedule.as_bytes());
+    let found = ScheduleFault::At { line, fault };
+    assert!(rt;
+        read.is_err_and(|fault| fault == found),
+        "{name}, as a whole"
+    );
+}
+
+/// That each schedule, after the plan lines, has its report.
 pub fn compare_with(
     rt: &impl Abort,
     alloc: Global,
@@ -180,15 +223,7 @@ pub fn compare_with(
     for (name, events, report) in cases {
         let schedule = after_plans(alloc, events)?;
         let report = expanded(alloc, report)?;
-        for most in CUTS {
-            let reader = in_pieces(schedule.as_bytes(), most);
-            let (result, written) = outcome_with(alloc, reader, options);
-            assert!(rt; result == Ok(()), "{name}, {most} bytes a call");
-            assert!(rt;
-                written.as_slice() == report.as_bytes(),
-                "{name}, {most} bytes a call"
-            );
-        }
+        check_report(rt, alloc, name, options, schedule.as_str(), report.as_str());
     }
     Ok(())
 }

@@ -1,6 +1,6 @@
 //! Schedules that stand in memory, read as a whole.
 use crate::tests::short::{MADE, after_plans, expanded, repeated};
-use crate::{LineFault, ScheduleFault, read_schedule};
+use crate::{LineFault, Schedule, ScheduleFault, read_schedule};
 use osb_broker::{BrokerRow, Outcome, Phase};
 use osb_message::{InstanceId, Mode, PlanId, ServiceId};
 use osb_platform::{PlatformRow, State};
@@ -43,8 +43,8 @@ fn plans_and_events_of_a_schedule(rt: HostRuntime) -> Result<(), Fail> {
 #[test]
 fn a_schedule_that_was_read_is_run(rt: HostRuntime) -> Result<(), Fail> {
     let text = after_plans(rt.alloc(), MADE)?;
-    let schedule = read_schedule(rt.alloc(), text.as_bytes())?;
-    let world = run(rt.alloc(), schedule.catalogue, schedule.events.as_slice())?;
+    let Schedule { catalogue, events } = read_schedule(rt.alloc(), text.as_bytes())?;
+    let world = run(rt.alloc(), catalogue, events.as_slice())?;
     let service = ServiceId::from_value(0xa0);
     let plan = PlanId::from_value(0xb1);
     let cell = world.cell(InstanceId::from_value(1));
