@@ -213,7 +213,7 @@ uint32_t osb_platform_save(struct osb_platform *platform, uint8_t *room, size_t 
  * every other state stays, and nothing is out.
  * OSB_DONE, OSB_FULL_HANDLE, else the first that fits of OSB_NOT_UTF8, OSB_NOT_JSON, OSB_NOT_AN_OBJECT,
  * OSB_BAD_VERSION, OSB_BAD_OUTER, OSB_BAD_KEY, OSB_BAD_MEMBER; OSB_MEMORY in place of any but
- * OSB_FULL_HANDLE. What osb_platform_save wrote gives OSB_DONE or OSB_MEMORY. */
+ * OSB_FULL_HANDLE and OSB_NOT_UTF8. What osb_platform_save wrote gives OSB_DONE or OSB_MEMORY. */
 uint32_t osb_platform_load(struct osb_platform *platform, const uint8_t *text, size_t length);
 
 /* ---- The broker: what it answers, and what it holds. */

@@ -2,8 +2,8 @@
 """mirror.py: prints a C file that compiles only where include/osb.h says of osb_c what its sources say.
 
 The prototypes, the members of each struct and the numbers are read from crates/osb_c/src and written as C after
-the header: another type is a second declaration that contradicts the first, another number or another place of
-a member a failed _Static_assert. With --names it prints the names of the exports instead, one a line.
+the header: another type is a second declaration that contradicts the first; another number, or another place or
+type or count of members, a failed _Static_assert. With --names it prints the names of the exports instead, one a line.
 """
 import re
 import sys
@@ -64,6 +64,7 @@ def main():
         print("\n".join(sorted(name for name, _, _ in exports)))
         return
     print('#include "osb.h"\n')
+    header = re.sub(r"/\*.*?\*/", "", open("include/osb.h", encoding="utf-8").read(), flags=re.S)
     for name, taken, given in exports:
         print(f"{c_type(given) if given else 'void'} {name}({parameters(taken)});")
     structs = r"#\[repr\(C\)\]\s*(?:#\[derive[^\n]*\]\s*)?pub struct (\w+) \{(.*?)\n\}"
@@ -77,6 +78,12 @@ def main():
         print(f'_Static_assert(sizeof({own}) == sizeof({twin}), "{name}");')
         for field, _ in fields:
             print(f'_Static_assert(offsetof({own}, {field}) == offsetof({twin}, {field}), "{name}.{field}");')
+        for field, kind in fields:
+            is_it = f"_Generic((({own} *)0)->{field}, {c_type(kind)}: 1, default: 0)"
+            print(f'_Static_assert({is_it}, "the type of {name}.{field}");')
+        declared = re.search(own + r" \{(.*?)\};", header, re.S)
+        count = sum(it.count(",") + 1 for it in declared[1].split(";") if it.strip()) if declared else 0
+        print(f'_Static_assert({count} == {len(fields)}, "the members of {name}");')
     print()
     # each number once, wherever the sources give it: VARIANT => NUMBER, or NUMBER => Some(VARIANT)
     numbers = set()

@@ -105,8 +105,8 @@ fn fault_status(fault: LoadFault) -> Status
 /// `BadOuter` where it has a `version` and not exactly one further member, the object `instances`, `BadKey`
 /// where some instance's name isn't the text of an id in lower case, `BadMember` where some instance isn't
 /// an object with the members `plan`, `service` and `state` and no other, two texts of ids in lower case
-/// and one of the seven words; or, in place of any of these or of `Done`, `Memory` where an allocation
-/// failed. Where it isn't `Done`, the handle is as before.
+/// and one of the seven words; or, in place of `Done` or of any of these but `NotUtf8`, `Memory` where an
+/// allocation failed. Where it isn't `Done`, the handle is as before.
 #[unsafe(no_mangle)]
 pub extern "C" fn osb_platform_load(alloc: Global, platform: &mut OsbPlatform, text: &[u8]) -> u32
     ensures loaded { result ≡ code Status.Done → IsSomeAnd platform.new.held (λ records.
