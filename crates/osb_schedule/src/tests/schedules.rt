@@ -339,12 +339,8 @@ fn plan_lines_that_come_late_or_twice(rt: HostRuntime) -> Result<(), Fail> {
 
 #[test]
 fn a_faulty_last_line_without_its_line_feed(rt: HostRuntime) {
-    check_fault(
-        &rt,
-        rt.alloc(),
-        "a word that begins no line",
-        "\nbogus",
-        2,
-        LineFault::UnknownWord,
-    );
+    for (text, line) in [("bogus", 1), ("\nbogus", 2)] {
+        let what = "a word that begins no line";
+        check_fault(&rt, rt.alloc(), what, text, line, LineFault::UnknownWord);
+    }
 }

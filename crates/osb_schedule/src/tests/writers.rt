@@ -52,8 +52,9 @@ fn a_writer_that_fails_at_each_call_in_turn(rt: HostRuntime) -> Result<(), Fail>
 }
 
 #[test]
-fn a_writer_that_takes_nothing(rt: HostRuntime) {
-    let mut reader = Input::new(b"".as_slice());
+fn a_writer_that_takes_nothing(rt: HostRuntime) -> Result<(), Fail> {
+    let schedule = after_plans(rt.alloc(), MADE)?;
+    let mut reader = Input::new(schedule.as_bytes());
     let mut writer = Output::new(taking_slowly(rt.alloc(), 0));
     assert!(rt; replay(rt.alloc(), &mut reader, &mut writer, PLAIN) == Err(ReplayFault::Write));
     assert!(rt; writer.refused());
@@ -61,11 +62,14 @@ fn a_writer_that_takes_nothing(rt: HostRuntime) {
     let mut writer = Output::new(taking_slowly(rt.alloc(), 0));
     assert!(rt; writer.write(b"") == Ok(0));
     assert!(rt; !writer.refused());
+    Ok(())
 }
 
 #[test]
-fn a_writer_that_fails_to_flush(rt: HostRuntime) {
-    let mut reader = Input::new(b"".as_slice());
+fn a_writer_that_fails_to_flush(rt: HostRuntime) -> Result<(), Fail> {
+    let report = expanded(rt.alloc(), REPORT)?;
+    let schedule = after_plans(rt.alloc(), MADE)?;
+    let mut reader = Input::new(schedule.as_bytes());
     let mut writer = Output::new(Slow {
         fails_to_flush: true,
         ..taking_slowly(rt.alloc(), 4096)
@@ -74,8 +78,9 @@ fn a_writer_that_fails_to_flush(rt: HostRuntime) {
     assert!(rt; writer.refused());
     assert!(rt; writer.flush() == Err(DeviceFault));
     let device = writer.into_inner();
-    assert!(rt; device.taken.as_slice() == b"applied 0\nskipped 0\n".as_slice());
+    assert!(rt; device.taken.as_slice() == report.as_bytes());
     assert!(rt; device.flushes == 1);
+    Ok(())
 }
 
 /// A writer that is interrupted at its first call and never again. It claims nothing of its bytes.
@@ -99,9 +104,11 @@ impl Write for Interrupted {
 }
 
 #[test]
-fn an_interrupted_write_is_a_failed_one(rt: HostRuntime) {
-    let mut reader = Input::new(b"".as_slice());
+fn an_interrupted_write_is_a_failed_one(rt: HostRuntime) -> Result<(), Fail> {
+    let schedule = after_plans(rt.alloc(), MADE)?;
+    let mut reader = Input::new(schedule.as_bytes());
     let mut writer = Output::new(Interrupted { before: false });
     assert!(rt; replay(rt.alloc(), &mut reader, &mut writer, PLAIN) == Err(ReplayFault::Write));
     assert!(rt; !reader.refused());
+    Ok(())
 }
