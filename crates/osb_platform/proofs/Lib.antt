@@ -1,4 +1,4 @@
-mod Ascending
+pub mod Ascending
 mod LoadedRows
 mod RowText
 mod SavedRows

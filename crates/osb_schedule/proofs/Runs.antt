@@ -8,6 +8,7 @@ use Rattle.std.proofs.lemmas.List.{append-nil}
 use Rattle.osb_message.specs.declared.messages.Answer.{Answer}
 use Rattle.osb_message.specs.declared.messages.Request.{Request}
 use Rattle.osb_broker.specs.declared.outcome.Outcome.{Outcome}
+use Rattle.osb_broker.specs.declared.outcome.Outcome.TheVariants.{Done}
 use Rattle.osb_broker.specs.Answers.{Catalogue}
 use Rattle.osb_platform.specs.declared.row.PlatformRow.{PlatformRow}
 use Rattle.osb_world.specs.declared.cell.Cell.{Cell}
@@ -15,6 +16,7 @@ use Rattle.osb_world.specs.declared.event.Event.{Event}
 use Rattle.osb_world.specs.Cell.{empty_cell}
 use Rattle.osb_world.specs.Events.{cell_after, cell_steps, events_of, is_of, next_cell}
 use Rattle.osb_world.specs.Steps.{applies, cell_step, changed_cell, delivered, repeated, taken}
+use Rattle.osb_world.specs.Settling.{after_round, settled_cell}
 use Rattle.osb_schedule.specs.Report.{creates}
 
 -- one event more at the front
@@ -76,9 +78,13 @@ either_records : (b : Bool) (made c : Cell) → is_some made.platform ≡ is_som
 either_records true made c e = e
 either_records false made c e = refl
 
+keeps : (cat : Catalogue) (c : Cell) (e : Event) → is_some (changed_cell cat c e).platform ≡ is_some c.platform
+    → is_some (cell_step cat c e).platform ≡ is_some c.platform
+keeps cat c e same = either_records (applies c e) (changed_cell cat c e) c same
+
 unchanged : (cat : Catalogue) (c : Cell) (e : Event) → is_some (changed_cell cat c e).platform ≡ is_some c.platform
     → is_some (cell_step cat c e).platform ≡ (is_some c.platform || false)
-unchanged cat c e same = either_records (applies c e) (changed_cell cat c e) c same ∙ sym (or-false _)
+unchanged cat c e same = keeps cat c e same ∙ sym (or-false _)
 
 records : (cat : Catalogue) (q : ℕ) (c : Cell) (e : Event) → is_of q e ≡ true
     → is_some (cell_step cat c e).platform ≡ (is_some c.platform || creates q e)
@@ -119,3 +125,22 @@ recorded_from cat q (e ∷ es) c =
 pub recorded : (cat : Catalogue) (q : ℕ) (events : List Event)
     → is_some (cell_after cat q events).platform ≡ list_any (creates q) events
 recorded cat q events = recorded_from cat q events empty_cell
+
+-- settling makes no record, and takes none away
+round_records : (cat : Catalogue) (q : ℕ) (c : Cell) → is_some (after_round cat q c).platform ≡ is_some c.platform
+round_records cat q c =
+    let given_up = cell_step cat c (Event.Timeout q) in
+    let finished = cell_step cat given_up (Event.Finish q true) in
+    let sent = cell_step cat finished (Event.Send q) in
+    let delivered_to = cell_step cat sent (Event.Deliver q Done) in
+    keeps cat delivered_to (Event.Answer q) (answer_records delivered_to delivered_to.out delivered_to.travelling)
+    ∙ keeps cat sent (Event.Deliver q Done) (deliver_records cat sent Done sent.out)
+    ∙ keeps cat finished (Event.Send q) (same_mapped _ finished.platform)
+    ∙ keeps cat given_up (Event.Finish q true) refl
+    ∙ keeps cat c (Event.Timeout q) (same_mapped _ c.platform)
+
+pub settled_records : (cat : Catalogue) (q : ℕ) (c : Cell)
+    → is_some (settled_cell cat q c).platform ≡ is_some c.platform
+settled_records cat q c =
+    let once = after_round cat q c in
+    round_records cat q (after_round cat q once) ∙ round_records cat q once ∙ round_records cat q c

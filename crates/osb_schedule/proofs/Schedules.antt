@@ -1,10 +1,10 @@
 -- The lines of a schedule that stands in memory, one after another.
-use Rattle.std.proofs.Common.{◌≡◌, ℕ, ◌+◌, ◌<◌, true, List, [], ◌∷◌, ◌++◌, length, take, drop, Some, None, refl, sym}
-use Rattle.std.proofs.Common.{ap, ◌∙◌, subst, append_assoc, append-nil, inl, inr, arith, eqb}
+use Rattle.std.proofs.Common.{◌≡◌, ℕ, ◌+◌, ◌<◌, true, List, [], ◌∷◌, ◌++◌, length, take, Some, None, refl, sym}
+use Rattle.std.proofs.Common.{ap, ◌∙◌, subst, append_assoc, append-nil, inl, inr, arith}
 use Rattle.std.proofs.lemmas.Bool.{cases_lt}
 use Rattle.std.proofs.lemmas.Bool.Decides.{nat_tests}
 use Rattle.std.proofs.lemmas.List.{length-append}
-use Rattle.std.specs.Prelude.{Result, nat_lt, slice_index}
+use Rattle.std.specs.Prelude.{Result, nat_lt}
 use Rattle.osb_schedule.specs.declared.faults.LineFault.{LineFault}
 use Rattle.osb_schedule.specs.declared.faults.LineFault.TheVariants.{LineTooLong}
 use Rattle.osb_schedule.specs.declared.faults.ScheduleFault.{ScheduleFault}

@@ -1,5 +1,6 @@
 -- The report of a schedule (this project's choice).
-use Rattle.std.specs.Prelude.{◌≡◌, ◌↔◌, Bool, true, false, Contains, IsTrue, ℕ, ◌+◌, ◌-◌, ◌==◌, if◌then◌else◌, cond}
+use Rattle.std.specs.Prelude.{◌≡◌, ◌↔◌, Bool, true, false, Contains, IsSome, IsTrue, ℕ, ◌+◌, ◌-◌, ◌==◌, if◌then◌else◌}
+use Rattle.std.specs.Prelude.{cond}
 use Rattle.std.specs.Prelude.{List, [], ◌∷◌, ◌++◌, length, Option, Some, None, codes}
 use Rattle.std.specs.FinMap as map
 use Rattle.std.specs.Fmt.{decimal}
@@ -33,8 +34,11 @@ broker_word None = codes "none"
 broker_word (Some row) = phase_word row.phase
 
 -- the line of an instance: ID STATE BROKER
+abbrev pub line_of : ℕ → List ℕ → List ℕ → List ℕ
+line_of id recorded held = id_text id ++ 32 ∷ recorded ++ 32 ∷ held ++ 10 ∷ []
+
 abbrev pub id_line : ℕ → Cell → List ℕ
-id_line id cell = id_text id ++ 32 ∷ record_word cell.platform ++ 32 ∷ broker_word cell.broker ++ 10 ∷ []
+id_line id cell = line_of id (record_word cell.platform) (broker_word cell.broker)
 
 -- the line of a count
 abbrev pub count_line : List ℕ → ℕ → List ℕ
@@ -95,7 +99,13 @@ pub record IsReport (options : Options) (bytes text : List ℕ) : Type 0 where
   pub recorded : AreRecords options.settle (catalogue_in (lines bytes)) (events_in (lines bytes)) rows
   pub written : text ≡ report_text options (catalogue_in (lines bytes)) (events_in (lines bytes)) ids rows
 
--- the instances of these ids are settled, where that is asked for, and nothing else has changed
-pub record IsSettledAs (settle : Bool) (ids : List ℕ) (old new : WorldState) : Type 0 where
-  pub settled : (q : ℕ) → Contains ids q → cell_at new q ≡ settled_as settle (catalogue_of old) q (cell_at old q)
+-- the instances of these ids are settled, and nothing else has changed
+pub record AreSettled (ids : List ℕ) (old new : WorldState) : Type 0 where
+  pub settled : (q : ℕ) → Contains ids q → cell_at new q ≡ settled_cell (catalogue_of old) q (cell_at old q)
   pub others : (q : ℕ) → ¬ Contains ids q → cell_at new q ≡ cell_at old q
+
+-- each recorded instance is settled, where that is asked for, and nothing else has changed
+pub record IsSettledAs (settle : Bool) (old new : WorldState) : Type 0 where
+  pub settled : (q : ℕ) → IsSome (cell_at old q).platform
+      → cell_at new q ≡ settled_as settle (catalogue_of old) q (cell_at old q)
+  pub others : (q : ℕ) → ¬ IsSome (cell_at old q).platform → cell_at new q ≡ cell_at old q

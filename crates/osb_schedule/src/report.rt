@@ -1,11 +1,12 @@
 //! The report: what the platform records and what the broker holds (this project's choice).
 ghost use Rattle.std.specs.Prelude.{◌≡◌, ◌++◌, ℕ, List, IfOk, OnOk};
+ghost use Rattle.std.specs.FinMap as map;
 ghost use Rattle.std.specs.List.{flat_map};
 ghost use Rattle.std.specs.List.Sorted.{IsStrictlySortedBy};
 ghost use Rattle.std.specs.Ordering.{nat_cmp};
 ghost use Rattle.osb_schedule.specs.Lines.{lines};
-ghost use Rattle.osb_schedule.specs.Report.{broker_word, count_line, id_line, record_word, saved_line};
-ghost use Rattle.osb_schedule.specs.Report.{IsReport, IsSettledAs};
+ghost use Rattle.osb_schedule.specs.Report.{broker_word, count_line, id_line, line_of, saved_line};
+ghost use Rattle.osb_schedule.specs.Report.{AreSettled, IsReport, IsSettledAs};
 ghost use Rattle.osb_schedule.specs.Run.{IsEndOf};
 ghost use Rattle.osb_world.specs.Views.{cell_at, records_of};
 
@@ -13,18 +14,9 @@ use crate::options::Options;
 use crate::run::Ended;
 use osb_broker::BrokerRow;
 use osb_message::{InstanceId, Memory};
-use osb_platform::{PlatformRow, SaveFault};
+use osb_platform::SaveFault;
 use osb_world::World;
 use std::alloc::Global;
-
-fn record_word(row: Option<PlatformRow>) -> &'static str
-    ensures word { result.now ≡ record_word row }
-{
-    match row {
-        Some(row) => row.state.word(),
-        None => "",
-    }
-}
 
 fn broker_word(row: Option<BrokerRow>) -> &'static str
     ensures word { result.now ≡ broker_word row }
@@ -36,14 +28,19 @@ fn broker_word(row: Option<BrokerRow>) -> &'static str
 }
 
 // Adds the line of an instance.
-fn push_id_line(text: &mut Vec<u8>, world: &World, id: InstanceId) -> Result<(), Memory>
-    ensures added { OnOk result (text.new.items ≡ text.old.items ++ id_line id (cell_at world.now id)) }
+fn push_id_line(
+    text: &mut Vec<u8>,
+    id: InstanceId,
+    recorded: &str,
+    held: &str,
+) -> Result<(), Memory>
+    ensures added { OnOk result (text.new.items ≡ text.old.items ++ line_of id recorded.now held.now) }
 {
     text.extend_from_slice(&id.to_text())?;
     text.push(b' ')?;
-    text.extend_from_slice(record_word(world.platform_row(id)).as_bytes())?;
+    text.extend_from_slice(recorded.as_bytes())?;
     text.push(b' ')?;
-    text.extend_from_slice(broker_word(world.broker_row(id)).as_bytes())?;
+    text.extend_from_slice(held.as_bytes())?;
     text.push(b'\n')?;
     Ok(())
 }
@@ -59,28 +56,39 @@ fn push_count_line(alloc: Global, text: &mut Vec<u8>, name: &str, count: u32) ->
     Ok(())
 }
 
-// A line for each of the ids.
-fn id_lines(alloc: Global, world: &World, ids: &[InstanceId]) -> Result<Vec<u8>, Memory>
-    ensures lines { IfOk result (λ text. text.items ≡ flat_map (λ id. id_line id (cell_at world.now id)) ids.now) }
+// A line for each recorded instance, in ascending order of the ids.
+fn id_lines(alloc: Global, world: &World) -> Result<Vec<u8>, Memory>
+    ensures lines { IfOk result (λ text. text.items
+        ≡ flat_map (λ id. id_line id (cell_at world.now id)) (map.keys (records_of world.now))) }
 {
     let mut text = Vec::new(alloc);
-    for id in ids {
-        push_id_line(&mut text, world, *id)?;
+    for (id, row) in world.records() {
+        let held = broker_word(world.broker_row(*id));
+        push_id_line(&mut text, *id, row.state.word(), held)?;
     }
     Ok(text)
 }
 
-// Settles the instances of these ids, where that is asked for.
-fn settle_all(world: &mut World, ids: &[InstanceId], asked: bool)
+// Settles the instances of these ids.
+fn settle_each(world: &mut World, ids: &[InstanceId])
     requires ascending { IsStrictlySortedBy nat_cmp ids.now }
-    ensures settled { IsSettledAs asked ids.now world.old world.new }
+    ensures settled { AreSettled ids.now world.old world.new }
 {
-    if !asked {
-        return;
-    }
     for id in ids {
         world.settle(*id);
     }
+}
+
+// Settles each recorded instance, where that is asked for.
+fn settle_all(alloc: Global, world: &mut World, asked: bool) -> Result<(), Memory>
+    ensures settled { OnOk result (IsSettledAs asked world.old world.new) }
+{
+    if !asked {
+        return Ok(());
+    }
+    let ids = world.ids(alloc)?;
+    settle_each(world, ids.as_slice());
+    Ok(())
 }
 
 // Adds the line of the saved record, where it is asked for.
@@ -113,10 +121,8 @@ pub fn report(alloc: Global, ended: Ended, options: Options) -> Result<Vec<u8>, 
         applied,
         skipped,
     } = ended;
-    let recorded = world.ids(alloc)?;
-    let ids = recorded.as_slice();
-    settle_all(&mut world, ids, options.settle);
-    let mut text = id_lines(alloc, &world, ids)?;
+    settle_all(alloc, &mut world, options.settle)?;
+    let mut text = id_lines(alloc, &world)?;
     push_count_line(alloc, &mut text, "applied", applied)?;
     push_count_line(alloc, &mut text, "skipped", skipped)?;
     push_saved_line(alloc, &mut text, &world, options.saved)?;

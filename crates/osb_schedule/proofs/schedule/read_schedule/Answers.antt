@@ -1,10 +1,9 @@
 -- Each line is read after those before it.
-use Rattle.std.proofs.Common.{◌≡◌, ◌+◌, ◌≤◌, ◌∷◌, ◌++◌, [], length, sym, subst, arith}
+use Rattle.std.proofs.Common.{◌+◌, ◌∷◌, ◌++◌, [], sym, subst, arith}
 use Rattle.std.proofs.lemmas.List.{length-append}
 use Rattle.std.proofs.lemmas.Result.{err_from_is_err_and}
 use Rattle.osb_schedule.specs.Faults.{fault_of}
 use Rattle.osb_schedule.specs.Run.{IsLineFault}
-use Rattle.osb_schedule.specs.declared.limits.TheConstants.{MOST_LINES}
 use Rattle.osb_schedule.proofs.Schedules.{read_all, read_fault, read_more}
 use Rattle.osb_schedule.proofs.schedule.read_schedule.Goals as goal
 
