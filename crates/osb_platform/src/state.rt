@@ -62,11 +62,14 @@ impl State {
 /// Writes the state's word, as [`State::word`] gives it (this project's choice).
 impl fmt::Display for State {
     ghost use Rattle.std.specs.Prelude.{Some};
+    ghost use Rattle.std.specs.Fmt.{styled_text};
     ghost use Rattle.osb_platform.specs.State.{state_word};
 
-    ghost output = { λ s. Some (state_word s) };
+    ghost output = { λ state. Some (state_word state) };
+
+    ghost styled_output = { λ state style. Some (styled_text style (state_word state)) };
 
     fn fmt<W: fmt::Write>(&self, f: &mut fmt::Formatter<W>) -> fmt::Result {
-        f.write_str(self.word())
+        f.pad(self.word())
     }
 }

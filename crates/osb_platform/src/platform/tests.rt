@@ -224,6 +224,8 @@ fn words_that_are_printed(rt: HostRuntime) -> Result<(), Fail> {
     ] {
         assert_eq!(rt; format!(in rt.alloc(); "{state}")?.as_str(), word);
     }
+    let filled = format!(in rt.alloc(); "{:>8}|", State::Ready)?;
+    assert_eq!(rt; filled.as_str(), "   ready|");
     Ok(())
 }
 
