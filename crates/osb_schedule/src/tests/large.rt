@@ -3,7 +3,7 @@ use crate::tests::short::{
     PLAIN, PLANS, check_fault, check_report, expanded, in_pieces, outcome, outcome_with, repeated,
     replayed,
 };
-use crate::{LineFault, Options, ReplayFault};
+use crate::{Input, LineFault, Options, Output, ReplayFault, replay};
 use std::alloc::Global;
 use std::test::Fail;
 
@@ -90,7 +90,7 @@ fn as_many_empty_lines_as_there_may_be(rt: HostRuntime) -> Result<(), Fail> {
         &rt,
         rt.alloc(),
         "one more",
-        schedule.as_str(),
+        schedule.as_bytes(),
         100_001,
         fault,
     );
@@ -112,9 +112,13 @@ fn as_many_and_as_long_lines_as_there_may_be(rt: HostRuntime) -> Result<(), Fail
     let mut line = repeated(rt.alloc(), "#", 512)?;
     line.push('\n')?;
     let mut schedule = repeated(rt.alloc(), line.as_str(), 100_000)?;
-    let (result, written) = replayed(rt.alloc(), schedule.as_str());
+    let mut reader = Input::new(in_pieces(schedule.as_bytes(), usize::MAX));
+    let mut writer = Output::new(Vec::new(rt.alloc()));
+    let result = replay(rt.alloc(), &mut reader, &mut writer, PLAIN);
     assert!(rt; result == Ok(()));
-    assert!(rt; written.as_slice() == b"applied 0\nskipped 0\n".as_slice());
+    assert!(rt; writer.into_inner().as_slice() == b"applied 0\nskipped 0\n".as_slice());
+    // However much has been read, no call asks for more.
+    assert!(rt; reader.into_inner().largest <= 4096);
     schedule.push('\n')?;
     let (result, written) = replayed(rt.alloc(), schedule.as_str());
     let (line, fault) = (100_001, LineFault::TooManyLines);
@@ -137,7 +141,7 @@ fn lines_that_are_too_long(rt: HostRuntime) -> Result<(), Fail> {
             &rt,
             rt.alloc(),
             name,
-            schedule.as_str(),
+            schedule.as_bytes(),
             1,
             LineFault::LineTooLong,
         );
@@ -164,7 +168,7 @@ fn a_line_that_is_too_long_after_two_others(rt: HostRuntime) -> Result<(), Fail>
         &rt,
         rt.alloc(),
         "513 bytes",
-        schedule.as_str(),
+        schedule.as_bytes(),
         3,
         LineFault::LineTooLong,
     );

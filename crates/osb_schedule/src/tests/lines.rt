@@ -129,6 +129,14 @@ fn ids_in_either_case(rt: HostRuntime) {
     }
 }
 
+// The first byte of a character of UTF-8, alone, and a byte that no character has.
+#[test]
+fn bytes_that_are_no_text(rt: HostRuntime) {
+    for line in [b"# \xc3".as_slice(), b"\xc3".as_slice(), b"\xff".as_slice()] {
+        assert!(rt; read_line(line) == Err(LineFault::NotAscii));
+    }
+}
+
 /// That each of these lines has this fault.
 fn all_have(rt: &impl Abort, alloc: Global, fault: LineFault, texts: &[&str]) -> Result<(), Fail> {
     for text in texts {
@@ -178,6 +186,7 @@ fn numbers_of_words(rt: HostRuntime) -> Result<(), Fail> {
         "timeout",
         "expire",
         "finish I",
+        "gateway I",
     ];
     all_have(&rt, rt.alloc(), LineFault::WordCount, &fewer)?;
     let more = [
@@ -193,6 +202,7 @@ fn numbers_of_words(rt: HostRuntime) -> Result<(), Fail> {
         "timeout I I",
         "expire I I",
         "finish I ok ok",
+        "gateway I 502 502",
         "restart now",
         "restart #",
         "restart \r\r",
@@ -219,6 +229,7 @@ fn words_that_are_no_ids(rt: HostRuntime) -> Result<(), Fail> {
         "timeout x",
         "expire 1",
         "finish x ok",
+        "gateway x 502",
         "send 00000000000000000000000000000001",
     ];
     all_have(&rt, rt.alloc(), LineFault::BadId, &lines)
@@ -273,6 +284,7 @@ fn the_first_of_two_faults(rt: HostRuntime) -> Result<(), Fail> {
         &[
             "create x S P maybe",
             "deliver x maybe",
+            "gateway x 499",
             "plan S x both",
             "create I maybe x yes",
         ],

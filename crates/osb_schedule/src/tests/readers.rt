@@ -34,7 +34,7 @@ fn a_reader_that_fails_after_its_bytes(rt: HostRuntime) -> Result<(), Fail> {
         ),
     ];
     for (name, schedule, found) in cases {
-        for most in [1, 4096] {
+        for most in [1, 7, 4096] {
             let bytes = schedule.as_bytes();
             // The call after the last byte.
             let fails_at = bytes.len().div_ceil(most).saturating_add(1);

@@ -265,7 +265,7 @@ fn refused(
 ) -> Result<(), Fail> {
     for (name, short, line, fault) in cases {
         let schedule = expanded(alloc, short)?;
-        check_fault(rt, alloc, name, schedule.as_str(), *line, *fault);
+        check_fault(rt, alloc, name, schedule.as_bytes(), *line, *fault);
     }
     Ok(())
 }
@@ -287,14 +287,21 @@ fn lines_that_say_nothing_known(rt: HostRuntime) -> Result<(), Fail> {
             ("a word too many", "restart now", 1, LineFault::WordCount),
             ("an id of 35 characters", early, 2, LineFault::BadId),
             ("not a choice", "deliver I maybe", 1, LineFault::BadChoice),
-            (
-                "a byte above 127 in a comment",
-                "# \u{e9}",
-                1,
-                LineFault::NotAscii,
-            ),
         ],
     )
+}
+
+// Of a character of UTF-8, too: its first byte alone, and all of it.
+#[test]
+fn bytes_above_127(rt: HostRuntime) {
+    for schedule in [
+        b"# \xc3\n".as_slice(),
+        b"# \xc3\xa9\n".as_slice(),
+        b"\xff".as_slice(),
+    ] {
+        let name = "a byte above 127";
+        check_fault(&rt, rt.alloc(), name, schedule, 1, LineFault::NotAscii);
+    }
 }
 
 #[test]
@@ -307,7 +314,7 @@ fn statuses_that_no_gateway_has(rt: HostRuntime) -> Result<(), Fail> {
     ];
     for (name, event, fault) in cases {
         let schedule = after_plans(rt.alloc(), event)?;
-        check_fault(&rt, rt.alloc(), name, schedule.as_str(), 3, fault);
+        check_fault(&rt, rt.alloc(), name, schedule.as_bytes(), 3, fault);
     }
     Ok(())
 }
@@ -341,6 +348,7 @@ fn plan_lines_that_come_late_or_twice(rt: HostRuntime) -> Result<(), Fail> {
 fn a_faulty_last_line_without_its_line_feed(rt: HostRuntime) {
     for (text, line) in [("bogus", 1), ("\nbogus", 2)] {
         let what = "a word that begins no line";
-        check_fault(&rt, rt.alloc(), what, text, line, LineFault::UnknownWord);
+        let bytes = text.as_bytes();
+        check_fault(&rt, rt.alloc(), what, bytes, line, LineFault::UnknownWord);
     }
 }

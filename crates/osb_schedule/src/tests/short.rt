@@ -195,17 +195,17 @@ pub fn check_fault(
     rt: &impl Abort,
     alloc: Global,
     name: &str,
-    schedule: &str,
+    schedule: &[u8],
     line: u32,
     fault: LineFault,
 ) {
     for most in CUTS {
-        let (result, written) = outcome(alloc, in_pieces(schedule.as_bytes(), most));
+        let (result, written) = outcome(alloc, in_pieces(schedule, most));
         let found = ReplayFault::Schedule { line, fault };
         assert!(rt; result == Err(found), "{name}, {most} bytes a call");
         assert!(rt; written.is_empty(), "{name}, {most} bytes a call");
     }
-    let read = read_schedule(alloc, schedule.as_bytes());
+    let read = read_schedule(alloc, schedule);
     let found = ScheduleFault::At { line, fault };
     assert!(rt;
         read.is_err_and(|fault| fault == found),

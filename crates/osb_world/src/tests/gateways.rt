@@ -1,4 +1,4 @@
-use super::{events_of, is_told, new_catalogue, sides, told_through};
+use super::{events_of, is_told, new_catalogue, sides, sides_of_run, told_through};
 use crate::{Event, Step, World};
 use osb_broker::Phase;
 use osb_message::Answer;
@@ -56,18 +56,24 @@ fn gateway_errors(rt: HostRuntime) -> Result<(), Fail> {
 
 #[test]
 fn no_gateway_error(rt: HostRuntime) -> Result<(), Fail> {
-    let events = events_of(&rt, rt.alloc(), "gateway-502")?;
-    let end = told_through(rt.alloc(), &events)?;
-    assert_eq!(rt; (end.applied, end.skipped), (0, 1), "with nothing out");
-    assert_eq!(rt; end.sides, (None, None));
-    for (story, skipped) in [
-        ("create-sync gateway-499", "a status below 500"),
-        ("create-sync gateway-600", "a status above 599"),
-        ("create-sync deliver answer gateway-502", "after the answer"),
+    let wanted = (Some(Wanted), None);
+    let ready = (Some(Ready), Some(Phase::Ready));
+    for (name, story, applied, both) in [
+        ("with nothing out", "gateway-502", 0, (None, None)),
+        ("a status below 500", "create-sync gateway-499", 1, wanted),
+        ("a status above 599", "create-sync gateway-600", 1, wanted),
+        (
+            "after the answer",
+            "create-sync deliver answer gateway-502",
+            3,
+            ready,
+        ),
     ] {
         let events = events_of(&rt, rt.alloc(), story)?;
         let end = told_through(rt.alloc(), &events)?;
-        assert_eq!(rt; end.skipped, 1, "{skipped}");
+        assert_eq!(rt; (end.applied, end.skipped), (applied, 1), "{name}");
+        assert_eq!(rt; end.sides, both, "{name}");
+        assert_eq!(rt; sides_of_run(rt.alloc(), &events)?, both, "{name}, by run");
     }
     Ok(())
 }

@@ -56,7 +56,7 @@ fn some_thousand_events(rt: HostRuntime) -> Result<(), Fail> {
     Ok(())
 }
 
-// The ids of a world in which these instances were created.
+// A world in which these instances were created.
 fn created(alloc: Global) -> Result<World, Fail> {
     let mut world = World::new(alloc, new_catalogue(alloc)?);
     for number in 0..COUNT {

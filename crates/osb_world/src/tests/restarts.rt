@@ -97,7 +97,7 @@ fn two_instances_and_a_restart(rt: HostRuntime) -> Result<(), Fail> {
     let (low, high) = (instance(), InstanceId::from_value(2));
     let outcome = Outcome::Done;
     let mut world = World::new(rt.alloc(), new_catalogue(rt.alloc())?);
-    for event in [
+    let events = [
         create(low, SYNC, false),
         create(high, SYNC, false),
         Event::Deliver { id: low, outcome },
@@ -109,15 +109,22 @@ fn two_instances_and_a_restart(rt: HostRuntime) -> Result<(), Fail> {
         Event::Send { id: low },
         Event::Deliver { id: low, outcome },
         Event::Answer { id: low },
-    ] {
-        assert_eq!(rt; world.step(rt.alloc(), event)?, Step::Applied, "{event:?}");
+    ];
+    for event in &events {
+        let step = world.step(rt.alloc(), *event)?;
+        assert_eq!(rt; step, Step::Applied, "{event:?}");
     }
-    assert_eq!(rt; sides(world.cell(low)), (Some(State::Gone), None));
-    assert_eq!(rt;
-        sides(world.cell(high)),
-        (Some(State::Ready), Some(Phase::Ready))
-    );
-    assert!(rt; world.ids(rt.alloc())?.as_slice() == [low, high].as_slice());
+    let ran = run(rt.alloc(), new_catalogue(rt.alloc())?, &events)?;
+    for (name, end) in [("by step", world), ("by run", ran)] {
+        let gone = (Some(State::Gone), None);
+        assert_eq!(rt; sides(end.cell(low)), gone, "{name}: low");
+        let ready = (Some(State::Ready), Some(Phase::Ready));
+        assert_eq!(rt; sides(end.cell(high)), ready, "{name}: high");
+        assert!(rt;
+            end.ids(rt.alloc())?.as_slice() == [low, high].as_slice(),
+            "{name}"
+        );
+    }
     Ok(())
 }
 
