@@ -10,7 +10,8 @@ use base.Logic.{SProp, ent, guard, guard_i, via, never, fst∗, snd∗}
 use base.Fraction.{full_share}
 use contract.Monad.{fact_use}
 use types.Logic.{Logic, sem}
-use types.Kit.{given, learn, use1, Item, Goal, Seq, Step, step, ‵, ◌$◌, move, drop, fsplit, fjoin, fpick, fpack, feq_i, feq_l}
+use types.Kit.{given, learn, use1, Item, Goal, Seq, Step, step, ‵, ◌$◌, move, drop, fsplit, fjoin, fpick, fpack, feq_i}
+use types.Kit.{feq_l}
 use denote.RattleType.{RattleType, Valss}
 use denote.Builtin.{RawPtr}
 use denote.Memory.{lone}
@@ -55,19 +56,29 @@ module _ (R Z : RattleType) (L : Laws Z) (g : Ghosts Z.Denot) where
 
   module _ {M : Type 1} {𝓤 : Ura M} {𝓛 : Logic 𝓤} {K : Type 0} {Γ : List (Item 𝓤)} {G : Goal 𝓤 𝓛.H} where
     pub loose_out : K → (d : Loose.Denot) (vs : List Val)
-        → ((b o : ℕ) (h : Val) → d.at ≡ block_ptr b o → vs ≡ both (vptr b o) h ∷ [] → Good (layout Z) h → Seq K 𝓛 (‵ (box_owns (g.dealloc_token d.alloc) R (block_ptr b o) d.value) ∷ ‵ (Z.own_val d.alloc (h ∷ [])) ∷ Γ) G)
+        → ((b o : ℕ) (h : Val) → d.at ≡ block_ptr b o → vs ≡ both (vptr b o) h ∷ [] → Good (layout Z) h
+        → Seq K 𝓛 (‵ (box_owns (g.dealloc_token d.alloc) R (block_ptr b o) d.value) ∷ ‵ (Z.own_val d.alloc (h ∷ []))
+        ∷ Γ) G)
         → Seq K 𝓛 (‵ (Loose.own_val d vs) ∷ Γ) G
     loose_out t d vs k =
-        fsplit t $ fpick t (λ vss. fsplit t $ feq_l t (λ ev. fsplit t $ feq_l t (λ ep. fsplit t $ handle_tells al t d.alloc vss.1.0 (λ h ea fits. move t (1 ∷ []) $ drop t $ move t (1 ∷ []) $
-        in_a_block t d.at (λ p. box_owns (g.dealloc_token d.alloc) R p d.value) (fst∗ 𝓤 (never 𝓤) (sem 𝓛 (g.dealloc_token d.alloc (bare (lone R.mir)) null_ptr))) (λ b o e. k b o h e
+        fsplit t $ fpick t (λ vss. fsplit t $
+        feq_l t (λ ev. fsplit t $
+        feq_l t (λ ep. fsplit t $
+        handle_tells al t d.alloc vss.1.0 (λ h ea fits. move t (1 ∷ []) $ drop t $ move t (1 ∷ []) $
+        in_a_block t d.at (λ p. box_owns (g.dealloc_token d.alloc) R p d.value)
+        (fst∗ 𝓤 (never 𝓤) (sem 𝓛 (g.dealloc_token d.alloc (bare (lone R.mir)) null_ptr))) (λ b o e. k b o h e
         (subst (λ (p : Ptr). vs ≡ vstruct (of_list (ptr_val p ∷ h ∷ [])) ∷ []) e
-        (subst (λ (ws : List Val). vs ≡ vstruct (of_list (ptr_val d.at ∷ (ws ++ []))) ∷ []) ea (subst (λ (ps : List Val). vs ≡ vstruct (of_list (ps ++ (vss.1.0 ++ []))) ∷ []) ep ev))) fits)))))
+        (subst (λ (ws : List Val). vs ≡ vstruct (of_list (ptr_val d.at ∷ (ws ++ []))) ∷ []) ea
+        (subst (λ (ps : List Val). vs ≡ vstruct (of_list (ps ++ (vss.1.0 ++ []))) ∷ []) ep ev))) fits)))))
 
     pub loose_in : K → (b o : ℕ) (h : Val) (a : Z.Denot) (x : R.Denot)
-        → Step K 𝓛 (‵ (Loose.own_val (record { at = block_ptr b o; alloc = a; value = x }) (both (vptr b o) h ∷ [])) ∷ Γ) G (‵ (box_owns (g.dealloc_token a) R (block_ptr b o) x) ∷ ‵ (Z.own_val a (h ∷ [])) ∷ Γ) G
+        → Step K 𝓛 (‵ (Loose.own_val (record { at = block_ptr b o; alloc = a; value = x }) (both (vptr b o) h ∷ [])) ∷
+        Γ) G (‵ (box_owns (g.dealloc_token a) R (block_ptr b o) x) ∷ ‵ (Z.own_val a (h ∷ [])) ∷ Γ) G
     loose_in t b o h a x = step (λ s. let v : Val = both (vptr b o) h in
-        nothing t $ move t (2 ∷ 0 ∷ []) $ fjoin t $ feq_i t (List Val) (vptr b o ∷ []) (vptr b o ∷ []) refl $ fjoin t $ feq_i t (List Val) (v ∷ []) (v ∷ []) refl $ fjoin t $
-        fpack t (Valss (RawPtr ∷ Z ∷ [])) (within (shape (loose.the_type R Z g)) (block_ptr b o, (a, tt)) (v ∷ [])) (vptr b o ∷ [], (h ∷ [], tt)) $ fjoin t $ s)
+        nothing t $ move t (2 ∷ 0 ∷ []) $ fjoin t $ feq_i t (List Val) (vptr b o ∷ []) (vptr b o ∷ []) refl $ fjoin t $
+        feq_i t (List Val) (v ∷ []) (v ∷ []) refl $ fjoin t $
+        fpack t (Valss (RawPtr ∷ Z ∷ [])) (within (shape (loose.the_type R Z g)) (block_ptr b o, (a, tt)) (v ∷ []))
+        (vptr b o ∷ [], (h ∷ [], tt)) $ fjoin t $ s)
 
 -- the allocator of the C library
 abbrev pub Z : RattleType
@@ -79,20 +90,30 @@ LZ = heap_laws.the_row_laws
 abbrev pub heap_al : Al
 heap_al = record { row = Z; laws = LZ; g = ghosts; d = impl [] tnil dnil; drops = impl [] tnil dnil }
 
-pub handle_good : (p : Ptr) (h : Val) → Good (layout Z) h → T (has_ty ty_ptr (ptr_val p) && (has_ty (layout Z) h && true)) × WT (both (ptr_val p) h)
-handle_good p h fits = (both_tt (has_ty ty_ptr (ptr_val p)) (has_ty (layout Z) h) (Ptr-Good p).0 fits.0, ((Ptr-Good p).1, (fits.1, tt)))
+pub handle_good : (p : Ptr) (h : Val) → Good (layout Z) h
+    → T (has_ty ty_ptr (ptr_val p) && (has_ty (layout Z) h && true)) × WT (both (ptr_val p) h)
+handle_good p h fits =
+    (both_tt (has_ty ty_ptr (ptr_val p)) (has_ty (layout Z) h) (Ptr-Good p).0 fits.0, ((Ptr-Good p).1, (fits.1, tt)))
 
 -- what is held at a pointer: nothing at null, else a box
 module _ {M : Type 1} {𝓤 : Ura M} (𝓛 : Logic 𝓤) where
-  tested : (R : RattleType) (a : Z.Denot) (p : Ptr) (x : R.Denot) → ent 𝓤 (sem 𝓛 (box_owns (ghosts.dealloc_token a) R p x)) (guard 𝓤 (Testable p) (sem 𝓛 (box_owns (ghosts.dealloc_token a) R p x)))
+  tested : (R : RattleType) (a : Z.Denot) (p : Ptr) (x : R.Denot)
+      → ent 𝓤 (sem 𝓛 (box_owns (ghosts.dealloc_token a) R p x))
+      (guard 𝓤 (Testable p) (sem 𝓛 (box_owns (ghosts.dealloc_token a) R p x)))
   tested R a p x = let B : SProp 𝓤 = sem 𝓛 (box_owns (ghosts.dealloc_token a) R p x) in
-      fact_use 𝓤 (Testable p) (via 𝓤 _ (snd∗ 𝓤 (sem 𝓛 (lies_at R full_share p x)) (sem 𝓛 (ghosts.dealloc_token a (bare (lone R.mir)) p))) (dealloc_token-Testable 𝓛 a (bare (lone R.mir)) p)) (guard_i 𝓤 (Testable p) B)
+      fact_use 𝓤 (Testable p)
+      (via 𝓤 _ (snd∗ 𝓤 (sem 𝓛 (lies_at R full_share p x)) (sem 𝓛 (ghosts.dealloc_token a (bare (lone R.mir)) p)))
+      (dealloc_token-Testable 𝓛 a (bare (lone R.mir)) p)) (guard_i 𝓤 (Testable p) B)
 
 module _ {M : Type 1} {𝓤 : Ura M} {𝓛 : Logic 𝓤} {K : Type 0} {Γ : List (Item 𝓤)} {G : Goal 𝓤 𝓛.H} where
-  pub either_held : (R : RattleType) → K → (a : Z.Denot) (p : Ptr) (x : Option R.Denot) → (p ≡ null_ptr → x ≡ None → Seq K 𝓛 Γ G)
-      → ((b o : ℕ) (value : R.Denot) → p ≡ block_ptr b o → x ≡ Some value → Testable (block_ptr b o) → Seq K 𝓛 (‵ (box_owns (ghosts.dealloc_token a) R (block_ptr b o) value) ∷ Γ) G)
+  pub either_held : (R : RattleType) → K → (a : Z.Denot) (p : Ptr) (x : Option R.Denot)
+      → (p ≡ null_ptr → x ≡ None → Seq K 𝓛 Γ G)
+      → ((b o : ℕ) (value : R.Denot) → p ≡ block_ptr b o → x ≡ Some value → Testable (block_ptr b o)
+      → Seq K 𝓛 (‵ (box_owns (ghosts.dealloc_token a) R (block_ptr b o) value) ∷ Γ) G)
       → Seq K 𝓛 (‵ (held_at R a p x) ∷ Γ) G
   either_held R t a p None none one = feq_l t (λ e. none e refl)
   either_held R t a p (Some value) none one =
-      in_a_block t p (λ q. box_owns (ghosts.dealloc_token a) R q value) (fst∗ 𝓤 (never 𝓤) (sem 𝓛 (ghosts.dealloc_token a (bare (lone R.mir)) null_ptr))) (λ b o e.
-      use1 𝓛 (given (Testable (block_ptr b o)) (‵ (box_owns (ghosts.dealloc_token a) R (block_ptr b o) value))) (tested 𝓛 R a (block_ptr b o) value) $ learn t (λ u. one b o value e refl u))
+      in_a_block t p (λ q. box_owns (ghosts.dealloc_token a) R q value)
+      (fst∗ 𝓤 (never 𝓤) (sem 𝓛 (ghosts.dealloc_token a (bare (lone R.mir)) null_ptr))) (λ b o e.
+      use1 𝓛 (given (Testable (block_ptr b o)) (‵ (box_owns (ghosts.dealloc_token a) R (block_ptr b o) value)))
+      (tested 𝓛 R a (block_ptr b o) value) $ learn t (λ u. one b o value e refl u))

@@ -41,7 +41,8 @@ pub enum Plan {}
 /// printed in the text form of [`Id::to_text`], by `{}` as by `{:?}`.
 ///
 /// The standard recommends a GUID for `instance_id`, `service_id` and `plan_id` (sections
-/// Provisioning and Catalog Management); that one type serves for all three is this project's choice.
+/// Provisioning and Catalog Management); that one type serves for all three is this project's choice,
+/// and so are these calls.
 /// Contracts see an id as its number. The order of the numbers is the byte order of the texts.
 #[derive_where(Clone, Copy)]
 pub struct Id<K> {

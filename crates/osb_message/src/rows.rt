@@ -41,8 +41,8 @@ fn keys_of<V>(alloc: Global, rows: &BTreeMap<InstanceId, V>) -> Result<Vec<Insta
     Ok(ids)
 }
 
-/// What is kept for each of some instances: at most one value for an id (this project's choice; the
-/// standard leaves to both sides what they keep).
+/// What is kept for each of some instances: at most one value for an id (this project's choice, and so
+/// are these calls; the standard leaves to both sides what they keep).
 ///
 /// Contracts see a finite map from ids to values.
 #[derive(Drop)]

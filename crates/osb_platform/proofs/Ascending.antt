@@ -45,5 +45,6 @@ recorded m q = (
   λ h. Contains-from_any same q (keys m) (sym (contains_key-keys m q) ∙ h),
 )
 
-pub keys_recorded : {X : Type 0} (m : FinMap nat_cmp X) (ids : List ℕ) → ids ≡ keys m → (q : ℕ) → Contains ids q ↔ IsSome (get m q)
+pub keys_recorded : {X : Type 0} (m : FinMap nat_cmp X) (ids : List ℕ) → ids ≡ keys m → (q : ℕ)
+    → Contains ids q ↔ IsSome (get m q)
 keys_recorded m ids e q = subst (λ ks. Contains ks q ↔ IsSome (get m q)) (sym e) (recorded m q)

@@ -1,5 +1,7 @@
 -- The rows that are read, put into a map one after another.
-use Rattle.std.proofs.Common.{◌≡◌, ℕ, ◌<◌, Bool, true, false, cond, List, [], ◌∷◌, Option, Some, None, option_map, option_and_then, unwrap_or, is_some, true≢false, nat_cmp, string_cmp, string_bytes, Less, refl, sym, ap, ◌∙◌, arith}
+use Rattle.std.proofs.Common.{◌≡◌, ℕ, ◌<◌, Bool, true, false, cond, List, [], ◌∷◌, Option, Some, None, option_map}
+use Rattle.std.proofs.Common.{option_and_then, unwrap_or, is_some, true≢false, nat_cmp, string_cmp, string_bytes, Less}
+use Rattle.std.proofs.Common.{refl, sym, ap, ◌∙◌, arith}
 use Rattle.std.specs.Prelude.{Ok}
 use Rattle.std.specs.Cmp.{nat_cmp_total}
 use Rattle.std.specs.Cmp.Lexicographic.{slice_cmp}
@@ -16,7 +18,8 @@ use Rattle.serde_json.specs.Read.{read}
 use Rattle.serde_json.specs.View.{view, members_view}
 use Rattle.serde_json.proofs.Views.{Entry as Member}
 use Rattle.osb_platform.specs.PlatformRow.{IsRestarted, restarted, restarted_row}
-use Rattle.osb_platform.specs.SavedRecord.{Entry, row_named, entries_named, are_named_by_ids, instances_in, rows_in, rows_of_instances, rows_of_reading}
+use Rattle.osb_platform.specs.SavedRecord.{Entry, row_named, entries_named, are_named_by_ids, instances_in, rows_in}
+use Rattle.osb_platform.specs.SavedRecord.{rows_of_instances, rows_of_reading}
 use Rattle.osb_platform.specs.declared.row.PlatformRow.{PlatformRow}
 
 -- the rows after a restart, put into a map one after another
@@ -30,14 +33,16 @@ abbrev or_else : Option PlatformRow → Option PlatformRow → Option PlatformRo
 or_else None other = other
 or_else (Some row) other = Some row
 
-none_above : (q : ℕ) (es : List Entry) → AllByRecursion (λ y. nat_cmp q y ≡ Less) (keys_of es) → find nat_cmp q es ≡ None
+none_above : (q : ℕ) (es : List Entry) → AllByRecursion (λ y. nat_cmp q y ≡ Less) (keys_of es) → find nat_cmp q es
+    ≡ None
 none_above q [] h = refl
 none_above q (e ∷ es) h = rw h.0 (none_above q es h.1)
 
 same_id : (q k : ℕ) → eq_by_cmp nat_cmp q k ≡ true → k ≡ q
 same_id q k e = grind (arith, nat_tests)
 
-get-insert_rows : (done : FinMap nat_cmp PlatformRow) (es : List Entry) (q : ℕ) → IsStrictlySortedBy nat_cmp (keys_of es)
+get-insert_rows : (done : FinMap nat_cmp PlatformRow) (es : List Entry) (q : ℕ)
+    → IsStrictlySortedBy nat_cmp (keys_of es)
     → get (insert_rows done es) q ≡ or_else (restarted (find nat_cmp q es)) (get done q)
 unfolding IsStrictlySortedBy
 get-insert_rows done [] q h = refl
@@ -48,7 +53,8 @@ get-insert_rows done (e ∷ es) q h =
     (λ same. ap (λ k. find nat_cmp k es) (sym (same_id q e.0 same)) ∙ none_above e.0 es h.0)
   where
     split : (b : Bool) (row : PlatformRow) (o other : Option PlatformRow) → (b ≡ true → o ≡ None)
-        → or_else (restarted o) (cond b (Some (restarted_row row)) other) ≡ or_else (restarted (cond b (Some row) o)) other
+        → or_else (restarted o) (cond b (Some (restarted_row row)) other)
+        ≡ or_else (restarted (cond b (Some row) o)) other
     split true row o other none = rw (none refl) refl
     split false row o other none = refl
 
@@ -56,7 +62,8 @@ or_nothing : (o : Option PlatformRow) → or_else o None ≡ o
 or_nothing None = refl
 or_nothing (Some row) = refl
 
-rows_restarted : (es : List Entry) → IsStrictlySortedBy nat_cmp (keys_of es) → IsRestarted (from_entries es) (insert_rows empty es)
+rows_restarted : (es : List Entry) → IsStrictlySortedBy nat_cmp (keys_of es)
+    → IsRestarted (from_entries es) (insert_rows empty es)
 rows_restarted es h q =
     get-insert_rows empty es q h
     ∙ ap (or_else (restarted (find nat_cmp q es))) (get-empty nat_cmp q)
@@ -77,7 +84,8 @@ record Parts (name : Option ℕ) (rest : Option (List Entry)) (es : List Entry) 
   whole : es ≡ (id, row) ∷ more
 
 parts : (name : Option ℕ) (row : Option PlatformRow) (rest : Option (List Entry)) (es : List Entry)
-    → option_and_then (λ e. option_map (λ es. e ∷ es) rest) (option_and_then (λ id. option_map (λ r. (id, r)) row) name) ≡ Some es
+    → option_and_then (λ e. option_map (λ es. e ∷ es) rest) (option_and_then (λ id. option_map (λ r. (id, r)) row) name)
+    ≡ Some es
     → Parts name rest es
 parts None row rest es e = absurd (true≢false (sym (ap is_some e)))
 parts (Some id) None rest es e = absurd (true≢false (sym (ap is_some e)))
@@ -87,23 +95,27 @@ parts (Some id) (Some r) (Some more) es e =
 
 parts_of : (m : Member) (ms : List Member) (es : List Entry) → entries_named (members_view (m ∷ ms)) ≡ Some es
     → Parts (id_of_lower (string_bytes m.0)) (entries_named (members_view ms)) es
-parts_of m ms es e = parts (id_of_lower (string_bytes m.0)) (row_named (view m.1)) (entries_named (members_view ms)) es e
+parts_of m ms es e =
+    parts (id_of_lower (string_bytes m.0)) (row_named (view m.1)) (entries_named (members_view ms)) es e
 
-rises : (xs ys : List ℕ) (m n : ℕ) → id_of_lower xs ≡ Some m → id_of_lower ys ≡ Some n → slice_cmp nat_cmp xs ys ≡ Less → nat_cmp m n ≡ Less
+rises : (xs ys : List ℕ) (m n : ℕ) → id_of_lower xs ≡ Some m → id_of_lower ys ≡ Some n → slice_cmp nat_cmp xs ys ≡ Less
+    → nat_cmp m n ≡ Less
 rises xs ys m n is_m is_n less =
     let a = text_of_lower xs m is_m in
     let b = text_of_lower ys n is_n in
     cmp_less m n (less_from_texts m n (lower_fits xs m is_m) (rw (← a, ← b) less))
 
 above_all : (x : List ℕ) (id : ℕ) (ms : List Member) (es : List Entry) → id_of_lower x ≡ Some id
-    → AllByRecursion (λ k. slice_cmp nat_cmp x (string_bytes k) ≡ Less) (keys_of ms) → entries_named (members_view ms) ≡ Some es
+    → AllByRecursion (λ k. slice_cmp nat_cmp x (string_bytes k) ≡ Less) (keys_of ms) → entries_named (members_view ms)
+    ≡ Some es
     → AllByRecursion (λ y. nat_cmp id y ≡ Less) (keys_of es)
 above_all x id [] es named h e = rw (← ap (λ o. unwrap_or o []) e) tt
 above_all x id (m ∷ ms) es named h e =
     let p = parts_of m ms es e in
     rw p.whole (rises x (string_bytes m.0) id p.id named p.named h.0, above_all x id ms p.more named h.1 p.others)
 
-ids_rise : (ms : List Member) (es : List Entry) → IsStrictlySortedBy string_cmp (keys_of ms) → entries_named (members_view ms) ≡ Some es
+ids_rise : (ms : List Member) (es : List Entry) → IsStrictlySortedBy string_cmp (keys_of ms)
+    → entries_named (members_view ms) ≡ Some es
     → IsStrictlySortedBy nat_cmp (keys_of es)
 unfolding IsStrictlySortedBy
 ids_rise [] es h e = rw (← ap (λ o. unwrap_or o []) e) tt
@@ -116,7 +128,8 @@ ids_rise (m ∷ ms) es h e =
 abbrev AreLoaded : Option (List Entry) → FinMap nat_cmp PlatformRow → Type 0
 AreLoaded found rows = (named : List Entry) × (found ≡ Some named) × IsRestarted (from_entries named) rows
 
-loaded_from : (found : Option (List Entry)) (rows : FinMap nat_cmp PlatformRow) → Some rows ≡ option_map (insert_rows empty) found
+loaded_from : (found : Option (List Entry)) (rows : FinMap nat_cmp PlatformRow) → Some rows
+    ≡ option_map (insert_rows empty) found
     → ((named : List Entry) → found ≡ Some named → IsStrictlySortedBy nat_cmp (keys_of named)) → AreLoaded found rows
 loaded_from None rows e sorted = absurd (true≢false (ap is_some e))
 loaded_from (Some named) rows e sorted =
@@ -124,7 +137,8 @@ loaded_from (Some named) rows e sorted =
     (named, refl, λ q. ap (λ m. get m q) same ∙ rows_restarted named (sorted named refl) q)
 
 pub loaded : (ms left : List Member) (done : FinMap nat_cmp PlatformRow)
-    → option_map (insert_rows done) (entries_named (members_view left)) ≡ option_map (insert_rows empty) (entries_named (members_view ms))
+    → option_map (insert_rows done) (entries_named (members_view left))
+    ≡ option_map (insert_rows empty) (entries_named (members_view ms))
     → left ≡ [] → IsStrictlySortedBy string_cmp (keys_of ms) → AreLoaded (entries_named (members_view ms)) done
 loaded ms left done built none sorted =
     let ended : option_map (insert_rows done) (entries_named (members_view left)) ≡ Some done = rw none refl in
@@ -132,6 +146,8 @@ loaded ms left done built none sorted =
 
 -- ---- the text
 
-pub named_rows : (text : List ℕ) (d : Data) (ms : Members) (named : List Entry) → read text ≡ Some d → instances_in d ≡ Ok ms → are_named_by_ids ms ≡ true
+pub named_rows : (text : List ℕ) (d : Data) (ms : Members) (named : List Entry) → read text ≡ Some d → instances_in d
+    ≡ Ok ms → are_named_by_ids ms ≡ true
     → entries_named ms ≡ Some named → rows_in text ≡ Ok (from_entries named)
-named_rows text d ms named reads instances ids entries = ap rows_of_reading reads ∙ ap rows_of_instances instances ∙ rw (ids, entries) refl
+named_rows text d ms named reads instances ids entries = ap rows_of_reading reads ∙ ap rows_of_instances instances
+    ∙ rw (ids, entries) refl

@@ -25,7 +25,8 @@ of_kind words kind Memory told among = tt
 
 -- the command that was made is the one that is meant
 pub explained : (made : App) (words : List Text) (e : Error) (fault : WordsFault) → made ≡ command
-    → (is_simple_and_free made ≡ true → HasKind (fault_of made words) e) → IsTold (kind_of e) fault → Explains words fault
+    → (is_simple_and_free made ≡ true → HasKind (fault_of made words) e) → IsTold (kind_of e) fault
+    → Explains words fault
 explained made words e fault is kinds told =
     of_kind words (kind_of e) fault told
     (subst (λ a. HasKind (fault_of a words) e) is (kinds (ap is_simple_and_free is ∙ command_is_free)))

@@ -28,9 +28,11 @@ none_case : (o : Option Text) → ((t : Text) → o ≡ Some t → t ≡ true_te
 none_case None h = refl
 none_case (Some t) h = not_true (bytes_eq t true_text) t refl (h t refl)
 
-pub flag_some : (f : Found) (name : Text) (v : Bool) → ((t : Text) → one_text f name ≡ Some t → MatchBool v (t ≡ true_text) (t ≡ false_text))
+pub flag_some : (f : Found) (name : Text) (v : Bool)
+    → ((t : Text) → one_text f name ≡ Some t → MatchBool v (t ≡ true_text) (t ≡ false_text))
     → (one_text f name ≡ None → Some v ≡ None) → v ≡ is_set name (rows_of f)
 flag_some f name v h none = some_case (one_text f name) v h none ∙ ap reads_true (one_text-rows f name)
 
-pub flag_none : (f : Found) (name : Text) → ((t : Text) → one_text f name ≡ Some t → t ≡ true_text → ⊥) → false ≡ is_set name (rows_of f)
+pub flag_none : (f : Found) (name : Text) → ((t : Text) → one_text f name ≡ Some t → t ≡ true_text → ⊥) → false
+    ≡ is_set name (rows_of f)
 flag_none f name h = none_case (one_text f name) h ∙ ap reads_true (one_text-rows f name)

@@ -1,6 +1,7 @@
 -- What a search finds in a list whose keys ascend, and what an edit at that place does to the map of
 -- its pairs.
-use Rattle.std.proofs.Common.{◌≡◌, ℕ, zero, suc, ◌+◌, ◌-◌, ◌<◌, ◌≤◌, ◌≢◌, cond, List, [], ◌∷◌, length, map, get_or, set, Some, None, IsSome, Result, Ok, Err, IfOk, IfErr, refl, sym, ◌∙◌, ap, subst, arith}
+use Rattle.std.proofs.Common.{◌≡◌, ℕ, zero, suc, ◌+◌, ◌-◌, ◌<◌, ◌≤◌, ◌≢◌, cond, List, [], ◌∷◌, length, map, get_or, set}
+use Rattle.std.proofs.Common.{Some, None, IsSome, Result, Ok, Err, IfOk, IfErr, refl, sym, ◌∙◌, ap, subst, arith}
 use Rattle.std.specs.Prelude.{option_map}
 use mathlib.Core.Bool.{false≢true}
 use Rattle.std.specs.List.{insert}
@@ -26,45 +27,69 @@ module _ {X V : Type 0} (key : X → ℕ) (value : X → V) where
   -- a key that no element has is not found
   find_absent : (xs : List X) (k : ℕ) → NoneBefore xs k (length xs) → find nat_cmp k (pairs key value xs) ≡ None
   find_absent [] k none = refl
-  find_absent (x ∷ xs) k none = grind (arith, nat_tests, none 0 x (omega arith), find_absent xs k (none_in_tail x xs k _ none))
+  find_absent (x ∷ xs) k none =
+      grind (arith, nat_tests, none 0 x (omega arith), find_absent xs k (none_in_tail x xs k _ none))
 
   -- the first element that has the key gives the value
-  find_present : (xs : List X) (k at : ℕ) (d : X) → at < length xs → key (get_or xs at d) ≡ k → NoneBefore xs k at → find nat_cmp k (pairs key value xs) ≡ Some (value (get_or xs at d))
+  find_present : (xs : List X) (k at : ℕ) (d : X) → at < length xs → key (get_or xs at d) ≡ k → NoneBefore xs k at
+      → find nat_cmp k (pairs key value xs) ≡ Some (value (get_or xs at d))
   find_present [] k at d lt has none = absurd (omega arith)
   find_present (x ∷ xs) k zero d lt has none = grind (arith, nat_tests)
-  find_present (x ∷ xs) k (suc at) d lt has none = grind (arith, nat_tests, none 0 x (omega arith), find_present xs k at d (omega arith) has (none_in_tail x xs k at none))
+  find_present (x ∷ xs) k (suc at) d lt has none =
+      grind (
+        arith,
+        nat_tests,
+        none 0 x (omega arith),
+        find_present xs k at d (omega arith) has
+            (none_in_tail x xs k at none),
+      )
 
   -- writing over the first element that has the key puts the new value there
-  find_set : (xs : List X) (at : ℕ) (y : X) → at < length xs → ((d : X) → key (get_or xs at d) ≡ key y) → NoneBefore xs (key y) at
-      → (q : ℕ) → find nat_cmp q (pairs key value (set xs at y)) ≡ cond (eq_by_cmp nat_cmp q (key y)) (Some (value y)) (find nat_cmp q (pairs key value xs))
+  find_set : (xs : List X) (at : ℕ) (y : X) → at < length xs → ((d : X) → key (get_or xs at d) ≡ key y)
+      → NoneBefore xs (key y) at
+      → (q : ℕ) → find nat_cmp q (pairs key value (set xs at y))
+      ≡ cond (eq_by_cmp nat_cmp q (key y)) (Some (value y)) (find nat_cmp q (pairs key value xs))
   find_set [] at y lt has none q = absurd (omega arith)
   find_set (x ∷ xs) zero y lt has none q = grind (arith, nat_tests, has x)
-  find_set (x ∷ xs) (suc at) y lt has none q = grind (arith, nat_tests, none 0 x (omega arith), find_set xs at y (omega arith) has (none_in_tail x xs _ at none) q)
+  find_set (x ∷ xs) (suc at) y lt has none q =
+      grind (
+        arith,
+        nat_tests,
+        none 0 x (omega arith),
+        find_set xs at y (omega arith) has (none_in_tail x xs _ at none)
+            q,
+      )
 
   -- so does a new element before any that has the key
   find_insert : (xs : List X) (at : ℕ) (y : X) → NoneBefore xs (key y) at
-      → (q : ℕ) → find nat_cmp q (pairs key value (insert xs at y)) ≡ cond (eq_by_cmp nat_cmp q (key y)) (Some (value y)) (find nat_cmp q (pairs key value xs))
+      → (q : ℕ) → find nat_cmp q (pairs key value (insert xs at y))
+      ≡ cond (eq_by_cmp nat_cmp q (key y)) (Some (value y)) (find nat_cmp q (pairs key value xs))
   find_insert xs zero y none q = refl
   find_insert [] (suc at) y none q = refl
-  find_insert (x ∷ xs) (suc at) y none q = grind (arith, nat_tests, none 0 x (omega arith), find_insert xs at y (none_in_tail x xs _ at none) q)
+  find_insert (x ∷ xs) (suc at) y none q =
+      grind (arith, nat_tests, none 0 x (omega arith), find_insert xs at y (none_in_tail x xs _ at none) q)
 
   -- values written over, keys kept
   find_filled : (f : X → X) (v : V) → ((x : X) → key (f x) ≡ key x) → ((x : X) → value (f x) ≡ v)
-      → (xs : List X) (q : ℕ) → find nat_cmp q (pairs key value (map f xs)) ≡ option_map (λ _. v) (find nat_cmp q (pairs key value xs))
+      → (xs : List X) (q : ℕ) → find nat_cmp q (pairs key value (map f xs))
+      ≡ option_map (λ _. v) (find nat_cmp q (pairs key value xs))
   find_filled f v keeps writes [] q = refl
-  find_filled f v keeps writes (x ∷ xs) q = grind (arith, nat_tests, keeps x, writes x, find_filled f v keeps writes xs q)
+  find_filled f v keeps writes (x ∷ xs) q =
+      grind (arith, nat_tests, keeps x, writes x, find_filled f v keeps writes xs q)
 
   module _ (xs : List X) (ascending : IsAscending key xs) (k : ℕ) where
     -- how the keys compare with k rises along the list, as a binary search asks
     comparisons_rise : IsNonDecreasingBy (λ x. ordering_index (nat_cmp (key x) k)) xs
     comparisons_rise i j d le in_range =
-        let keys_rise : key (get_or xs i d) ≤ key (get_or xs j d) = grind (arith, ascending i j d, λ (same : i ≡ j). ap (λ n. key (get_or xs n d)) same) in
+        let keys_rise : key (get_or xs i d) ≤ key (get_or xs j d) =
+        grind (arith, ascending i j d, λ (same : i ≡ j). ap (λ n. key (get_or xs n d)) same) in
         grind (arith, nat_tests)
 
     -- a binary search by key ends at the key, or at the gap for it
     pub searched : (r : Result ℕ ℕ) → IsSearchInRange r (length xs) → IsBinarySearchResult (λ x. nat_cmp (key x) k) xs r
         → record { found : IfOk r (IsAt key xs k); absent : IfErr r (IsGapFor key xs k) }
-    searched (Ok at) in_range equal = record { found = record { in_range = in_range; has_key = λ d. ranked _ k _ (sym (equal d)) }; absent = tt }
+    searched (Ok at) in_range equal =
+        record { found = record { in_range = in_range; has_key = λ d. ranked _ k _ (sym (equal d)) }; absent = tt }
     searched (Err at) in_range parted = record {
       found = tt;
       absent = record {
@@ -75,10 +100,17 @@ module _ {X V : Type 0} (key : X → ℕ) (value : X → V) where
     }
 
     -- a key above the last goes to the end
-    pub gap_at_end : (last : ℕ) → last + 1 ≡ length xs → ((d : X) → key (get_or xs last d) < k) → IsGapFor key xs k (length xs)
+    pub gap_at_end : (last : ℕ) → last + 1 ≡ length xs → ((d : X) → key (get_or xs last d) < k)
+        → IsGapFor key xs k (length xs)
     gap_at_end last is_last below = record {
       in_range = omega arith;
-      smaller_before = λ i d lt. grind (arith, ascending i last d, below d, λ (same : i ≡ last). ap (λ n. key (get_or xs n d)) same);
+      smaller_before = λ i d lt. grind (
+        arith,
+        ascending i last d,
+        below d,
+        λ (same : i
+            ≡ last). ap (λ n. key (get_or xs n d)) same,
+      );
       greater_after = λ i d le lt. absurd (omega arith);
     }
 
@@ -91,17 +123,23 @@ module _ {X V : Type 0} (key : X → ℕ) (value : X → V) where
 
   -- a list in which a look-up finds what it did, and y, is the map with y put in
   inserted : (xs ys : List X) (y : X)
-      → ((q : ℕ) → find nat_cmp q (pairs key value ys) ≡ cond (eq_by_cmp nat_cmp q (key y)) (Some (value y)) (find nat_cmp q (pairs key value xs)))
+      → ((q : ℕ) → find nat_cmp q (pairs key value ys)
+      ≡ cond (eq_by_cmp nat_cmp q (key y)) (Some (value y)) (find nat_cmp q (pairs key value xs)))
       → rows ys ≡ finite.insert (rows xs) (key y) (value y)
   inserted xs ys y finds = same_map nat_cmp_total nat_cmp-IsAntisymmetric _ _ (λ q.
       get-rows ys q ∙ finds q
-      ∙ sym (get-insert nat_cmp_total (rows xs) (key y) (value y) q ∙ ap (cond (eq_by_cmp nat_cmp q (key y)) (Some (value y))) (get-rows xs q)))
+      ∙ sym (get-insert nat_cmp_total (rows xs) (key y) (value y) q
+      ∙ ap (cond (eq_by_cmp nat_cmp q (key y)) (Some (value y))) (get-rows xs q)))
 
-  pub get-filled : (f : X → X) (v : V) → ((x : X) → key (f x) ≡ key x) → ((x : X) → value (f x) ≡ v) → (xs : List X) (q : ℕ) → get (rows (map f xs)) q ≡ option_map (λ _. v) (get (rows xs) q)
-  get-filled f v keeps writes xs q = get-rows (map f xs) q ∙ find_filled f v keeps writes xs q ∙ ap (option_map (λ _. v)) (sym (get-rows xs q))
+  pub get-filled : (f : X → X) (v : V) → ((x : X) → key (f x) ≡ key x) → ((x : X) → value (f x) ≡ v)
+      → (xs : List X) (q : ℕ) → get (rows (map f xs)) q ≡ option_map (λ _. v) (get (rows xs) q)
+  get-filled f v keeps writes xs q = get-rows (map f xs) q ∙ find_filled f v keeps writes xs q
+      ∙ ap (option_map (λ _. v)) (sym (get-rows xs q))
 
-  pub ascending-filled : (f : X → X) → ((x : X) → key (f x) ≡ key x) → (xs : List X) → IsAscending key xs → IsAscending key (map f xs)
-  ascending-filled f keeps xs ascending i j d lt in_range = grind (arith, common_steps, ascending i j d, keeps (get_or xs i d), keeps (get_or xs j d))
+  pub ascending-filled : (f : X → X) → ((x : X) → key (f x) ≡ key x) → (xs : List X) → IsAscending key xs
+      → IsAscending key (map f xs)
+  ascending-filled f keeps xs ascending i j d lt in_range =
+      grind (arith, common_steps, ascending i j d, keeps (get_or xs i d), keeps (get_or xs j d))
 
   module _ (xs : List X) (k at : ℕ) (is_at : IsAt key xs k at) (ascending : IsAscending key xs) where
     none_before_at : NoneBefore xs k at
@@ -113,16 +151,28 @@ module _ {X V : Type 0} (key : X → ℕ) (value : X → V) where
 
     -- writing over its element puts a value there
     pub rows-set : (y : X) → key y ≡ k → rows (set xs at y) ≡ finite.insert (rows xs) (key y) (value y)
-    rows-set y e = inserted xs _ y (find_set xs at y is_at.in_range (λ d. is_at.has_key d ∙ sym e) (subst (λ n. NoneBefore xs n at) (sym e) none_before_at))
+    rows-set y e = inserted xs _ y (find_set xs at y is_at.in_range (λ d. is_at.has_key d
+        ∙ sym e) (subst (λ n. NoneBefore xs n at) (sym e) none_before_at))
 
     -- and keeps the order, since every key stays
     pub ascending-set : (y : X) → key y ≡ k → IsAscending key (set xs at y)
-    ascending-set y e i j d lt in_range = grind (arith, common_steps, e, ascending i j d, ascending i at d, ascending at j d, is_at.in_range, is_at.has_key d)
+    ascending-set y e i j d lt in_range =
+        grind (
+          arith,
+          common_steps,
+          e,
+          ascending i j d,
+          ascending i at d,
+          ascending at j d,
+          is_at.in_range,
+          is_at.has_key d,
+        )
 
   module _ (xs : List X) (k at : ℕ) (gap : IsGapFor key xs k at) where
     -- a key that has a gap is not found
     pub get_in_gap : get (rows xs) k ≡ None
-    get_in_gap = get-rows xs k ∙ find_absent xs k (λ i d lt same. grind (arith, gap.smaller_before i d, gap.greater_after i d))
+    get_in_gap = get-rows xs k
+        ∙ find_absent xs k (λ i d lt same. grind (arith, gap.smaller_before i d, gap.greater_after i d))
 
     pub not_in_gap : IsSome (get (rows xs) k) → ⊥
     not_in_gap found = false≢true (subst IsSome get_in_gap found)
@@ -136,10 +186,13 @@ module _ {X V : Type 0} (key : X → ℕ) (value : X → V) where
     ascending-insert y e ascending i j d lt in_range =
         let new = insert xs at y in
         let length_new = length-insert xs at y gap.in_range in
-        let below : (n : ℕ) → n < at → key (get_or new n d) ≡ key (get_or xs n d) = λ n h. ap key (get_or-insert_below xs at y d n h gap.in_range) in
-        let here : (n : ℕ) → n ≡ at → key (get_or new n d) ≡ k = λ n h. rw h (ap key (get_or-insert_at xs at y d gap.in_range) ∙ e) in
+        let below : (n : ℕ) → n < at → key (get_or new n d) ≡ key (get_or xs n d) =
+        λ n h. ap key (get_or-insert_below xs at y d n h gap.in_range) in
+        let here : (n : ℕ) → n ≡ at → key (get_or new n d)
+        ≡ k = λ n h. rw h (ap key (get_or-insert_at xs at y d gap.in_range) ∙ e) in
         let above : (n : ℕ) → at < n → key (get_or new n d) ≡ key (get_or xs (n - 1) d) =
-        λ n h. subst (λ m. key (get_or new m d) ≡ key (get_or xs (n - 1) d)) {x = n - 1 + 1} (omega arith) (ap key (get_or-insert_above xs at y d (n - 1) (omega arith) gap.in_range)) in
+        λ n h. subst (λ m. key (get_or new m d) ≡ key (get_or xs (n - 1) d)) {x = n - 1 + 1} (omega arith)
+        (ap key (get_or-insert_above xs at y d (n - 1) (omega arith) gap.in_range)) in
         grind (
           arith,
           below i,

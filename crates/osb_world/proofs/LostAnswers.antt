@@ -18,13 +18,15 @@ use Rattle.osb_world.proofs.Possibility.{cell, moved_on}
 use Rattle.osb_world.proofs.Provisions as Provisions
 use Rattle.osb_world.proofs.Deprovisions as Deprovisions
 
-pub kept_lose : (cat : Catalogue) (id : ℕ) (p : Option PlatformRow) (b : Option BrokerRow) (o : Option Request) (t : Option Answer)
+pub kept_lose : (cat : Catalogue) (id : ℕ) (p : Option PlatformRow) (b : Option BrokerRow) (o : Option Request)
+    (t : Option Answer)
     → IsPossibleParts cat id p b o t → IsPossible cat id (changed_cell cat (cell p b o t) (Event.Lose id))
 kept_lose cat id None b o t h = (h.0, h.1, refl)
 kept_lose cat id (Some row) b o t h = moved_on cat id row b b o t None h (λ f. cc) h.same h.holds tt
 
 -- no state asks for a body that can be read
-garbled_travels : (mode : Option Mode) (s : State) (b : Option BrokerRow) (o : Option Request) (a : Answer) → TravelsByState mode s b o a
+garbled_travels : (mode : Option Mode) (s : State) (b : Option BrokerRow) (o : Option Request) (a : Answer)
+    → TravelsByState mode s b o a
     → TravelsByState mode s b o (unreadable a.status)
 garbled_travels mode Wanted b o a h = record { made = h.made; started = h.started; refused = h.refused }
 garbled_travels mode Polling b o a h = λ e f. cc
@@ -32,15 +34,18 @@ garbled_travels mode Cleaning b o a h = record { deleted = h.deleted; started = 
 garbled_travels mode CleaningPolling b o a h = record { deleted = h.deleted; never = λ e f. cc }
 garbled_travels mode s b o a h = h
 
-pub kept_garble : (cat : Catalogue) (id : ℕ) (p : Option PlatformRow) (b : Option BrokerRow) (o : Option Request) (t : Option Answer)
+pub kept_garble : (cat : Catalogue) (id : ℕ) (p : Option PlatformRow) (b : Option BrokerRow) (o : Option Request)
+    (t : Option Answer)
     → IsPossibleParts cat id p b o t → IsPossible cat id (changed_cell cat (cell p b o t) (Event.Garble id))
 kept_garble cat id p b o None h = h
 kept_garble cat id None b o (Some a) h = let f = h.2 in cc
 kept_garble cat id (Some row) b o (Some a) h =
-    moved_on cat id row b b o (Some a) (Some (unreadable a.status)) h h.travels h.same h.holds (garbled_travels _ row.state b o a h.answer)
+    moved_on cat id row b b o (Some a) (Some (unreadable a.status)) h h.travels h.same h.holds
+    (garbled_travels _ row.state b o a h.answer)
 
 -- a status of 500 to 599 tells nothing, in any state
-gateway_travels : (mode : Option Mode) (s : State) (b : Option BrokerRow) (r : Request) (n : ℕ) → OutByState s (Some r) → 500 ≤ n
+gateway_travels : (mode : Option Mode) (s : State) (b : Option BrokerRow) (r : Request) (n : ℕ) → OutByState s (Some r)
+    → 500 ≤ n
     → TravelsByState mode s b (Some r) (unreadable n)
 gateway_travels mode Wanted b r n sent high = Provisions.told_failed mode b (Some r) n _ high
 gateway_travels mode Polling b r n sent high = λ e f. cc
@@ -51,7 +56,8 @@ gateway_travels mode s b r n sent high = let f = sent.0 in cc
 is_server_error : (n : ℕ) → is_within 500 599 n ≡ true → 500 ≤ n
 is_server_error n h = grind (arith, nat_tests)
 
-pub kept_gateway : (cat : Catalogue) (id status : ℕ) (p : Option PlatformRow) (b : Option BrokerRow) (o : Option Request)
+pub kept_gateway : (cat : Catalogue) (id status : ℕ) (p : Option PlatformRow) (b : Option BrokerRow)
+    (o : Option Request)
     (t : Option Answer) → (is_some o && is_within 500 599 status) ≡ true → IsPossibleParts cat id p b o t
     → IsPossible cat id (changed_cell cat (cell p b o t) (Event.Gateway id status))
 kept_gateway cat id status p b None t on h = cc

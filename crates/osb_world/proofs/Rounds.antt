@@ -51,9 +51,11 @@ stays : (s : State) → OutByState s None → after_timeout s ≡ s
 stays Wanted sent = absurd sent
 stays s sent = refl
 
-given_up : (cat : Catalogue) (id : ℕ) (row : PlatformRow) (b : Option BrokerRow) (o : Option Request) (t : Option Answer)
+given_up : (cat : Catalogue) (id : ℕ) (row : PlatformRow) (b : Option BrokerRow) (o : Option Request)
+    (t : Option Answer)
     → IsPossibleRow cat id row b o t
-    → cell_step cat (cell (Some row) b o t) (Event.Timeout id) ≡ resting row.service row.plan (after_timeout row.state) b
+    → cell_step cat (cell (Some row) b o t) (Event.Timeout id)
+    ≡ resting row.service row.plan (after_timeout row.state) b
 given_up cat id row b (Some r) t h = refl
 given_up cat id row b None (Some a) h = let f = h.travels refl in cc
 given_up cat id row b None None h =
@@ -98,9 +100,11 @@ accepted m b Phase.Deleting off = cc
 accepted Sync b p off = tt
 accepted Async b p off = refl
 
-deletion_begins : (mode : Option Mode) (b : BrokerRow) (r : Request) → IsSome mode → same_plan b r ≡ true → r.accepts_incomplete ≡ true
+deletion_begins : (mode : Option Mode) (b : BrokerRow) (r : Request) → IsSome mode → same_plan b r ≡ true
+    → r.accepts_incomplete ≡ true
     → is_running_in b.phase ≡ false
-    → IsInOne (state_after_deprovision (deprovision_at mode (Some b) r Done).answer) (deprovision_at mode (Some b) r Done).row
+    → IsInOne (state_after_deprovision (deprovision_at mode (Some b) r Done).answer)
+    (deprovision_at mode (Some b) r Done).row
 deletion_begins None b r known same accepts off = cc
 deletion_begins (Some Sync) b r known same accepts off = rw same (accepted Sync b b.phase off)
 deletion_begins (Some Async) b r known same accepts off = rw (same, accepts) (accepted Async b b.phase off)
@@ -113,7 +117,8 @@ cleaned cat id service plan (Some b) off h =
     deletion_begins _ b (request_of Deprovision id service plan true) (on_sale cat service plan b h.same)
     (is_same_plan service plan Deprovision id true b h.same.same_service h.same.same_plan) refl off
 
-polled_making : (b : Option BrokerRow) (p : Phase) → is_running_in p ≡ false → IsInTwo (state_after_poll Polling (own_poll p Done)) b
+polled_making : (b : Option BrokerRow) (p : Phase) → is_running_in p ≡ false
+    → IsInTwo (state_after_poll Polling (own_poll p Done)) b
 polled_making b Phase.Making off = cc
 polled_making b Phase.Deleting off = cc
 polled_making b p off = tt
@@ -128,22 +133,26 @@ in_two_too : (s : State) (b : Option BrokerRow) → IsInOne s b → IsInTwo s b
 in_two_too Cleaning b h = tt
 in_two_too s b h = h
 
-nearer : (p : Option PlatformRow) (b : Option BrokerRow) → IfSome p (λ row. IsInOne row.state b) → IfSome p (λ row. IsInTwo row.state b)
+nearer : (p : Option PlatformRow) (b : Option BrokerRow) → IfSome p (λ row. IsInOne row.state b)
+    → IfSome p (λ row. IsInTwo row.state b)
 nearer None b h = tt
 nearer (Some row) b h = in_two_too row.state b h
 
 in_two : (cat : Catalogue) (id service plan : ℕ) (s : State) (b : Option BrokerRow) → IsQuiet b
-    → IsPossibleRow cat id (row_in service plan s None) b None None → Is IsInTwo (exchanged cat id (resting service plan s b))
+    → IsPossibleRow cat id (row_in service plan s None) b None None
+    → Is IsInTwo (exchanged cat id (resting service plan s b))
 in_two cat id service plan Wanted b off h = absurd h.sent
 in_two cat id service plan Polling None off h = absurd h.holds.0
 in_two cat id service plan Polling (Some b) off h =
-    rw (is_same_plan service plan Poll id true b h.same.same_service h.same.same_plan) (polled_making (Some b) b.phase off)
+    rw (is_same_plan service plan Poll id true b h.same.same_service h.same.same_plan)
+    (polled_making (Some b) b.phase off)
 in_two cat id service plan Cleaning b off h =
     let c : Cell = exchanged cat id (resting service plan Cleaning b) in
     nearer c.platform c.broker (cleaned cat id service plan b off h)
 in_two cat id service plan CleaningPolling None off h = tt
 in_two cat id service plan CleaningPolling (Some b) off h =
-    rw (is_same_plan service plan Poll id true b h.same.same_service h.same.same_plan) (polled_deleting (Some b) b.phase off)
+    rw (is_same_plan service plan Poll id true b h.same.same_service h.same.same_plan)
+    (polled_deleting (Some b) b.phase off)
 in_two cat id service plan s b off h = tt
 
 in_one : (cat : Catalogue) (id service plan : ℕ) (s : State) (b : Option BrokerRow) → IsInTwo s b
@@ -168,7 +177,8 @@ in_none cat id service plan s b near = tt
 pub own : (id : ℕ) → (id == id) ≡ true
 own id = grind (arith, nat_tests)
 
-round_is : (cat : Catalogue) (id : ℕ) (row : PlatformRow) (b : Option BrokerRow) (o : Option Request) (t : Option Answer)
+round_is : (cat : Catalogue) (id : ℕ) (row : PlatformRow) (b : Option BrokerRow) (o : Option Request)
+    (t : Option Answer)
     → IsPossibleRow cat id row b o t
     → after_round cat id (cell (Some row) b o t)
     ≡ exchanged cat id (resting row.service row.plan (after_timeout row.state) (finished b true))
@@ -176,29 +186,35 @@ round_is cat id row b o t h =
     ap (λ (c : Cell). exchanged cat id (cell_step cat c (Event.Finish id true))) (given_up cat id row b o t h)
     ∙ ap (exchanged cat id) (ended cat id row.service row.plan (after_timeout row.state) b)
 
-kept_ended : (cat : Catalogue) (id : ℕ) (row : PlatformRow) (b : Option BrokerRow) (o : Option Request) (t : Option Answer)
+kept_ended : (cat : Catalogue) (id : ℕ) (row : PlatformRow) (b : Option BrokerRow) (o : Option Request)
+    (t : Option Answer)
     → IsPossibleRow cat id row b o t
     → IsPossibleRow cat id (row_in row.service row.plan (after_timeout row.state) None) (finished b true) None None
 kept_ended cat id row b o t h =
     subst (IsPossible cat id) (ended cat id row.service row.plan (after_timeout row.state) b)
     (kept_step cat id (resting row.service row.plan (after_timeout row.state) b) (Event.Finish id true) (own id)
-    (subst (IsPossible cat id) (given_up cat id row b o t h) (kept_step cat id (cell (Some row) b o t) (Event.Timeout id) (own id) h)))
+    (subst (IsPossible cat id) (given_up cat id row b o t h)
+    (kept_step cat id (cell (Some row) b o t) (Event.Timeout id) (own id) h)))
 
-first_round : (cat : Catalogue) (id : ℕ) (p : Option PlatformRow) (b : Option BrokerRow) (o : Option Request) (t : Option Answer)
+first_round : (cat : Catalogue) (id : ℕ) (p : Option PlatformRow) (b : Option BrokerRow) (o : Option Request)
+    (t : Option Answer)
     → IsPossible cat id (cell p b o t) → Is IsInTwo (after_round cat id (cell p b o t))
 first_round cat id None b o t h = rw (h.0, h.1, h.2) tt
 first_round cat id (Some row) b o t h =
     subst (Is IsInTwo) (sym (round_is cat id row b o t h))
-    (in_two cat id row.service row.plan (after_timeout row.state) (finished b true) (quiet_after b) (kept_ended cat id row b o t h))
+    (in_two cat id row.service row.plan (after_timeout row.state) (finished b true) (quiet_after b)
+    (kept_ended cat id row b o t h))
 
-second_round : (cat : Catalogue) (id : ℕ) (p : Option PlatformRow) (b : Option BrokerRow) (o : Option Request) (t : Option Answer)
+second_round : (cat : Catalogue) (id : ℕ) (p : Option PlatformRow) (b : Option BrokerRow) (o : Option Request)
+    (t : Option Answer)
     → IsPossible cat id (cell p b o t) → Is IsInTwo (cell p b o t) → Is IsInOne (after_round cat id (cell p b o t))
 second_round cat id None b o t h near = rw (h.0, h.1, h.2) tt
 second_round cat id (Some row) b o t h near =
     subst (Is IsInOne) (sym (round_is cat id row b o t h))
     (in_one cat id row.service row.plan row.state b near (kept_ended cat id row b o t h))
 
-third_round : (cat : Catalogue) (id : ℕ) (p : Option PlatformRow) (b : Option BrokerRow) (o : Option Request) (t : Option Answer)
+third_round : (cat : Catalogue) (id : ℕ) (p : Option PlatformRow) (b : Option BrokerRow) (o : Option Request)
+    (t : Option Answer)
     → IsPossible cat id (cell p b o t) → Is IsInOne (cell p b o t) → IsSettled (after_round cat id (cell p b o t))
 third_round cat id None b o t h near = rw (h.0, h.1, h.2) tt
 third_round cat id (Some row) b o t h near =
@@ -218,7 +234,8 @@ three_rounds_settle cat id c h =
     let e : Cell = after_round cat id d in
     let kept : IsPossible cat id d = kept_round cat id c h in
     third_round cat id e.platform e.broker e.out e.travelling (kept_round cat id d kept)
-    (second_round cat id d.platform d.broker d.out d.travelling kept (first_round cat id c.platform c.broker c.out c.travelling h))
+    (second_round cat id d.platform d.broker d.out d.travelling kept
+    (first_round cat id c.platform c.broker c.out c.travelling h))
 
 -- ---- the delivery takes no memory: what is sent after the Timeout is no Provision
 
@@ -228,27 +245,32 @@ sent_free cat id service plan Wanted b sent = absurd sent
 sent_free cat id service plan s None sent = refl
 sent_free cat id service plan s (Some b) sent = refl
 
-free_parts : (cat : Catalogue) (id : ℕ) (p : Option PlatformRow) (b : Option BrokerRow) (o : Option Request) (t : Option Answer)
+free_parts : (cat : Catalogue) (id : ℕ) (p : Option PlatformRow) (b : Option BrokerRow) (o : Option Request)
+    (t : Option Answer)
     → IsPossible cat id (cell p b o t)
-    → takes_memory cat (cell_steps cat (cell p b o t) (Event.Timeout id ∷ Event.Finish id true ∷ Event.Send id ∷ [])) (Event.Deliver id Done)
+    → takes_memory cat (cell_steps cat (cell p b o t) (Event.Timeout id ∷ Event.Finish id true ∷ Event.Send id ∷ []))
+    (Event.Deliver id Done)
     ≡ false
 free_parts cat id None b o t h = rw (h.0, h.1) refl
 free_parts cat id (Some row) b o t h =
     let service = row.service in
     let plan = row.plan in
-    ap (λ (c : Cell). takes_memory cat (cell_step cat (cell_step cat c (Event.Finish id true)) (Event.Send id)) (Event.Deliver id Done))
+    ap (λ (c : Cell). takes_memory cat (cell_step cat (cell_step cat c (Event.Finish id true)) (Event.Send id))
+    (Event.Deliver id Done))
     (given_up cat id row b o t h)
     ∙ ap (λ (c : Cell). takes_memory cat (cell_step cat c (Event.Send id)) (Event.Deliver id Done))
     (ended cat id service plan (after_timeout row.state) b)
     ∙ sent_free cat id service plan (after_timeout row.state) (finished b true) (kept_ended cat id row b o t h).sent
 
 -- so it is in a world that has come as far
-pub free_delivery : (start out ended now : WorldState) (id : ℕ) → IsSound start → IsStepOf start out id (Event.Timeout id)
+pub free_delivery : (start out ended now : WorldState) (id : ℕ) → IsSound start
+    → IsStepOf start out id (Event.Timeout id)
     → IsStepOf out ended id (Event.Finish id true) → IsStepOf ended now id (Event.Send id)
     → takes_memory (catalogue_of now) (cell_at now id) (Event.Deliver id Done) ≡ false
 free_delivery start out ended now id sound timeout finish send =
     let catalogue : catalogue_of ended ≡ catalogue_of start = finish.catalogue ∙ timeout.catalogue in
-    let cell : cell_at ended id ≡ cell_steps (catalogue_of start) (cell_at start id) (Event.Timeout id ∷ Event.Finish id true ∷ []) =
+    let cell : cell_at ended id
+    ≡ cell_steps (catalogue_of start) (cell_at start id) (Event.Timeout id ∷ Event.Finish id true ∷ []) =
     finish.here ∙ (λ i. cell_step (timeout.catalogue i) (timeout.here i) (Event.Finish id true)) in
     let c : Cell = cell_at start id in
     (λ i. takes_memory (send.catalogue i) (send.here i) (Event.Deliver id Done))
@@ -265,6 +287,7 @@ pub settled_after : (start first second third : WorldState) (id : ℕ)
     → cell_at third id ≡ settled_cell (catalogue_of start) id (cell_at start id)
 settled_after start first second third id one two three same_one same_two =
     let same : catalogue_of second ≡ catalogue_of start = same_two ∙ same_one in
-    let cell : cell_at second id ≡ after_round (catalogue_of start) id (after_round (catalogue_of start) id (cell_at start id)) =
+    let cell : cell_at second id
+    ≡ after_round (catalogue_of start) id (after_round (catalogue_of start) id (cell_at start id)) =
     two ∙ (λ i. after_round (same_one i) id (one i)) in
     three ∙ (λ i. after_round (same i) id (cell i))

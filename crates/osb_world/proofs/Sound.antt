@@ -1,7 +1,8 @@
 -- What holds of every world holds after every step, and of every list of events.
 use Rattle.std.proofs.Common.{◌≡◌, ℕ, Bool, true, false, refl, sym, ap, ◌∙◌, subst, ⊎_elim}
 use Rattle.std.proofs.lemmas.Bool.{cases_eq}
-use Rattle.std.specs.Prelude.{Result, Ok, Err, IsOk, IfOk, OnOk, OnErr, Option, None, Some, is_some, List, [], ◌∷◌, if◌then◌else◌}
+use Rattle.std.specs.Prelude.{Result, Ok, Err, IsOk, IfOk, OnOk, OnErr, Option, None, Some, is_some, List, [], ◌∷◌}
+use Rattle.std.specs.Prelude.{if◌then◌else◌}
 use Rattle.osb_message.specs.declared.memory.Memory.{Memory}
 use Rattle.osb_message.specs.declared.messages.Request.{Request}
 use Rattle.osb_broker.specs.Answers.{Catalogue}
@@ -30,7 +31,8 @@ sound_after old new e (Ok s) sound ok err cat placed =
 sound_after old new e (Err m) sound ok err cat placed =
     record { possible = λ id. moved _ _ id _ _ cat (err.cells id) (sound.possible id); placed = placed }
 
-pub sound_step : (old new : WorldState) (id : ℕ) (e : Event) → is_of id e ≡ true → IsSound old → IsStepOf old new id e → IsPlaced new
+pub sound_step : (old new : WorldState) (id : ℕ) (e : Event) → is_of id e ≡ true → IsSound old → IsStepOf old new id e
+    → IsPlaced new
     → IsSound new
 sound_step old new id e mine sound step placed = record {
   possible = λ q. ⊎_elim
@@ -57,11 +59,13 @@ pub agrees_after : (cat : Catalogue) (id : ℕ) (events : List Event) → Agrees
 agrees_after cat id events = agrees cat id _ (kept_steps cat id events empty_cell (possible_empty cat id))
 
 -- an event that doesn't apply takes no memory
-none_made : (cat : Catalogue) (row : Option BrokerRow) (outcome : Outcome) (o : Option Request) → is_some o ≡ false → makes_row_for cat row outcome o ≡ false
+none_made : (cat : Catalogue) (row : Option BrokerRow) (outcome : Outcome) (o : Option Request) → is_some o ≡ false
+    → makes_row_for cat row outcome o ≡ false
 none_made cat row outcome None off = refl
 none_made cat row outcome (Some r) off = cc
 
-pub skips_free : (cat : Catalogue) (cells : ℕ → Cell) (e : Event) → applies_at cells e ≡ false → takes_memory_at cat cells e ≡ false
+pub skips_free : (cat : Catalogue) (cells : ℕ → Cell) (e : Event) → applies_at cells e ≡ false
+    → takes_memory_at cat cells e ≡ false
 skips_free cat cells (Event.Create id service plan accepts) off = off
 skips_free cat cells (Event.Deliver id outcome) off = none_made cat (cells id).broker outcome (cells id).out off
 skips_free cat cells (Event.Repeat id outcome) off = rw off refl
@@ -69,7 +73,8 @@ skips_free cat cells Event.Restart off = cc
 skips_free cat cells e off = refl
 
 -- a step that found memory, of an event that doesn't apply
-pub skipped : (result : Result Step Memory) (on : Bool) → IfOk result (λ step. step ≡ step_of on) → IsOk result → on ≡ false
+pub skipped : (result : Result Step Memory) (on : Bool) → IfOk result (λ step. step ≡ step_of on) → IsOk result → on
+    ≡ false
     → result ≡ Ok Step.Skipped
 skipped (Ok step) on told ok off = ap Ok (told ∙ ap step_of off)
 skipped (Err memory) on told ok off = cc

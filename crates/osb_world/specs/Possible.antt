@@ -122,7 +122,7 @@ pub record IsPossibleRow (catalogue : Catalogue) (id : ℕ) (row : PlatformRow)
     (broker : Option BrokerRow) (out : Option Request) (travelling : Option Answer) : Type 0 where
   -- an answer travels only while a request is out
   pub travels : IsSome travelling → IsSome out
-  -- the request out is the instance's, and of the kind that the platform has outstanding
+  -- the request out is the instance's, and of the kind that the platform has out
   pub request : IfSome out (IsRequestOf id row.service row.plan)
   pub kind : row.out ≡ option_map (λ request. request.kind) out
   pub sent : OutByState row.state out

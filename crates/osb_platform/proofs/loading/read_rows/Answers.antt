@@ -7,5 +7,10 @@ use Rattle.osb_platform.proofs.loading.read_rows.Goals as goal
 pub returns-clause-rows : goal.returns-clause-rows
 returns-clause-rows c =
     IfOk-weaker c.read_members.result _ _
-    (λ rows h. (from_entries h.0, named_rows c.args.text.now _ _ h.0 c.in-Ok.ensures.ok c.in_ok-members.ensures.ok (search rules) h.1, h.2))
+    (λ rows h. (
+      from_entries h.0,
+      named_rows c.args.text.now _ _ h.0 c.in-Ok.ensures.ok c.in_ok-members.ensures.ok
+          (search rules) h.1,
+      h.2,
+    ))
     c.read_members.ensures.rows

@@ -5,8 +5,13 @@ use Rattle.osb_replay.proofs.command_line.read_flag.Goals as goal
 
 pub returns-in-Some : goal.returns-in-Some
 returns-in-Some c =
-    record { value = flag_some (found_of c.args.matches.now) c.args.name.now c.in-Some.value c.in-Some.ensures.value c.in-Some.ensures.none }
+    record {
+      value = flag_some (found_of c.args.matches.now) c.args.name.now c.in-Some.value c.in-Some.ensures.value
+          c.in-Some.ensures.none;
+    }
 
 pub returns-in-None : goal.returns-in-None
 returns-in-None c =
-    record { value = flag_none (found_of c.args.matches.now) c.args.name.now (λ t e. (c.in-None.ensures.value t e).1.0) }
+    record {
+      value = flag_none (found_of c.args.matches.now) c.args.name.now (λ t e. (c.in-None.ensures.value t e).1.0);
+    }

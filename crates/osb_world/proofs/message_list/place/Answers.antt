@@ -10,7 +10,8 @@ use Rattle.osb_world.proofs.message_list.place.Goals as goal
 pub returns-in-Less-clause-absent : goal.returns-in-Less-clause-absent
 returns-in-Less-clause-absent c =
     let item = c.in-Some.ensures.item in
-    let below : c.in-Some.last.now.value.id < c.args.id = ranked _ _ _ (sym c.in-Less.is ∙ c.cmp.ensures ∙ ap (λ e. nat_cmp e.id c.args.id) c.deref.ensures) in
+    let below : c.in-Some.last.now.value.id < c.args.id =
+    ranked _ _ _ (sym c.in-Less.is ∙ c.cmp.ensures ∙ ap (λ e. nat_cmp e.id c.args.id) c.deref.ensures) in
     gap_at_end id_of messages_of c.args.entries.now c.requires.ascending c.args.id (length c.args.entries.now - 1)
     (omega (arith, item.3.0)) (λ d. subst (λ e. e.value.id < c.args.id) (item.3.1 d) below)
 

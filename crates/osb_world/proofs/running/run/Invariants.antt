@@ -6,6 +6,7 @@ use Rattle.osb_world.proofs.running.run.Given as goal
 -- each cell so far, stepped through what is left of its events, is its cell in the end
 abbrev pub invariant-loop-event : goal.invariant-loop-event
 invariant-loop-event l = record {
-  cells : (id : ℕ) → cell_steps l.fn.catalogue (cell_at l.world id) (events_of id (drop l.event-index l.events)) ≡ cell_after l.fn.catalogue id l.events;
+  cells : (id : ℕ) → cell_steps l.fn.catalogue (cell_at l.world id) (events_of id (drop l.event-index l.events))
+      ≡ cell_after l.fn.catalogue id l.events;
   catalogue : catalogue_of l.world ≡ l.fn.catalogue;
 }

@@ -8,5 +8,6 @@ use Rattle.osb_platform.proofs.platform.Platform.ids.Goals as goal
 pub returns-clause-recorded : goal.returns-clause-recorded
 returns-clause-recorded c =
     IfOk-weaker c.ids.result _ _
-    (λ ids h q. subst (λ m. Contains ids.items q ↔ IsSome (get m q)) c.self.view_is (keys_recorded c.self.inside.rows ids.items h q))
+    (λ ids h q. subst (λ m. Contains ids.items q ↔ IsSome (get m q)) c.self.view_is
+    (keys_recorded c.self.inside.rows ids.items h q))
     c.ids.ensures.keys

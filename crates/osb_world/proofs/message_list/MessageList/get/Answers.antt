@@ -10,7 +10,8 @@ returns-in-Ok c = record {
   found =
       ap (λ e. Some e.messages) c.deref-in-Ok.ensures
       ∙ ap (λ b. Some b.value.messages) c.index.ensures
-      ∙ sym (get_at id_of messages_of c.self.inside.entries.items c.args.id c.in-Ok.at (rw (← c.deref.ensures.value) c.in-Ok.ensures.found) c.self.invariant c.index.result.now)
+      ∙ sym (get_at id_of messages_of c.self.inside.entries.items c.args.id c.in-Ok.at
+      (rw (← c.deref.ensures.value) c.in-Ok.ensures.found) c.self.invariant c.index.result.now)
       ∙ ap (λ m. get m c.args.id) c.self.view_is;
 }
 
@@ -18,6 +19,7 @@ returns-in-Ok c = record {
 pub returns-in-Err : goal.returns-in-Err
 returns-in-Err c = record {
   found =
-      sym (get_in_gap id_of messages_of c.self.inside.entries.items c.args.id c.in-Err.field-0 (rw (← c.deref.ensures.value) c.in-Err.ensures.absent))
+      sym (get_in_gap id_of messages_of c.self.inside.entries.items c.args.id c.in-Err.field-0
+      (rw (← c.deref.ensures.value) c.in-Err.ensures.absent))
       ∙ ap (λ m. get m c.args.id) c.self.view_is;
 }

@@ -7,7 +7,8 @@ use Rattle.osb_world.proofs.message_list.MessageList.silence_all.Goals as goal
 
 pub invariant_of-self : goal.invariant_of-self
 invariant_of-self c =
-    rw c.silence_entries.ensures.silenced (ascending-filled id_of messages_of silenced (λ e. refl) c.self.inside.entries.items c.self.invariant)
+    rw c.silence_entries.ensures.silenced
+    (ascending-filled id_of messages_of silenced (λ e. refl) c.self.inside.entries.items c.self.invariant)
 
 pub returns : goal.returns
 returns c = record {

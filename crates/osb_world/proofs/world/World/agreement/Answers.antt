@@ -7,4 +7,5 @@ pub returns-clause-possible : goal.returns-clause-possible
 returns-clause-possible c = (subst IsSound c.self.view_is c.self.invariant).possible
 
 pub returns-clause-agrees : goal.returns-clause-agrees
-returns-clause-agrees c = λ id. let sound = subst IsSound c.self.view_is c.self.invariant in agrees _ id _ (sound.possible id)
+returns-clause-agrees c = λ id. let sound = subst IsSound c.self.view_is c.self.invariant in
+    agrees _ id _ (sound.possible id)

@@ -7,7 +7,8 @@ use Rattle.osb_world.proofs.world.World.settle.Goals as goal
 
 pub returns-clause-cell : goal.returns-clause-cell
 returns-clause-cell c =
-    subst (λ (start : WorldState). cell_at c.settle.new.self c.args.id ≡ settled_cell (catalogue_of start) c.args.id (cell_at start c.args.id)) c.self.view_is
+    subst (λ (start : WorldState). cell_at c.settle.new.self c.args.id
+    ≡ settled_cell (catalogue_of start) c.args.id (cell_at start c.args.id)) c.self.view_is
     c.settle.ensures.cell
 
 pub returns-clause-always : goal.returns-clause-always
