@@ -84,37 +84,46 @@ fn case_after(alloc: Global, events: &[Event], call: Call) -> Result<WorldCase> 
     })
 }
 
-fn step_name(event: &Event) -> &'static str {
-    match event {
-        Event::Create { .. } => "World::step, Create",
-        Event::Deliver { .. } => "World::step, Deliver",
-        Event::Restart => "World::step, Restart",
-        Event::Send { .. } => "World::step, Send, without memory",
-        Event::Garble { .. } => "World::step, Garble, without memory",
-        Event::Answer { .. } => "World::step, Answer, without memory",
-        _ => "World::step",
-    }
-}
-
 // Two instances are made, the answer of one is garbled, the platform restarts and cleans that one up.
 pub fn steps(rt: &impl Print, alloc: Global) -> Result<()> {
     let events = [
-        create(first()),
-        create(second()),
-        deliver(first()),
-        deliver(second()),
-        Event::Garble { id: first() },
-        Event::Answer { id: first() },
-        Event::Answer { id: second() },
-        Event::Restart,
-        Event::Send { id: first() },
-        deliver(first()),
-        Event::Answer { id: first() },
+        (create(first()), "World::step, Create of a first instance"),
+        (create(second()), "World::step, Create of a second instance"),
+        (deliver(first()), "World::step, Deliver of a first row"),
+        (
+            deliver(second()),
+            "World::step, Deliver of a second row, without memory",
+        ),
+        (
+            Event::Garble { id: first() },
+            "World::step, Garble, without memory",
+        ),
+        (
+            Event::Answer { id: first() },
+            "World::step, Answer, without memory",
+        ),
+        (
+            Event::Answer { id: second() },
+            "World::step, Answer, without memory",
+        ),
+        (Event::Restart, "World::step, Restart"),
+        (
+            Event::Send { id: first() },
+            "World::step, Send, without memory",
+        ),
+        (
+            deliver(first()),
+            "World::step, Deliver of a deletion, without memory",
+        ),
+        (
+            Event::Answer { id: first() },
+            "World::step, Answer, without memory",
+        ),
     ];
     let mut case = case_after(alloc, &[], Call::Ids)?;
-    for event in events {
+    for (event, name) in events {
         case.call = Call::Step(event);
-        tell(rt, alloc, step_name(&event), &mut case)?;
+        tell(rt, alloc, name, &mut case)?;
     }
     Ok(())
 }
@@ -123,7 +132,7 @@ pub fn steps(rt: &impl Print, alloc: Global) -> Result<()> {
 pub fn restart(rt: &impl Print, alloc: Global) -> Result<()> {
     let events = [create(first()), deliver(first())];
     let mut case = case_after(alloc, &events, Call::Step(Event::Restart))?;
-    tell(rt, alloc, step_name(&Event::Restart), &mut case)
+    tell(rt, alloc, "World::step, Restart", &mut case)
 }
 
 pub fn ids(rt: &impl Print, alloc: Global) -> Result<()> {
