@@ -1,7 +1,7 @@
 /* The conformance suite, over the exports: each line of the mitigation table and of the record tables by
- * create, send and answer, each rule of the broker's three tables by handle, and the statuses in their
- * order. What is expected stands here by hand, from docs/platform.md and docs/broker.md. The last line
- * printed is 'N passed, M failed'. */
+ * create, send and answer, each rule of the broker's three tables by handle, an instance of each plan by calls
+ * in a row, and the statuses in their order. What is expected stands here by hand, from docs/platform.md and
+ * docs/broker.md. The last line printed is 'N passed, M failed'. */
 #include "osb.h"
 #include <stdio.h>
 #include <string.h>
@@ -292,29 +292,36 @@ static void bring_broker_to(struct osb_broker *broker, uint64_t plan, uint8_t ph
         CHECK(osb_broker_finish(broker, I, false) == OSB_DONE);
 }
 
-static void check_row(struct osb_broker *broker, uint64_t plan, uint8_t phase)
+/* Whether the broker's row of the instance has the plan and the phase, or there is none. */
+static bool holds(struct osb_broker *broker, uint64_t plan, uint8_t phase)
 {
     struct osb_broker_row row = {0};
     uint32_t status = osb_broker_row(broker, I, &row);
     if (phase == NO_ROW)
-        CHECK(status == OSB_NOT_HELD);
-    else
-        CHECK(status == OSB_DONE && row.phase == phase && row.plan.low == plan && row.service.low == 0xa0);
+        return status == OSB_NOT_HELD;
+    return status == OSB_DONE && row.phase == phase && row.plan.low == plan && row.service.low == 0xa0;
+}
+
+/* Whether the broker handles the request and gives this answer. */
+static bool answers(struct osb_broker *broker, struct osb_request request, uint8_t outcome, uint16_t status,
+                    uint8_t body)
+{
+    struct osb_answer answer = {0};
+    return osb_broker_handle(broker, &request, outcome, &answer) == OSB_DONE && answer.status == status
+        && answer.body == body;
 }
 
 static void check_rule(const struct rule *rule)
 {
     struct osb_broker broker = {0};
     struct osb_request request = asked(rule->kind, rule->plan, rule->accepts);
-    struct osb_answer answer = {0};
     int before = failed;
 
     new_broker(&broker);
     bring_broker_to(&broker, rule->row_plan, rule->phase);
-    check_row(&broker, rule->row_plan, rule->phase);
-    CHECK(osb_broker_handle(&broker, &request, rule->outcome, &answer) == OSB_DONE);
-    CHECK(answer.status == rule->status && answer.body == rule->body);
-    check_row(&broker, rule->phase == NO_ROW ? rule->plan : rule->row_plan, rule->phase_after);
+    CHECK(holds(&broker, rule->row_plan, rule->phase));
+    CHECK(answers(&broker, request, rule->outcome, rule->status, rule->body));
+    CHECK(holds(&broker, rule->phase == NO_ROW ? rule->plan : rule->row_plan, rule->phase_after));
     if (failed > before)
         printf("  kind %d, phase %d, plan %x, outcome %d\n", rule->kind, rule->phase, (unsigned)rule->plan,
                rule->outcome);
@@ -401,7 +408,55 @@ static void check_platform(void)
     osb_platform_free(&platform);
 }
 
-/* ---- The broker by itself: the statuses that no table has. */
+/* ---- The broker by itself: an instance of each plan, by calls in a row, and the statuses that no table has. */
+
+/* P, which is synchronous: made, asked for again, mistaken for one of Q, and deleted. */
+static void check_synchronous(void)
+{
+    struct osb_broker broker = {0};
+    struct osb_request of_j = asked(OSB_POLL, 0xb1, false);
+
+    of_j.id = J;
+    new_broker(&broker);
+    CHECK(answers(&broker, asked(OSB_PROVISION, 0xb1, false), OSB_WORK_DONE, 201, OSB_EMPTY));
+    CHECK(holds(&broker, 0xb1, OSB_MADE));
+    CHECK(answers(&broker, asked(OSB_PROVISION, 0xb1, false), OSB_WORK_DONE, 200, OSB_EMPTY));
+    CHECK(answers(&broker, asked(OSB_PROVISION, 0xb2, true), OSB_WORK_DONE, 409, OSB_OTHER_ERROR));
+    CHECK(answers(&broker, asked(OSB_DEPROVISION, 0xb2, false), OSB_WORK_DONE, 400, OSB_OTHER_ERROR));
+    CHECK(osb_broker_finish(&broker, I, true) == OSB_NOTHING_RUNNING);
+    CHECK(answers(&broker, of_j, OSB_WORK_DONE, 410, OSB_OTHER_ERROR));
+    CHECK(holds(&broker, 0xb1, OSB_MADE));
+    CHECK(answers(&broker, asked(OSB_DEPROVISION, 0xb1, false), OSB_FAILED_AFTER, 500, OSB_OTHER_ERROR));
+    CHECK(holds(&broker, 0xb1, NO_ROW));
+    CHECK(answers(&broker, asked(OSB_DEPROVISION, 0xb1, false), OSB_WORK_DONE, 410, OSB_OTHER_ERROR));
+    osb_broker_free(&broker);
+}
+
+/* Q, which is asynchronous: it can't be made, and is deleted at the second try. */
+static void check_asynchronous(void)
+{
+    struct osb_broker broker = {0};
+
+    new_broker(&broker);
+    CHECK(answers(&broker, asked(OSB_PROVISION, 0xb2, true), OSB_WORK_DONE, 202, OSB_EMPTY));
+    CHECK(holds(&broker, 0xb2, OSB_MAKING));
+    CHECK(answers(&broker, asked(OSB_PROVISION, 0xb2, true), OSB_WORK_DONE, 202, OSB_EMPTY));
+    CHECK(answers(&broker, asked(OSB_DEPROVISION, 0xb2, false), OSB_WORK_DONE, 422, OSB_ASYNC_REQUIRED));
+    CHECK(answers(&broker, asked(OSB_DEPROVISION, 0xb2, true), OSB_WORK_DONE, 422, OSB_CONCURRENCY_ERROR));
+    CHECK(osb_broker_finish(&broker, I, false) == OSB_DONE);
+    CHECK(holds(&broker, 0xb2, OSB_MAKE_FAILED));
+    CHECK(answers(&broker, asked(OSB_PROVISION, 0xb2, true), OSB_WORK_DONE, 500, OSB_OTHER_ERROR));
+    CHECK(answers(&broker, asked(OSB_DEPROVISION, 0xb2, true), OSB_FAILED_BEFORE, 500, OSB_OTHER_ERROR));
+    CHECK(holds(&broker, 0xb2, OSB_MAKE_FAILED));
+    CHECK(answers(&broker, asked(OSB_DEPROVISION, 0xb2, true), OSB_WORK_DONE, 202, OSB_EMPTY));
+    CHECK(holds(&broker, 0xb2, OSB_DELETING));
+    CHECK(answers(&broker, asked(OSB_PROVISION, 0xb2, true), OSB_WORK_DONE, 422, OSB_CONCURRENCY_ERROR));
+    CHECK(answers(&broker, asked(OSB_DEPROVISION, 0xb2, true), OSB_WORK_DONE, 202, OSB_EMPTY));
+    CHECK(answers(&broker, asked(OSB_POLL, 0xb2, true), OSB_WORK_DONE, 200, OSB_IN_PROGRESS));
+    CHECK(osb_broker_finish(&broker, I, true) == OSB_DONE);
+    CHECK(holds(&broker, 0xb2, NO_ROW));
+    osb_broker_free(&broker);
+}
 
 static void check_broker(void)
 {
@@ -411,6 +466,8 @@ static void check_broker(void)
     struct osb_broker_row row = {0};
     struct osb_plan plans[2];
 
+    check_synchronous();
+    check_asynchronous();
     memset(plans, 0, sizeof plans);
     plans[1].is_asynchronous = true;
     CHECK(osb_broker_handle(&broker, &request, OSB_WORK_DONE, &answer) == OSB_EMPTY_HANDLE && answer.status == 7);

@@ -25,19 +25,27 @@ static struct osb_id id_of(const char *text)
     return id;
 }
 
-/* The saved record, in memory that the caller frees. A real platform writes it to a file, before anything is
- * sent or shown. */
-static uint8_t *saved(struct osb_platform *platform, size_t *length)
+/* The saved record. A real platform writes it to a file, so that a crash leaves the old record or the new one. */
+struct saved_record {
+    uint8_t *text;
+    size_t length;
+};
+
+/* Saves the platform, in place of what was saved before. */
+static void save(struct osb_platform *platform, struct saved_record *saved)
 {
     uint8_t nothing[1], *text;
-    uint32_t status = osb_platform_save(platform, nothing, 0, length);
+    size_t length = 0;
+    uint32_t status = osb_platform_save(platform, nothing, 0, &length);
     if (status != OSB_TOO_SMALL)
         done(status, "osb_platform_save");
-    text = malloc(*length);
+    text = malloc(length);
     if (!text)
         done(OSB_MEMORY, "malloc");
-    done(osb_platform_save(platform, text, *length, length), "osb_platform_save");
-    return text;
+    done(osb_platform_save(platform, text, length, &length), "osb_platform_save");
+    free(saved->text);
+    saved->text = text;
+    saved->length = length;
 }
 
 static void show(struct osb_platform *platform, struct osb_broker *broker, struct osb_id id)
@@ -57,8 +65,7 @@ int main(void)
     struct osb_answer answer = {0};
     struct osb_id id = id_of("00000000-0000-0000-0000-000000000001");
     struct osb_plan plan = {{0}, {0}, false};
-    size_t length = 0;
-    uint8_t *text;
+    struct saved_record saved = {NULL, 0};
 
     plan.service = id_of("00000000-0000-0000-0000-0000000000a0");
     plan.plan = id_of("00000000-0000-0000-0000-0000000000b1");
@@ -67,29 +74,30 @@ int main(void)
 
     /* The Provision is recorded and saved before it is sent. */
     done(osb_platform_create(&platform, id, plan.service, plan.plan, false, &request), "osb_platform_create");
-    text = saved(&platform, &length);
+    save(&platform, &saved);
     done(osb_broker_handle(&broker, &request, OSB_WORK_DONE, &answer), "osb_broker_handle");
     printf("%s: %d, and the answer gets lost\n", kinds[request.kind], answer.status);
     show(&platform, &broker, id);
 
     /* The platform crashes, and goes on from what it had saved. */
     osb_platform_free(&platform);
-    done(osb_platform_load(&platform, text, length), "osb_platform_load");
-    free(text);
+    done(osb_platform_load(&platform, saved.text, saved.length), "osb_platform_load");
     printf("the platform crashes, and is loaded again\n");
     show(&platform, &broker, id);
 
-    /* Until nothing is due any more. */
+    /* Until nothing is due any more. The platform is saved before a request is sent, and before an answer is
+     * shown. */
     while (osb_platform_send(&platform, id, &request) == OSB_DONE) {
+        save(&platform, &saved);
         done(osb_broker_handle(&broker, &request, OSB_WORK_DONE, &answer), "osb_broker_handle");
         done(osb_platform_answer(&platform, id, answer), "osb_platform_answer");
+        save(&platform, &saved);
         printf("%s: %d\n", kinds[request.kind], answer.status);
     }
     show(&platform, &broker, id);
 
-    text = saved(&platform, &length);
-    printf("%.*s\n", (int)length, (const char *)text);
-    free(text);
+    printf("%.*s\n", (int)saved.length, (const char *)saved.text);
+    free(saved.text);
     osb_platform_free(&platform);
     osb_broker_free(&broker);
     return 0;

@@ -112,7 +112,10 @@ func story() error {
 		return err
 	}
 	saved, err := platform.save()
-	if err := first(err, done(C.osb_broker_handle(&broker.handle, &request, C.OSB_WORK_DONE, &answer))); err != nil {
+	if err != nil {
+		return err
+	}
+	if err := done(C.osb_broker_handle(&broker.handle, &request, C.OSB_WORK_DONE, &answer)); err != nil {
 		return err
 	}
 	fmt.Printf("%s: %d, and the answer gets lost\n", kinds[request.kind], answer.status)
@@ -122,12 +125,25 @@ func story() error {
 
 	C.osb_platform_free(&platform.handle)
 	fmt.Println("the platform crashes, and is loaded again")
-	if err := first(platform.load(saved), show(&platform, &broker, id)); err != nil {
+	if err := platform.load(saved); err != nil {
 		return err
 	}
+	if err := show(&platform, &broker, id); err != nil {
+		return err
+	}
+
+	// The platform is saved before a request is sent, and before an answer is shown.
 	for C.osb_platform_send(&platform.handle, id, &request) == C.OSB_DONE {
-		if err := first(done(C.osb_broker_handle(&broker.handle, &request, C.OSB_WORK_DONE, &answer)),
-			done(C.osb_platform_answer(&platform.handle, id, answer))); err != nil {
+		if saved, err = platform.save(); err != nil {
+			return err
+		}
+		if err := done(C.osb_broker_handle(&broker.handle, &request, C.OSB_WORK_DONE, &answer)); err != nil {
+			return err
+		}
+		if err := done(C.osb_platform_answer(&platform.handle, id, answer)); err != nil {
+			return err
+		}
+		if saved, err = platform.save(); err != nil {
 			return err
 		}
 		fmt.Printf("%s: %d\n", kinds[request.kind], answer.status)
@@ -135,9 +151,8 @@ func story() error {
 	if err := show(&platform, &broker, id); err != nil {
 		return err
 	}
-	saved, err = platform.save()
 	fmt.Println(string(saved))
-	return err
+	return nil
 }
 
 func main() {

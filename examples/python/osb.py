@@ -12,6 +12,8 @@ Status = enum.IntEnum("Status", """DONE MEMORY EMPTY_HANDLE FULL_HANDLE ID_USED 
     NOT_POLLING NOT_REMOVABLE NOTHING_RUNNING NOT_HELD PLAN_TWICE BAD_KIND BAD_OUTCOME NOT_AN_ID TOO_SMALL NOT_UTF8
     NOT_JSON NOT_AN_OBJECT BAD_VERSION BAD_OUTER BAD_KEY BAD_MEMBER""", start=0)
 Kind = enum.IntEnum("Kind", "PROVISION POLL DEPROVISION", start=0)
+Body = enum.IntEnum("Body", """MALFORMED EMPTY IN_PROGRESS SUCCEEDED FAILED ASYNC_REQUIRED CONCURRENCY_ERROR
+    OTHER_ERROR""", start=0)
 State = enum.IntEnum("State", "WANTED POLLING READY CLEANING CLEANING_POLLING GONE UNSETTLED", start=0)
 Phase = enum.IntEnum("Phase", "MAKING MADE MAKE_FAILED DELETING DELETE_FAILED", start=0)
 Outcome = enum.IntEnum("Outcome", "WORK_DONE FAILED_BEFORE FAILED_AFTER", start=0)
@@ -68,9 +70,16 @@ class _Handle(c.Structure):
 _lib = c.CDLL(os.environ.get("LIBOSB", "libosb.so.0"))
 _P = c.POINTER
 for _name, _given, _taken in [
+    ("osb_version", c.c_uint32, []),
     ("osb_id_from_text", c.c_uint32, [c.c_char_p, c.c_size_t, _P(Id)]),
     ("osb_id_to_text", None, [Id, c.c_char_p]),
+    ("osb_well_formed", c.c_bool, [c.c_uint8, Answer]),
     ("osb_mitigates", c.c_bool, [Answer]),
+    ("osb_decide_provision", c.c_uint8, [Answer]),
+    ("osb_decide_deprovision", c.c_uint8, [Answer]),
+    ("osb_decide_poll", c.c_uint8, [c.c_uint8, Answer]),
+    ("osb_decide_timeout", c.c_uint8, [c.c_uint8]),
+    ("osb_decide_restart", c.c_uint8, [c.c_uint8]),
     ("osb_platform_new", c.c_uint32, [_P(_Handle)]),
     ("osb_platform_free", None, [_P(_Handle)]),
     ("osb_platform_create", c.c_uint32, [_P(_Handle), Id, Id, Id, c.c_bool, _P(Request)]),
@@ -98,9 +107,44 @@ def _check(status: int) -> None:
         raise OsbError(status)
 
 
+def version() -> int:
+    """The version of the library, as OSB_VERSION of the header has it."""
+    return int(_lib.osb_version())
+
+
+def well_formed(kind: Kind, answer: Answer) -> bool:
+    """Whether an answer to a request of the kind has a status of success and a body that can be read whole."""
+    return bool(_lib.osb_well_formed(kind, answer))
+
+
 def mitigates(answer: Answer) -> bool:
     """Whether the platform has to clean up after this answer to a Provision."""
     return bool(_lib.osb_mitigates(answer))
+
+
+def decide_provision(answer: Answer) -> State:
+    """The record after the answer to a Provision."""
+    return State(_lib.osb_decide_provision(answer))
+
+
+def decide_deprovision(answer: Answer) -> State:
+    """The record after the answer to a Deprovision."""
+    return State(_lib.osb_decide_deprovision(answer))
+
+
+def decide_poll(state: State, answer: Answer) -> State:
+    """The record of an instance in this state after the answer to its Poll."""
+    return State(_lib.osb_decide_poll(state, answer))
+
+
+def decide_timeout(state: State) -> State:
+    """The record of an instance in this state after a request that got no answer."""
+    return State(_lib.osb_decide_timeout(state))
+
+
+def decide_restart(state: State) -> State:
+    """The record of an instance in this state after a restart."""
+    return State(_lib.osb_decide_restart(state))
 
 
 class Platform:

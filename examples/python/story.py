@@ -26,13 +26,16 @@ with Broker([Plan(SERVICE, PLAN, False)]) as broker:
     with Platform(saved) as platform:
         show(platform, broker)
         try:
+            # The platform is saved before a request is sent, and before an answer is shown.
             while True:
                 request = platform.send(INSTANCE)
+                saved = platform.save()
                 answer = broker.handle(request, Outcome.WORK_DONE)
                 platform.answer(INSTANCE, answer)
+                saved = platform.save()
                 print(f"{Kind(request.kind).name.capitalize()}: {answer.status}")
         except OsbError as end:
             if end.status != Status.NOTHING_DUE:
                 raise
         show(platform, broker)
-        print(platform.save().decode())
+        print(saved.decode())

@@ -259,6 +259,13 @@ fn show(platform: &mut Platform, broker: &mut Broker, id: Id) -> Result<(), Stat
     Ok(())
 }
 
+/// Saves the platform, in place of what was saved before. A real platform writes a file, so that a crash leaves the
+/// old record or the new one.
+fn save(platform: &mut Platform, saved: &mut Vec<u8>) -> Result<(), Status> {
+    *saved = platform.save()?;
+    Ok(())
+}
+
 fn main() -> Result<(), Status> {
     let id = Id::of("00000000-0000-0000-0000-000000000001")?;
     let service = Id::of("00000000-0000-0000-0000-0000000000a0")?;
@@ -269,10 +276,11 @@ fn main() -> Result<(), Status> {
         is_asynchronous: false,
     }])?;
     let mut platform = Platform::new()?;
+    let mut saved = Vec::new();
 
     // The Provision is recorded and saved before it is sent.
     let request = platform.create(id, service, plan, false)?;
-    let saved = platform.save()?;
+    save(&mut platform, &mut saved)?;
     let answer = broker.handle(&request, WORK_DONE)?;
     println!(
         "{}: {}, and the answer gets lost",
@@ -284,16 +292,20 @@ fn main() -> Result<(), Status> {
     println!("the platform crashes, and is loaded again");
     let mut platform = Platform::load(&saved)?;
     show(&mut platform, &mut broker, id)?;
+
+    // The platform is saved before a request is sent, and before an answer is shown.
     loop {
         let request = match platform.send(id) {
             Err(NOTHING_DUE) => break,
             sent => sent?,
         };
+        save(&mut platform, &mut saved)?;
         let answer = broker.handle(&request, WORK_DONE)?;
         platform.answer(id, answer)?;
+        save(&mut platform, &mut saved)?;
         println!("{}: {}", KINDS[request.kind as usize], answer.status);
     }
     show(&mut platform, &mut broker, id)?;
-    println!("{}", String::from_utf8_lossy(&platform.save()?));
+    println!("{}", String::from_utf8_lossy(&saved));
     Ok(())
 }

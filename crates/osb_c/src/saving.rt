@@ -39,10 +39,10 @@ fn write_text(text: &str, room: &mut [u8]) -> Status
 /// the rest of the room is as before. There is no NUL after it. The platform is as before. All of it is this
 /// project's choice.
 ///
-/// It returns `Done`; `EmptyHandle` exactly where the handle is empty; `TooSmall` where the room isn't
-/// `needed` bytes, which are written all the same; or `Memory`, in place of either but `EmptyHandle`, where
-/// an allocation failed. Where it isn't `Done`, the room is as before, and where it is neither that nor
-/// `TooSmall`, `needed` too.
+/// It returns `Done`; `EmptyHandle` exactly where the handle is empty; `TooSmall` where the room is
+/// shorter than `needed` bytes, a number that is written all the same; or `Memory`, in place of either but
+/// `EmptyHandle`, where an allocation failed. Where it isn't `Done`, the room is as before, and where it is
+/// neither that nor `TooSmall`, `needed` too.
 #[unsafe(no_mangle)]
 pub extern "C" fn osb_platform_save(
     alloc: Global,
@@ -101,7 +101,7 @@ fn fault_status(fault: LoadFault) -> Status
 ///
 /// It returns `Done`; `FullHandle` exactly where the handle isn't empty; else the first of these that fits:
 /// `NotUtf8` where the bytes aren't UTF-8, `NotJson` where the text has no reading as JSON, `NotAnObject`
-/// where the value isn't an object, `BadVersion` where it has a `version` that isn't the number 2,
+/// where the value isn't an object, `BadVersion` where its `version` isn't 2, written as an integer,
 /// `BadOuter` where it has a `version` and not exactly one further member, the object `instances`, `BadKey`
 /// where some instance's name isn't the text of an id in lower case, `BadMember` where some instance isn't
 /// an object with the members `plan`, `service` and `state` and no other, two texts of ids in lower case
@@ -162,10 +162,10 @@ fn write_ids(ids: &Vec<InstanceId>, room: &mut [OsbId]) -> Status
 /// Writes the recorded ids, ascending, to the front of `room`, and how many they are to `needed`; the rest of
 /// the room is as before. The platform is as before. All of it is this project's choice.
 ///
-/// It returns `Done`; `EmptyHandle` exactly where the handle is empty; `TooSmall` where the room hasn't
-/// `needed` places, which are written all the same; or `Memory`, in place of either but `EmptyHandle`, where
-/// an allocation failed. Where it isn't `Done`, the room is as before, and where it is neither that nor
-/// `TooSmall`, `needed` too.
+/// It returns `Done`; `EmptyHandle` exactly where the handle is empty; `TooSmall` where the room has
+/// fewer than `needed` places, a number that is written all the same; or `Memory`, in place of either but
+/// `EmptyHandle`, where an allocation failed. Where it isn't `Done`, the room is as before, and where it is
+/// neither that nor `TooSmall`, `needed` too.
 #[unsafe(no_mangle)]
 pub extern "C" fn osb_platform_ids(
     alloc: Global,

@@ -39,7 +39,7 @@ pub(crate) enum Status {
     BadOutcome,
     // The text is no id's.
     NotAnId,
-    // The room isn't enough.
+    // The room is shorter than what goes into it.
     TooSmall,
     // The text isn't UTF-8.
     NotUtf8,
@@ -47,7 +47,7 @@ pub(crate) enum Status {
     NotJson,
     // The value isn't an object.
     NotAnObject,
-    // The object has a version that isn't the number 2.
+    // The object has a version that isn't the number 2, written as an integer.
     BadVersion,
     // The members beside the version aren't `instances` alone, or that isn't an object.
     BadOuter,

@@ -154,12 +154,12 @@ impl Platform {
     ///
     /// The first of these that fits. [`LoadFault::NotJson`] where the text has no reading as JSON,
     /// [`LoadFault::NotAnObject`] where the value isn't an object, [`LoadFault::BadVersion`] where it has
-    /// a `version` that isn't the number 2, [`LoadFault::BadOuter`] where it has a `version` and not
-    /// exactly one further member, the object `instances`, [`LoadFault::BadKey`] where some instance's
-    /// name isn't the text of an id in lower case, [`LoadFault::BadMember`] where some instance isn't an
-    /// object with the members `plan`, `service` and `state` and no other, two texts of ids in lower
-    /// case and one of the seven words. [`LoadFault::Memory`] in place of any other where an allocation
-    /// failed.
+    /// a `version` that isn't 2, written as an integer, [`LoadFault::BadOuter`] where it has a `version`
+    /// and not exactly one further member, the object `instances`, [`LoadFault::BadKey`] where some
+    /// instance's name isn't the text of an id in lower case, [`LoadFault::BadMember`] where some
+    /// instance isn't an object with the members `plan`, `service` and `state` and no other, two texts
+    /// of ids in lower case and one of the seven words. [`LoadFault::Memory`] in place of any other where
+    /// an allocation failed.
     pub fn load(alloc: Global, text: &str) -> Result<Platform, LoadFault>
         ensures ok { IfOk result (λ platform. (named : map.FinMap nat_cmp PlatformRow)
             × (rows_in text.now ≡ Ok named) × IsRestarted named platform) }

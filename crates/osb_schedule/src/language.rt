@@ -15,7 +15,7 @@ use crate::words::{skip_blanks, split_word};
 use osb_message::{Mode, PlanId, ServiceId};
 use osb_world::Event;
 
-/// What a line of a schedule says.
+/// What a line of a schedule says (this project's choice).
 #[derive(Clone, Copy, Debug, PartialEq, Eq)]
 pub enum Line {
     /// Nothing: a line without a word, or a comment.
@@ -127,7 +127,8 @@ fn read_words(line: &[u8]) -> Result<Line, LineFault>
     }
 }
 
-/// Reads a line, without its line feed. It takes no memory.
+/// Reads a line, without its line feed (this project's choice). One carriage return at its end is
+/// dropped. It takes no memory.
 ///
 /// # Errors
 ///

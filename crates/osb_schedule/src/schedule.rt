@@ -95,8 +95,8 @@ fn split_line(bytes: &[u8]) -> Option<(&[u8], &[u8])>
     }
 }
 
-/// Reads a whole schedule that stands in memory, without letting its events happen. Its plans and its
-/// events are kept, so it takes memory.
+/// Reads a whole schedule that stands in memory, without letting its events happen (this project's
+/// choice). Its plans and its events are kept, so it takes memory.
 ///
 /// # Errors
 ///
