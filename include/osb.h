@@ -63,7 +63,7 @@ enum osb_status {
     OSB_NOT_UTF8 = 18,        /* the text isn't UTF-8 */
     OSB_NOT_JSON = 19,        /* the text has no reading as JSON */
     OSB_NOT_AN_OBJECT = 20,   /* the value isn't an object */
-    OSB_BAD_VERSION = 21,     /* the object has a version that isn't 2, written as an integer */
+    OSB_BAD_VERSION = 21,     /* the object has a version that isn't 2 written as an integer */
     OSB_BAD_OUTER = 22,       /* beside the version there isn't exactly one member, the object instances */
     OSB_BAD_KEY = 23,         /* some instance's name isn't the text of an id in lower case */
     OSB_BAD_MEMBER = 24       /* some instance isn't what is saved of one */

@@ -63,7 +63,7 @@ def tables():
 
 
 def handles():
-    """An instance whose deletion an operator asks for, when it is made and, of a second platform, while it is."""
+    """An instance of two platforms: one has it deleted once it is made, the other gives up polling."""
     texts = [f"00000000-0000-0000-0000-0000000000{end}" for end in ("01", "a0", "b2")]
     one, service, plan = [Id.of(text) for text in texts]
     same("an id", str(one), texts[0])
@@ -72,7 +72,7 @@ def handles():
         for it in (platform, other):
             request = it.create(one, service, plan, True)
             same("create", (request.kind, str(request.id)), (int(Kind.PROVISION), texts[0]))
-            same("create, again", broker.handle(request, Outcome.WORK_DONE).status, 202)
+            same("handle, of a Provision", broker.handle(request, Outcome.WORK_DONE).status, 202)
             it.answer(one, Answer(202, Body.EMPTY))
         refused("create, of a used id", lambda: platform.create(one, service, plan, True), Status.ID_USED)
         broker.finish(one, True)

@@ -101,7 +101,7 @@ fn fault_status(fault: LoadFault) -> Status
 ///
 /// It returns `Done`; `FullHandle` exactly where the handle isn't empty; else the first of these that fits:
 /// `NotUtf8` where the bytes aren't UTF-8, `NotJson` where the text has no reading as JSON, `NotAnObject`
-/// where the value isn't an object, `BadVersion` where its `version` isn't 2, written as an integer,
+/// where the value isn't an object, `BadVersion` where it has a `version` that isn't 2 written as an integer,
 /// `BadOuter` where it has a `version` and not exactly one further member, the object `instances`, `BadKey`
 /// where some instance's name isn't the text of an id in lower case, `BadMember` where some instance isn't
 /// an object with the members `plan`, `service` and `state` and no other, two texts of ids in lower case

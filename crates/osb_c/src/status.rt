@@ -47,7 +47,7 @@ pub(crate) enum Status {
     NotJson,
     // The value isn't an object.
     NotAnObject,
-    // The object has a version that isn't the number 2, written as an integer.
+    // The object has a version that isn't 2 written as an integer.
     BadVersion,
     // The members beside the version aren't `instances` alone, or that isn't an object.
     BadOuter,

@@ -31,7 +31,7 @@ pub enum AddFault {
 }
 
 /// The plans that a broker sells, under pairs of service and plan (section Catalog Management; that
-/// a plan works in one way, whatever is asked of it, is this project's choice, and so are these calls).
+/// a plan works in one way, whatever is asked of it, is this project's choice, and so are its calls).
 ///
 /// Contracts see a finite map from pairs of ids to modes.
 #[derive(Drop)]

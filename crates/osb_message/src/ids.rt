@@ -42,7 +42,7 @@ pub enum Plan {}
 ///
 /// The standard recommends a GUID for `instance_id`, `service_id` and `plan_id` (sections
 /// Provisioning and Catalog Management); that one type serves for all three is this project's choice,
-/// and so are these calls.
+/// and so are its calls.
 /// Contracts see an id as its number. The order of the numbers is the byte order of the texts.
 #[derive_where(Clone, Copy)]
 pub struct Id<K> {

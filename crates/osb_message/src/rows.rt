@@ -42,7 +42,7 @@ fn keys_of<V>(alloc: Global, rows: &BTreeMap<InstanceId, V>) -> Result<Vec<Insta
 }
 
 /// What is kept for each of some instances: at most one value for an id (this project's choice, and so
-/// are these calls; the standard leaves to both sides what they keep).
+/// are its calls; the standard leaves to both sides what they keep).
 ///
 /// Contracts see a finite map from ids to values.
 #[derive(Drop)]

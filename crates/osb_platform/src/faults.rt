@@ -71,7 +71,7 @@ pub enum LoadFault {
     BadMember = 4,
     /// An allocation failed.
     Memory = 5,
-    /// The object has a member `version` that isn't the number 2, written as an integer.
+    /// The object has a member `version` that isn't 2 written as an integer.
     BadVersion = 6,
     /// The object has a member `version`, and its members aren't exactly `instances` and `version`, or
     /// `instances` isn't an object.

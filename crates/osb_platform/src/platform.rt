@@ -154,7 +154,7 @@ impl Platform {
     ///
     /// The first of these that fits. [`LoadFault::NotJson`] where the text has no reading as JSON,
     /// [`LoadFault::NotAnObject`] where the value isn't an object, [`LoadFault::BadVersion`] where it has
-    /// a `version` that isn't 2, written as an integer, [`LoadFault::BadOuter`] where it has a `version`
+    /// a `version` that isn't 2 written as an integer, [`LoadFault::BadOuter`] where it has a `version`
     /// and not exactly one further member, the object `instances`, [`LoadFault::BadKey`] where some
     /// instance's name isn't the text of an id in lower case, [`LoadFault::BadMember`] where some
     /// instance isn't an object with the members `plan`, `service` and `state` and no other, two texts

@@ -21,7 +21,7 @@ use std::alloc::Global;
 use std::collections::btree_map::Iter;
 use std::marker::Model;
 
-/// A platform, a broker, and the messages between them (this project's choice, and so are these calls).
+/// A platform, a broker, and the messages between them (this project's choice, and so are its calls).
 ///
 /// Contracts see the cell of each id (`cell_at`) and the broker's catalogue (`catalogue_of`). Each
 /// cell of a world can come about (`IsPossible`), and so platform and broker agree on each id.

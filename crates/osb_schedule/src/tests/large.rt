@@ -117,7 +117,7 @@ fn as_many_and_as_long_lines_as_there_may_be(rt: HostRuntime) -> Result<(), Fail
     let result = replay(rt.alloc(), &mut reader, &mut writer, PLAIN);
     assert!(rt; result == Ok(()));
     assert!(rt; writer.into_inner().as_slice() == b"applied 0\nskipped 0\n".as_slice());
-    // However much has been read, no call asks for more.
+    // However much has been read, no call asks for more than 4,096 bytes.
     assert!(rt; reader.into_inner().largest <= 4096);
     schedule.push('\n')?;
     let (result, written) = replayed(rt.alloc(), schedule.as_str());
