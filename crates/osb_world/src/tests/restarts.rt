@@ -3,6 +3,8 @@ use crate::{Event, Step, World, run};
 use osb_broker::{Outcome, Phase};
 use osb_message::{Answer, Body, ErrorCode, InstanceId};
 use osb_platform::State;
+use std::alloc::Global;
+use std::process::Abort;
 use std::test::Fail;
 
 // A story's name and its words; how many of its events apply and how many are skipped; and what both
@@ -92,12 +94,10 @@ fn a_deprovision_after_a_restart_finds_nothing(rt: HostRuntime) -> Result<(), Fa
     Ok(())
 }
 
-#[test]
-fn two_instances_and_a_restart(rt: HostRuntime) -> Result<(), Fail> {
-    let (low, high) = (instance(), InstanceId::from_value(2));
+// Both instances are made, the answer of the first is garbled, the platform restarts and cleans it up.
+fn of_two(low: InstanceId, high: InstanceId) -> [Event; 11] {
     let outcome = Outcome::Done;
-    let mut world = World::new(rt.alloc(), new_catalogue(rt.alloc())?);
-    let events = [
+    [
         create(low, SYNC, false),
         create(high, SYNC, false),
         Event::Deliver { id: low, outcome },
@@ -109,23 +109,36 @@ fn two_instances_and_a_restart(rt: HostRuntime) -> Result<(), Fail> {
         Event::Send { id: low },
         Event::Deliver { id: low, outcome },
         Event::Answer { id: low },
-    ];
-    for event in &events {
-        let step = world.step(rt.alloc(), *event)?;
-        assert_eq!(rt; step, Step::Applied, "{event:?}");
-    }
-    let ran = run(rt.alloc(), new_catalogue(rt.alloc())?, &events)?;
-    for (name, end) in [("by step", world), ("by run", ran)] {
-        let gone = (Some(State::Gone), None);
-        assert_eq!(rt; sides(end.cell(low)), gone, "{name}: low");
-        let ready = (Some(State::Ready), Some(Phase::Ready));
-        assert_eq!(rt; sides(end.cell(high)), ready, "{name}: high");
-        assert!(rt;
-            end.ids(rt.alloc())?.as_slice() == [low, high].as_slice(),
-            "{name}"
-        );
-    }
+    ]
+}
+
+// That the first is gone, and the second is ready.
+fn check_two(rt: &impl Abort, alloc: Global, end: &World, name: &str) -> Result<(), Fail> {
+    let (low, high) = (instance(), InstanceId::from_value(2));
+    assert_eq!(rt; sides(end.cell(low)), (Some(State::Gone), None), "{name}");
+    let ready = (Some(State::Ready), Some(Phase::Ready));
+    assert_eq!(rt; sides(end.cell(high)), ready, "{name}");
+    assert!(rt;
+        end.ids(alloc)?.as_slice() == [low, high].as_slice(),
+        "{name}"
+    );
     Ok(())
+}
+
+#[test]
+fn two_instances_and_a_restart(rt: HostRuntime) -> Result<(), Fail> {
+    let mut world = World::new(rt.alloc(), new_catalogue(rt.alloc())?);
+    for event in of_two(instance(), InstanceId::from_value(2)) {
+        assert_eq!(rt; world.step(rt.alloc(), event)?, Step::Applied, "{event:?}");
+    }
+    check_two(&rt, rt.alloc(), &world, "by step")
+}
+
+#[test]
+fn two_instances_and_a_restart_by_run(rt: HostRuntime) -> Result<(), Fail> {
+    let events = of_two(instance(), InstanceId::from_value(2));
+    let world = run(rt.alloc(), new_catalogue(rt.alloc())?, &events)?;
+    check_two(&rt, rt.alloc(), &world, "by run")
 }
 
 #[test]
