@@ -21,6 +21,11 @@ crates() {
         END { visit(of) }' "$top/crates.txt"
 }
 
+# What the crate itself stands on, as its line of crates.txt says.
+uses() {
+    sed -n "s/#.*//; s/^$built_crate[^:]*://p" "$top/crates.txt"
+}
+
 # A digest of the names and contents of the sources. It fails where one of them can't be read.
 sources() (
     set -o pipefail

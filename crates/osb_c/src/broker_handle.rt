@@ -31,7 +31,7 @@ unsafe impl Send for OsbBroker {}
 
 impl OsbBroker {
     // An empty handle.
-    pub(crate) fn none(alloc: Global) -> OsbBroker
+    fn none(alloc: Global) -> OsbBroker
         ensures empty { result.held ≡ None }
     {
         OsbBroker {

@@ -24,6 +24,4 @@ mod rows;
 mod saving;
 mod states;
 mod status;
-#[cfg(test)]
-mod tests;
 mod version;

@@ -32,7 +32,7 @@ unsafe impl Send for OsbPlatform {}
 
 impl OsbPlatform {
     // An empty handle.
-    pub(crate) fn none(alloc: Global) -> OsbPlatform
+    fn none(alloc: Global) -> OsbPlatform
         ensures empty { result.held ≡ None }
     {
         OsbPlatform {

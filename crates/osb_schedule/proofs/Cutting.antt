@@ -89,10 +89,6 @@ cut_at bytes n below feed =
     ap (λ byte. take n bytes ++ byte ∷ drop (n + 1) bytes) (sym here)
     ∙ ap (λ rest. take n bytes ++ rest) (sym (drop_more bytes n 0 below)) ∙ take-append-drop n bytes
 
-pub nil_of_length : (rest : List ℕ) → length rest ≡ 0 → rest ≡ []
-nil_of_length [] h = refl
-nil_of_length (byte ∷ rest) h = absurd (omega arith)
-
 -- what is held is one line
 pub held_line : (rest : List ℕ) → 0 < length rest → ended_lines rest ≡ 0 → lines rest ≡ rest ∷ []
 held_line [] some h = absurd (omega arith)

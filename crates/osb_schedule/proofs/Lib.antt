@@ -5,5 +5,3 @@ pub mod Reporting
 pub mod Running
 pub mod Runs
 pub mod Schedules
-pub mod Spelling
-pub mod Splitting

@@ -24,7 +24,7 @@ use Rattle.osb_world.specs.Views.{WorldState, catalogue_of, cell_at, records_of}
 use Rattle.osb_schedule.specs.declared.options.Options.{Options}
 use Rattle.osb_schedule.specs.declared.run.Ended.{Ended}
 use Rattle.osb_schedule.specs.Lines.{lines}
-use Rattle.osb_schedule.specs.Report.{applied_count, broker_word, count_line, creates, id_line, line_of}
+use Rattle.osb_schedule.specs.Report.{applied_count, broker_word, count_line, creates, id_line, instance_line}
 use Rattle.osb_schedule.specs.Report.{record_word, reported_cell, saved_line, settled_as, AreSettled, IsReport}
 use Rattle.osb_schedule.specs.Report.{IsSettledAs}
 use Rattle.osb_schedule.specs.Run.{IsEndOf, IsWorldAfter}
@@ -94,7 +94,7 @@ reported options bytes ended world text told done is_text =
 
 -- the line of a record
 abbrev pub record_line : WorldState → ℕ × PlatformRow → List ℕ
-record_line world entry = line_of entry.0 (state_word entry.1.state) (broker_word (cell_at world entry.0).broker)
+record_line world entry = instance_line entry.0 (state_word entry.1.state) (broker_word (cell_at world entry.0).broker)
 
 -- an entry below them all hides none of them
 still_found : (e : ℕ × PlatformRow) (all es : List (ℕ × PlatformRow))
@@ -119,7 +119,7 @@ lines_by : (world : WorldState) (es : List (ℕ × PlatformRow))
     → flat_map (record_line world) es ≡ flat_map (λ id. id_line id (cell_at world id)) (map (λ e. e.0) es)
 lines_by world [] all = refl
 lines_by world (e ∷ es) all =
-    (λ i. line_of e.0 (record_word (sym all.0 i)) (broker_word (cell_at world e.0).broker) ++ lines_by world es all.1 i)
+    (λ i. instance_line e.0 (record_word (sym all.0 i)) (broker_word (cell_at world e.0).broker) ++ lines_by world es all.1 i)
 
 found_in : (rows : FinMap nat_cmp PlatformRow) (es : List (ℕ × PlatformRow))
     → AllByRecursion (λ e. find nat_cmp e.0 (entries rows) ≡ Some e.1) es

@@ -7,11 +7,11 @@ use Rattle.std.proofs.lemmas.List.Sums.{fold-append}
 use Rattle.std.specs.Prelude.{Result}
 use Rattle.std.specs.FinMap as map
 use Rattle.osb_world.specs.declared.event.Event.{Event}
-use Rattle.osb_schedule.specs.declared.faults.LineFault.{LineFault}
-use Rattle.osb_schedule.specs.declared.language.Line.{Line}
+use Rattle.osb_language.specs.declared.fault.LineFault.{LineFault}
+use Rattle.osb_language.specs.declared.line.Line.{Line}
 use Rattle.osb_broker.specs.Answers.{Catalogue}
 use Rattle.osb_world.specs.Events.{applies_at, cell_after, next_cell}
-use Rattle.osb_schedule.specs.Language.{line_of}
+use Rattle.osb_language.specs.Language.{line_of}
 use Rattle.osb_schedule.specs.Report.{applied_after, applied_count}
 use Rattle.osb_schedule.specs.Schedule.{catalogue_in, event_in, events_in, fault_after, said_fault, with_plan}
 use Rattle.osb_schedule.specs.Run.{IsRunOf, IsWorldAfter, HasRun}

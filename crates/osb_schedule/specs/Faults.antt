@@ -1,9 +1,10 @@
 -- Which lines have a fault, and which of them are judged.
 use Rattle.std.specs.Prelude.{◌≡◌, ℕ, ◌<◌, ◌⊎◌, Bool, List, nat_le, nat_lt, if◌then◌else◌, length, take, Option, Some}
 use Rattle.std.specs.Prelude.{None, IsTrue}
-use Rattle.osb_schedule.specs.declared.faults.LineFault.{LineFault}
-use Rattle.osb_schedule.specs.declared.faults.LineFault.TheVariants.{TooManyLines, LineTooLong}
-use Rattle.osb_schedule.specs.declared.limits.TheConstants.{LONGEST_LINE, MOST_LINES}
+use Rattle.osb_language.specs.declared.fault.LineFault.{LineFault}
+use Rattle.osb_language.specs.declared.fault.LineFault.TheVariants.{TooManyLines, LineTooLong}
+use Rattle.osb_language.specs.declared.limits.TheConstants.{LONGEST_LINE}
+use Rattle.osb_schedule.specs.declared.limits.TheConstants.{MOST_LINES}
 use Rattle.osb_schedule.specs.Lines.{lines, ended_lines, line_at}
 use Rattle.osb_schedule.specs.Schedule.{said_fault}
 

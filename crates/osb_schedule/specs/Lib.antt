@@ -1,8 +1,6 @@
 pub mod Conversions
 pub mod Device
 pub mod Faults
-pub mod Fields
-pub mod Language
 pub mod Lines
 pub mod MitigationTable
 pub mod Reading
@@ -10,5 +8,3 @@ pub mod Replay
 pub mod Report
 pub mod Run
 pub mod Schedule
-pub mod Spelling
-pub mod Words

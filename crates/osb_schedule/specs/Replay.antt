@@ -1,7 +1,7 @@
 -- What a replay has read, and why it ended.
 use Rattle.std.specs.Prelude.{◌≡◌, ◌≤◌, ◌+◌, ℕ, Bool, true, false, List, Option, IsTrue, length, ⊤}
 use Rattle.std.specs.Io.KnownBytes.{Appends, Consumes, IsAtEnd}
-use Rattle.osb_schedule.specs.declared.faults.LineFault.{LineFault}
+use Rattle.osb_language.specs.declared.fault.LineFault.{LineFault}
 use Rattle.osb_schedule.specs.declared.faults.ReplayFault.{ReplayFault}
 use Rattle.osb_schedule.specs.declared.faults.ReplayFault.TheVariants.{Schedule, Read, Write, Memory}
 use Rattle.osb_schedule.specs.declared.limits.TheConstants.{MOST_BYTES}

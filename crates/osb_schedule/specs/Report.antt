@@ -34,11 +34,11 @@ broker_word None = codes "none"
 broker_word (Some row) = phase_word row.phase
 
 -- the line of an instance: ID STATE BROKER
-abbrev pub line_of : ℕ → List ℕ → List ℕ → List ℕ
-line_of id recorded held = id_text id ++ 32 ∷ recorded ++ 32 ∷ held ++ 10 ∷ []
+abbrev pub instance_line : ℕ → List ℕ → List ℕ → List ℕ
+instance_line id recorded held = id_text id ++ 32 ∷ recorded ++ 32 ∷ held ++ 10 ∷ []
 
 abbrev pub id_line : ℕ → Cell → List ℕ
-id_line id cell = line_of id (record_word cell.platform) (broker_word cell.broker)
+id_line id cell = instance_line id (record_word cell.platform) (broker_word cell.broker)
 
 -- the line of a count
 abbrev pub count_line : List ℕ → ℕ → List ℕ

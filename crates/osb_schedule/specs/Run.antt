@@ -4,7 +4,7 @@ use Rattle.osb_broker.specs.Answers.{Catalogue}
 use Rattle.osb_world.specs.declared.event.Event.{Event}
 use Rattle.osb_world.specs.Events.{cell_after}
 use Rattle.osb_world.specs.Views.{WorldState, catalogue_of, cell_at}
-use Rattle.osb_schedule.specs.declared.faults.LineFault.{LineFault}
+use Rattle.osb_language.specs.declared.fault.LineFault.{LineFault}
 use Rattle.osb_schedule.specs.declared.faults.ScheduleFault.{ScheduleFault}
 use Rattle.osb_schedule.specs.declared.faults.ScheduleFault.TheVariants.{At, Memory}
 use Rattle.osb_schedule.specs.declared.run.Ended.{Ended}

@@ -32,9 +32,7 @@
 #![tactic(auto)]
 
 mod faults;
-mod fields;
 mod input;
-mod language;
 mod limits;
 mod line_reader;
 mod options;
@@ -45,13 +43,12 @@ mod report;
 mod run;
 mod schedule;
 mod table;
-mod words;
 mod writing;
 
-pub use faults::{DeviceFault, LineFault, ReplayFault, ScheduleFault, status_of};
+pub use faults::{DeviceFault, ReplayFault, ScheduleFault, status_of};
 pub use input::Input;
-pub use language::{Line, read_line};
 pub use options::Options;
+pub use osb_language::{Line, LineFault, read_line};
 pub use output::Output;
 pub use replaying::replay;
 pub use schedule::{Schedule, read_schedule};

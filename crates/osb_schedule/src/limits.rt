@@ -1,8 +1,5 @@
 //! How much a schedule may have, and how much is read at once (this project's choice).
 
-/// How many bytes a line has at most before its line feed, a carriage return included.
-pub const LONGEST_LINE: usize = 512;
-
 /// How many lines a schedule has at most.
 pub const MOST_LINES: u32 = 100_000;
 

@@ -7,10 +7,11 @@ ghost use Rattle.osb_schedule.specs.Reading.{taken, with_line, Refuses, HasRead}
 ghost use Rattle.osb_schedule.specs.Run.{HasRun, IsEndOf, IsLineFault};
 ghost use Rattle.osb_schedule.specs.Schedule.{said_fault};
 
-use crate::faults::{LineFault, ScheduleFault};
-use crate::limits::{LONGEST_LINE, MOST_LINES};
+use crate::faults::ScheduleFault;
+use crate::limits::MOST_LINES;
 use crate::run::{Ended, Run};
 use memchr::memchr;
+use osb_language::{LONGEST_LINE, LineFault};
 use std::alloc::Global;
 use std::marker::Model;
 
@@ -25,7 +26,8 @@ pub struct LineReader {
 
 impl Model for LineReader {
     ghost use Rattle.std.specs.Prelude.{◌+◌, ◌<◌, ◌≤◌, take};
-    ghost use Rattle.osb_schedule.specs.declared.limits.TheConstants.{LONGEST_LINE, MOST_LINES};
+    ghost use Rattle.osb_language.specs.declared.limits.TheConstants.{LONGEST_LINE};
+    ghost use Rattle.osb_schedule.specs.declared.limits.TheConstants.{MOST_LINES};
     ghost use Rattle.osb_schedule.specs.Reading.{Reading, reading_code};
 
     ghost Value = { Reading };

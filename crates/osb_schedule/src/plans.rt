@@ -4,7 +4,8 @@ ghost use Rattle.std.specs.FinMap as map;
 ghost use Rattle.osb_schedule.specs.Run.{IsLineFault};
 ghost use Rattle.osb_schedule.specs.Schedule.{plan_fault};
 
-use crate::faults::{LineFault, ScheduleFault};
+use crate::faults::ScheduleFault;
+use osb_language::LineFault;
 use osb_message::{AddFault, Catalogue, Mode, PlanId, ServiceId};
 
 // Adds the plan of the line of this number, which is late where an event stands before it.

@@ -5,7 +5,7 @@ ghost use Rattle.std.specs.List.{flat_map};
 ghost use Rattle.std.specs.List.Sorted.{IsStrictlySortedBy};
 ghost use Rattle.std.specs.Ordering.{nat_cmp};
 ghost use Rattle.osb_schedule.specs.Lines.{lines};
-ghost use Rattle.osb_schedule.specs.Report.{broker_word, count_line, id_line, line_of, saved_line};
+ghost use Rattle.osb_schedule.specs.Report.{broker_word, count_line, id_line, instance_line, saved_line};
 ghost use Rattle.osb_schedule.specs.Report.{AreSettled, IsReport, IsSettledAs};
 ghost use Rattle.osb_schedule.specs.Run.{IsEndOf};
 ghost use Rattle.osb_world.specs.Views.{cell_at, records_of};
@@ -34,7 +34,7 @@ fn push_id_line(
     recorded: &str,
     held: &str,
 ) -> Result<(), Memory>
-    ensures added { OnOk result (text.new.items ≡ text.old.items ++ line_of id recorded.now held.now) }
+    ensures added { OnOk result (text.new.items ≡ text.old.items ++ instance_line id recorded.now held.now) }
 {
     text.extend_from_slice(&id.to_text())?;
     text.push(b' ')?;

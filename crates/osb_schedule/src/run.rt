@@ -9,9 +9,9 @@ ghost use Rattle.osb_world.specs.declared.event.Event.{Event as Happening};
 ghost use Rattle.osb_schedule.specs.declared.faults.ScheduleFault.TheVariants as Why;
 
 use crate::faults::ScheduleFault;
-use crate::language::{Line, read_line};
 use crate::limits::MOST_LINES;
 use crate::plans::add_plan;
+use osb_language::{Line, read_line};
 use osb_message::{Catalogue, Memory, Mode, PlanId, ServiceId};
 use osb_world::{Event, Step, World};
 use std::alloc::Global;

@@ -7,11 +7,11 @@ ghost use Rattle.osb_schedule.specs.Reading.{Refuses};
 ghost use Rattle.osb_schedule.specs.Run.{IsLineFault};
 ghost use Rattle.osb_schedule.specs.Schedule.{event_in, fault_after, with_plan, IsScheduleOf};
 
-use crate::faults::{LineFault, ScheduleFault};
-use crate::language::{Line, read_line};
+use crate::faults::ScheduleFault;
 use crate::limits::MOST_LINES;
 use crate::plans::add_plan;
 use memchr::memchr;
+use osb_language::{Line, LineFault, read_line};
 use osb_message::Catalogue;
 use osb_world::Event;
 use std::alloc::Global;

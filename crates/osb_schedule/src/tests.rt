@@ -1,7 +1,6 @@
 //! Worked schedules, replayed over memory, and readers and writers that fail.
 mod faults;
 mod large;
-mod lines;
 mod readers;
 mod schedules;
 mod settled;

@@ -1,4 +1,4 @@
-//! The texts, the numbers and the statuses of the faults.
+//! The texts and the statuses of the faults.
 use crate::{DeviceFault, LineFault, ReplayFault, ScheduleFault, status_of};
 use std::test::Fail;
 
@@ -41,25 +41,5 @@ fn faults_of_schedules(rt: HostRuntime) -> Result<(), Fail> {
     let found = ScheduleFault::Memory;
     assert!(rt; found.to_string(rt.alloc())?.as_str() == "out of memory");
     assert!(rt; ReplayFault::from(found) == ReplayFault::Memory);
-    Ok(())
-}
-
-#[test]
-fn faults_of_lines_have_their_numbers_and_names(rt: HostRuntime) -> Result<(), Fail> {
-    let cases = [
-        (LineFault::NotAscii, 1, "NotAscii"),
-        (LineFault::LineTooLong, 2, "LineTooLong"),
-        (LineFault::UnknownWord, 3, "UnknownWord"),
-        (LineFault::WordCount, 4, "WordCount"),
-        (LineFault::BadId, 5, "BadId"),
-        (LineFault::BadChoice, 6, "BadChoice"),
-        (LineFault::LatePlan, 7, "LatePlan"),
-        (LineFault::DuplicatePlan, 8, "DuplicatePlan"),
-        (LineFault::TooManyLines, 9, "TooManyLines"),
-    ];
-    for (fault, number, name) in cases {
-        assert!(rt; fault as u8 == number, "{name}");
-        assert!(rt; fault.to_string(rt.alloc())?.as_str() == name, "{name}");
-    }
     Ok(())
 }

@@ -1,6 +1,7 @@
 -- A part comes too late, or makes the line too long.
 use Rattle.std.proofs.Common.{◌≡◌, ◌+◌, ◌<◌, ◌++◌, refl, append_assoc, length, rules}
-use Rattle.osb_schedule.specs.declared.limits.TheConstants.{LONGEST_LINE, MOST_LINES}
+use Rattle.osb_language.specs.declared.limits.TheConstants.{LONGEST_LINE}
+use Rattle.osb_schedule.specs.declared.limits.TheConstants.{MOST_LINES}
 use Rattle.osb_schedule.proofs.Reading.{refused_long, refused_many}
 use Rattle.osb_schedule.proofs.line_reader.LineReader.judge_part.Goals as goal
 

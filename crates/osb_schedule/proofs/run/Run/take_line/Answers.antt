@@ -1,7 +1,7 @@
 -- What the line says decides its fault, and what the lines leave.
 use Rattle.std.proofs.Common.{◌≡◌, Ok, Err, IfErr, refl, sym, ◌∙◌, subst}
 use Rattle.std.proofs.lemmas.Result.{on_ok_weaker}
-use Rattle.osb_schedule.specs.Language.{line_of}
+use Rattle.osb_language.specs.Language.{line_of}
 use Rattle.osb_schedule.specs.Schedule.{catalogue_in, events_in}
 use Rattle.osb_schedule.specs.Run.{IsLineFault}
 use Rattle.osb_schedule.proofs.Running.{said-as, run-more}

@@ -1,7 +1,7 @@
 -- What the line says decides its fault, and what is added.
 use Rattle.std.proofs.Common.{◌≡◌, ◌+◌, ◌<◌, Ok, Err, IfErr, length, refl, sym, ◌∙◌, subst, arith}
 use Rattle.std.proofs.lemmas.Result.{on_ok_weaker}
-use Rattle.osb_schedule.specs.Language.{line_of}
+use Rattle.osb_language.specs.Language.{line_of}
 use Rattle.osb_schedule.specs.Run.{IsLineFault}
 use Rattle.osb_schedule.specs.declared.limits.TheConstants.{MOST_LINES}
 use Rattle.osb_schedule.proofs.Schedules.{schedule_fault, schedule_more}

@@ -343,3 +343,23 @@ fn statuses(rt: HostRuntime) -> Result<(), Fail> {
     }
     Ok(())
 }
+
+#[test]
+fn faults_of_lines_have_their_numbers_and_names(rt: HostRuntime) -> Result<(), Fail> {
+    let cases = [
+        (LineFault::NotAscii, 1, "NotAscii"),
+        (LineFault::LineTooLong, 2, "LineTooLong"),
+        (LineFault::UnknownWord, 3, "UnknownWord"),
+        (LineFault::WordCount, 4, "WordCount"),
+        (LineFault::BadId, 5, "BadId"),
+        (LineFault::BadChoice, 6, "BadChoice"),
+        (LineFault::LatePlan, 7, "LatePlan"),
+        (LineFault::DuplicatePlan, 8, "DuplicatePlan"),
+        (LineFault::TooManyLines, 9, "TooManyLines"),
+    ];
+    for (fault, number, name) in cases {
+        assert!(rt; fault as u8 == number, "{name}");
+        assert!(rt; fault.to_string(rt.alloc())?.as_str() == name, "{name}");
+    }
+    Ok(())
+}

@@ -1,10 +1,9 @@
 -- The first word is what stands before the first blank, once the blanks in front are passed.
 use Rattle.std.proofs.Common.{◌≡◌, ◌<◌, length, sym, ap, ◌∙◌, ◌∷◌, arith, true, false, eqb}
 use Rattle.std.proofs.lemmas.Bool.Decides.{nat_tests}
-use Rattle.osb_schedule.specs.Words.{words_of}
-use Rattle.osb_schedule.proofs.Cutting.{nil_of_length}
-use Rattle.osb_schedule.proofs.Splitting.{words-none, words-cut}
-use Rattle.osb_schedule.proofs.words.split_word.Goals as goal
+use Rattle.osb_language.specs.Words.{words_of}
+use Rattle.osb_language.proofs.Splitting.{nil_of_length, words-none, words-cut}
+use Rattle.osb_language.proofs.words.split_word.Goals as goal
 
 pub returns-then-is_empty : goal.returns-then-is_empty
 returns-then-is_empty c =

@@ -1,11 +1,11 @@
 //! What stands in a line after its first word: ids and choices.
 ghost use Rattle.std.specs.Prelude.{◌≡◌, ℕ, List, Result};
-ghost use Rattle.osb_schedule.specs.Fields.{choice, consents, endings, four_fields, id_field, modes, no_fields};
-ghost use Rattle.osb_schedule.specs.Fields.{one_field, outcomes, status_field, three_fields, two_fields};
-ghost use Rattle.osb_schedule.specs.Words.{words_of};
-ghost use Rattle.osb_schedule.specs.declared.faults.LineFault.{LineFault as Fault};
+ghost use Rattle.osb_language.specs.Fields.{choice, consents, endings, four_fields, id_field, modes, no_fields};
+ghost use Rattle.osb_language.specs.Fields.{one_field, outcomes, status_field, three_fields, two_fields};
+ghost use Rattle.osb_language.specs.Words.{words_of};
+ghost use Rattle.osb_language.specs.declared.fault.LineFault.{LineFault as Fault};
 
-use crate::faults::LineFault;
+use crate::fault::LineFault;
 use crate::words::{four_words, one_word, split_word, three_words, two_words};
 use osb_broker::Outcome;
 use osb_message::{Id, Mode};

@@ -2,9 +2,9 @@
 use Rattle.std.proofs.Common.{◌≡◌, ◌<◌, length, ap, sym, ◌∙◌, arith, false, eqb}
 use Rattle.std.proofs.lemmas.Bool.Decides.{nat_tests}
 use Rattle.std.proofs.lemmas.List.{take_rest}
-use Rattle.osb_schedule.specs.Words.{words_of}
-use Rattle.osb_schedule.proofs.Splitting.{words-drop}
-use Rattle.osb_schedule.proofs.words.skip_blanks.Goals as goal
+use Rattle.osb_language.specs.Words.{words_of}
+use Rattle.osb_language.proofs.Splitting.{words-drop}
+use Rattle.osb_language.proofs.words.skip_blanks.Goals as goal
 
 pub loop-rest-preserved : goal.loop-rest-preserved
 loop-rest-preserved c =

@@ -1,7 +1,7 @@
 -- Blanks before a line make no words.
 use Rattle.std.proofs.Common.{◌≡◌, length}
-use Rattle.osb_schedule.specs.Words.{words_of}
-use Rattle.osb_schedule.proofs.words.skip_blanks.Given as goal
+use Rattle.osb_language.specs.Words.{words_of}
+use Rattle.osb_language.proofs.words.skip_blanks.Given as goal
 
 abbrev pub invariant-loop-rest : goal.invariant-loop-rest
 invariant-loop-rest l = words_of l.rest ≡ words_of l.line

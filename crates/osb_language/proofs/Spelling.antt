@@ -16,20 +16,20 @@ use Rattle.osb_broker.specs.declared.outcome.Outcome.{Outcome}
 use Rattle.osb_broker.specs.declared.outcome.Outcome.TheVariants.{Done, Before, After}
 use Rattle.osb_world.specs.declared.event.Event.{Event}
 use Rattle.osb_world.specs.declared.event.Event.TheVariants as Happens
-use Rattle.osb_schedule.specs.declared.faults.LineFault.{LineFault}
-use Rattle.osb_schedule.specs.declared.faults.LineFault.TheVariants.{BadChoice, BadId}
-use Rattle.osb_schedule.specs.declared.fields.Accepts.{Accepts}
-use Rattle.osb_schedule.specs.declared.fields.EndsWell.{EndsWell}
-use Rattle.osb_schedule.specs.declared.fields.GatewayStatus.{GatewayStatus}
-use Rattle.osb_schedule.specs.declared.language.Line.{Line}
-use Rattle.osb_schedule.specs.Fields.{and_then, choice, consents, endings, four_fields, id_field, modes, no_fields}
-use Rattle.osb_schedule.specs.Fields.{one_field, outcomes, status_field, three_fields, two_fields}
-use Rattle.osb_schedule.specs.Language.{begins_comment, event_as, is_ascii, line_of, spelled, spelled_as}
-use Rattle.osb_schedule.specs.Spelling.{a_status, accepts_word, an_id, ending_word, event_row, mode_word, outcome_word}
-use Rattle.osb_schedule.specs.Spelling.{the_word, AreFields, Field, IsField, IsRow, Says, Spells}
-use Rattle.osb_schedule.specs.Words.{words_of}
-use Rattle.osb_schedule.specs.declared.limits.TheConstants.{LONGEST_LINE}
-use Rattle.osb_schedule.proofs.Splitting.{spaced-words, words-only}
+use Rattle.osb_language.specs.declared.fault.LineFault.{LineFault}
+use Rattle.osb_language.specs.declared.fault.LineFault.TheVariants.{BadChoice, BadId}
+use Rattle.osb_language.specs.declared.fields.Accepts.{Accepts}
+use Rattle.osb_language.specs.declared.fields.EndsWell.{EndsWell}
+use Rattle.osb_language.specs.declared.fields.GatewayStatus.{GatewayStatus}
+use Rattle.osb_language.specs.declared.line.Line.{Line}
+use Rattle.osb_language.specs.Fields.{and_then, choice, consents, endings, four_fields, id_field, modes, no_fields}
+use Rattle.osb_language.specs.Fields.{one_field, outcomes, status_field, three_fields, two_fields}
+use Rattle.osb_language.specs.Language.{begins_comment, event_as, is_ascii, line_of, spelled, spelled_as}
+use Rattle.osb_language.specs.Spelling.{a_status, accepts_word, an_id, ending_word, event_row, mode_word, outcome_word}
+use Rattle.osb_language.specs.Spelling.{the_word, AreFields, Field, IsField, IsRow, Says, Spells}
+use Rattle.osb_language.specs.Words.{words_of}
+use Rattle.osb_language.specs.declared.limits.TheConstants.{LONGEST_LINE}
+use Rattle.osb_language.proofs.Splitting.{spaced-words, words-only}
 
 -- ---- what is spelled is read
 

@@ -9,10 +9,10 @@ use Rattle.osb_broker.specs.declared.outcome.Outcome.{Outcome}
 use Rattle.osb_broker.specs.declared.outcome.Outcome.TheVariants.{Done, Before, After}
 use Rattle.osb_world.specs.declared.event.Event.{Event}
 use Rattle.osb_world.specs.declared.event.Event.TheVariants as Happens
-use Rattle.osb_schedule.specs.declared.language.Line.{Line}
-use Rattle.osb_schedule.specs.declared.limits.TheConstants.{LONGEST_LINE}
-use Rattle.osb_schedule.specs.Language.{begins_comment, is_ascii}
-use Rattle.osb_schedule.specs.Words.{IsSpacedOut}
+use Rattle.osb_language.specs.declared.line.Line.{Line}
+use Rattle.osb_language.specs.declared.limits.TheConstants.{LONGEST_LINE}
+use Rattle.osb_language.specs.Language.{begins_comment, is_ascii}
+use Rattle.osb_language.specs.Words.{IsSpacedOut}
 
 -- what a word spells: an id, in either case, just this word, or a status from 500 to 599, in decimal
 pub data Field : Type 0 where

@@ -8,11 +8,11 @@ use Rattle.osb_message.specs.declared.catalogue.Mode.{Mode}
 use Rattle.osb_message.specs.declared.catalogue.Mode.TheVariants.{Sync, Async}
 use Rattle.osb_broker.specs.declared.outcome.Outcome.{Outcome}
 use Rattle.osb_broker.specs.declared.outcome.Outcome.TheVariants.{Done, Before, After}
-use Rattle.osb_schedule.specs.declared.faults.LineFault.{LineFault}
-use Rattle.osb_schedule.specs.declared.faults.LineFault.TheVariants.{BadChoice, BadId, WordCount}
-use Rattle.osb_schedule.specs.declared.fields.Accepts.{Accepts}
-use Rattle.osb_schedule.specs.declared.fields.EndsWell.{EndsWell}
-use Rattle.osb_schedule.specs.declared.fields.GatewayStatus.{GatewayStatus}
+use Rattle.osb_language.specs.declared.fault.LineFault.{LineFault}
+use Rattle.osb_language.specs.declared.fault.LineFault.TheVariants.{BadChoice, BadId, WordCount}
+use Rattle.osb_language.specs.declared.fields.Accepts.{Accepts}
+use Rattle.osb_language.specs.declared.fields.EndsWell.{EndsWell}
+use Rattle.osb_language.specs.declared.fields.GatewayStatus.{GatewayStatus}
 
 -- an id, in its text form
 abbrev pub id_field : List ℕ → Result ℕ LineFault

@@ -1,6 +1,6 @@
 //! The words of a line: maximal runs of bytes other than space and tab.
 ghost use Rattle.std.specs.Prelude.{◌≡◌, ◌≢◌, ◌≤◌, ◌<◌, ℕ, true, false, [], ◌∷◌, length, slice_index, MatchOption};
-ghost use Rattle.osb_schedule.specs.Words.{is_blank, words_of};
+ghost use Rattle.osb_language.specs.Words.{is_blank, words_of};
 
 use memchr::memchr2;
 

@@ -1,9 +1,9 @@
 -- The first byte after the blanks tells a comment from other lines.
 use Rattle.std.proofs.Common.{sym, ap, ◌∙◌}
-use Rattle.osb_schedule.specs.Language.{spelled}
-use Rattle.osb_schedule.specs.Words.{words_of}
-use Rattle.osb_schedule.proofs.Splitting.{spelled_comment, spelled_plain}
-use Rattle.osb_schedule.proofs.language.read_words.Goals as goal
+use Rattle.osb_language.specs.Language.{spelled}
+use Rattle.osb_language.specs.Words.{words_of}
+use Rattle.osb_language.proofs.Splitting.{spelled_comment, spelled_plain}
+use Rattle.osb_language.proofs.line.read_words.Goals as goal
 
 pub returns-then-begins_comment : goal.returns-then-begins_comment
 returns-then-begins_comment c =

@@ -1,12 +1,12 @@
 //! The language of schedules (this project's choice): what a line says.
 ghost use Rattle.std.specs.Prelude.{◌≡◌, ◌↔◌, Ok};
-ghost use Rattle.osb_schedule.specs.Language.{begins_comment, event_as, is_ascii, line_of, spelled, spelled_as};
-ghost use Rattle.osb_schedule.specs.Spelling.{Says};
-ghost use Rattle.osb_schedule.specs.Words.{words_of};
-ghost use Rattle.osb_schedule.specs.declared.language.Line.{Line as Said};
+ghost use Rattle.osb_language.specs.Language.{begins_comment, event_as, is_ascii, line_of, spelled, spelled_as};
+ghost use Rattle.osb_language.specs.Spelling.{Says};
+ghost use Rattle.osb_language.specs.Words.{words_of};
+ghost use Rattle.osb_language.specs.declared.line.Line.{Line as Said};
 ghost use Rattle.std.specs.Str.Lines.{strip_carriage_return};
 
-use crate::faults::LineFault;
+use crate::fault::LineFault;
 use crate::fields::{
     Accepts, EndsWell, GatewayStatus, read_four, read_none, read_one, read_three, read_two,
 };

@@ -7,14 +7,14 @@ use Rattle.std.specs.Str.Lines.{strip_carriage_return}
 use Rattle.osb_broker.specs.declared.outcome.Outcome.{Outcome}
 use Rattle.osb_world.specs.declared.event.Event.{Event}
 use Rattle.osb_world.specs.declared.event.Event.TheVariants as Happens
-use Rattle.osb_schedule.specs.declared.faults.LineFault.{LineFault}
-use Rattle.osb_schedule.specs.declared.faults.LineFault.TheVariants.{LineTooLong, NotAscii, UnknownWord}
-use Rattle.osb_schedule.specs.declared.language.Line.{Line}
-use Rattle.osb_schedule.specs.declared.limits.TheConstants.{LONGEST_LINE}
-use Rattle.osb_schedule.specs.Fields.{and_then, choice, consents, endings, four_fields, id_field, modes, no_fields}
-use Rattle.osb_schedule.specs.Fields.{one_field}
-use Rattle.osb_schedule.specs.Fields.{outcomes, status_field, three_fields, two_fields}
-use Rattle.osb_schedule.specs.Words.{words_of}
+use Rattle.osb_language.specs.declared.fault.LineFault.{LineFault}
+use Rattle.osb_language.specs.declared.fault.LineFault.TheVariants.{LineTooLong, NotAscii, UnknownWord}
+use Rattle.osb_language.specs.declared.line.Line.{Line}
+use Rattle.osb_language.specs.declared.limits.TheConstants.{LONGEST_LINE}
+use Rattle.osb_language.specs.Fields.{and_then, choice, consents, endings, four_fields, id_field, modes, no_fields}
+use Rattle.osb_language.specs.Fields.{one_field}
+use Rattle.osb_language.specs.Fields.{outcomes, status_field, three_fields, two_fields}
+use Rattle.osb_language.specs.Words.{words_of}
 
 -- an event of an instance alone
 abbrev pub of_id : (ℕ → Event) → List (List ℕ) → Result Event LineFault

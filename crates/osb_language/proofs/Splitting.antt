@@ -9,12 +9,12 @@ use Rattle.std.proofs.lemmas.Bool.{cases_lt, cases_Bool}
 use Rattle.std.proofs.lemmas.Bool.Decides.{nat_tests}
 use Rattle.std.specs.Prelude.{Ok, nat_le}
 use Rattle.std.specs.List.{position_or_len}
-use Rattle.osb_schedule.specs.declared.language.Line.TheVariants.{Nothing}
-use Rattle.osb_schedule.specs.Language.{begins_comment, is_ascii, spelled, spelled_as}
+use Rattle.osb_language.specs.declared.line.Line.TheVariants.{Nothing}
+use Rattle.osb_language.specs.Language.{begins_comment, is_ascii, spelled, spelled_as}
 use Rattle.std.specs.Prelude.{filter, slice_index}
 use Rattle.std.specs.List.{All}
 use Rattle.std.proofs.lemmas.List.Splits.{slice_split-cons_yes, slice_split_none, slice_split_at}
-use Rattle.osb_schedule.specs.Words.{is_blank, is_word, words_of, EndsWord, IsGap, IsSpacedOut, IsWord}
+use Rattle.osb_language.specs.Words.{is_blank, is_word, words_of, EndsWord, IsGap, IsSpacedOut, IsWord}
 
 -- a blank before a line makes no word
 pub words-blank : (byte : ℕ) (rest : List ℕ) → is_blank byte ≡ true → words_of (byte ∷ rest) ≡ words_of rest
@@ -205,3 +205,7 @@ ascii_not bytes i large =
     ] in
     let there : nat_le (get_or bytes i 0) 127 ≡ false = grind (arith, nat_tests) in
     list_all_at (λ byte. nat_le byte 127) bytes i 0 inside there
+
+pub nil_of_length : (rest : List ℕ) → length rest ≡ 0 → rest ≡ []
+nil_of_length [] h = refl
+nil_of_length (byte ∷ rest) h = absurd (omega arith)

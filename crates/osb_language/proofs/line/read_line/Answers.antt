@@ -1,10 +1,10 @@
 -- What is read is what the line says.
 use Rattle.std.proofs.Common.{◌≡◌, ◌≤◌, length, rules, true, sym, ap, ◌∙◌, arith}
-use Rattle.osb_schedule.specs.Language.{is_ascii, spelled}
-use Rattle.osb_schedule.specs.Words.{words_of}
-use Rattle.osb_schedule.specs.declared.limits.TheConstants.{LONGEST_LINE}
-use Rattle.osb_schedule.proofs.Spelling.{line_of-words, says_iff}
-use Rattle.osb_schedule.proofs.language.read_line.Goals as goal
+use Rattle.osb_language.specs.Language.{is_ascii, spelled}
+use Rattle.osb_language.specs.Words.{words_of}
+use Rattle.osb_language.specs.declared.limits.TheConstants.{LONGEST_LINE}
+use Rattle.osb_language.proofs.Spelling.{line_of-words, says_iff}
+use Rattle.osb_language.proofs.line.read_line.Goals as goal
 
 pub returns-clause-says : goal.returns-clause-says
 returns-clause-says c =

@@ -1,0 +1,4 @@
+pub mod Fields
+pub mod Language
+pub mod Spelling
+pub mod Words
