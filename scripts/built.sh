@@ -1,4 +1,4 @@
-# What the built program was made of. Read by the launcher, and by check, which marks the program that
+# What the built program was made of. Read by the launcher and by libosb, and by check, which marks the program that
 # the gate has proved and built as the current one. $top is the folder of the repository. The program is
 # that of the crate $built_crate, osb_replay where nothing else is said, under the name $built_file in its folder out.
 : "${built_crate:=osb_replay}" "${built_file:=$built_crate}"
@@ -23,7 +23,7 @@ crates() {
 
 # What the crate itself stands on, as its line of crates.txt says.
 uses() {
-    sed -n "s/#.*//; s/^$built_crate[^:]*://p" "$top/crates.txt"
+    sed -n "s/#.*//; s/^${built_crate}\\( [^:]*\\)\\{0,1\\}://p" "$top/crates.txt"
 }
 
 # A digest of the names and contents of the sources. It fails where one of them can't be read.

@@ -396,6 +396,9 @@ static void check_platform(void)
     CHECK(osb_platform_answer(&platform, I, answered(410, OSB_MALFORMED)) == OSB_DONE);
     CHECK(osb_platform_send(&platform, I, &request) == OSB_NOTHING_DUE);
 
+    CHECK(osb_platform_ids(&platform, ids, 2, &needed) == OSB_DONE && needed == 1);
+    CHECK(ids[0].low == 1 && ids[1].low == 0);
+    ids[0].low = 0;
     CHECK(osb_platform_create(&platform, J, S, P, false, &request) == OSB_DONE && !request.accepts_incomplete);
     CHECK(osb_platform_ids(&platform, ids, 1, &needed) == OSB_TOO_SMALL && needed == 2 && ids[0].low == 0);
     CHECK(osb_platform_ids(&platform, ids, 2, &needed) == OSB_DONE && needed == 2);
@@ -405,6 +408,7 @@ static void check_platform(void)
     CHECK(osb_platform_row(&platform, J, &row) == OSB_DONE && row.state == OSB_CLEANING);
     osb_platform_free(&platform);
     CHECK(platform.at == NULL);
+    CHECK(osb_platform_send(&platform, I, &request) == OSB_EMPTY_HANDLE);
     osb_platform_free(&platform);
 }
 
@@ -478,6 +482,7 @@ static void check_broker(void)
     CHECK(osb_broker_new(&broker, plans, 1) == OSB_FULL_HANDLE);
     CHECK(osb_broker_handle(&broker, &request, OSB_WORK_DONE, &answer) == OSB_DONE && answer.status == 400);
     osb_broker_free(&broker);
+    CHECK(osb_broker_row(&broker, I, &row) == OSB_EMPTY_HANDLE);
     osb_broker_free(&broker);
     new_broker(&broker);
     request.kind = 3;

@@ -206,6 +206,7 @@ ascii_not bytes i large =
     let there : nat_le (get_or bytes i 0) 127 ≡ false = grind (arith, nat_tests) in
     list_all_at (λ byte. nat_le byte 127) bytes i 0 inside there
 
+-- there is no byte
 pub nil_of_length : (rest : List ℕ) → length rest ≡ 0 → rest ≡ []
 nil_of_length [] h = refl
 nil_of_length (byte ∷ rest) h = absurd (omega arith)

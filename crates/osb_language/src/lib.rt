@@ -2,7 +2,7 @@
 //!
 //! [`read_line`] reads one line, and [`Line`] is what it says: nothing, a plan that the broker sells, or an
 //! event of the world of `osb_world`. [`LineFault`] is why a line is refused. Which plan lines a schedule may
-//! have, and how many lines, is `osb_schedule`'s to say.
+//! have, and how many lines, is `osb_schedule`'s to say, and so are the three faults of those.
 //!
 //! ```
 //! // One carriage return at the end is dropped.

@@ -10,6 +10,7 @@ use Rattle.osb_language.specs.declared.fault.LineFault.{LineFault}
 use Rattle.osb_language.specs.declared.fault.LineFault.TheVariants.{LineTooLong, TooManyLines}
 use Rattle.std.specs.Prelude.{Result, Ok, Err, OnOk, slice_index}
 use Rattle.osb_language.specs.declared.limits.TheConstants.{LONGEST_LINE}
+use Rattle.osb_language.proofs.Splitting.{nil_of_length}
 use Rattle.osb_schedule.specs.declared.limits.TheConstants.{MOST_LINES}
 use Rattle.osb_schedule.specs.Lines.{lines, ended_lines, line_at}
 use Rattle.osb_schedule.specs.Faults.{fault_of, IsJudged, HasNoFault, IsFirstFault}
@@ -19,9 +20,7 @@ use Rattle.osb_schedule.specs.declared.run.Run.{Run}
 use Rattle.osb_schedule.specs.Reading.{Reading, taken, with_line, EndedAs, HasReadAs, HasRead, Refuses}
 use Rattle.osb_schedule.specs.declared.faults.ScheduleFault.{ScheduleFault}
 use Rattle.osb_schedule.specs.declared.faults.ScheduleFault.TheVariants.{At, Memory}
-use Rattle.osb_schedule.proofs.Cutting.{lines_at_feed, cut_at, front_line, some_line, unended_both}
-use Rattle.osb_schedule.proofs.Cutting.{held_line}
-use Rattle.osb_language.proofs.Splitting.{nil_of_length}
+use Rattle.osb_schedule.proofs.Cutting.{lines_at_feed, cut_at, front_line, held_line, some_line, unended_both}
 
 pub on_ok_both : {T E : Type 0} (P Q : Type 0) (r : Result T E) → OnOk r P → OnOk r Q → OnOk r (P × Q)
 on_ok_both P Q (Ok x) p q = (p, q)

@@ -119,7 +119,8 @@ lines_by : (world : WorldState) (es : List (ℕ × PlatformRow))
     → flat_map (record_line world) es ≡ flat_map (λ id. id_line id (cell_at world id)) (map (λ e. e.0) es)
 lines_by world [] all = refl
 lines_by world (e ∷ es) all =
-    (λ i. instance_line e.0 (record_word (sym all.0 i)) (broker_word (cell_at world e.0).broker) ++ lines_by world es all.1 i)
+    (λ i. instance_line e.0 (record_word (sym all.0 i)) (broker_word (cell_at world e.0).broker)
+    ++ lines_by world es all.1 i)
 
 found_in : (rows : FinMap nat_cmp PlatformRow) (es : List (ℕ × PlatformRow))
     → AllByRecursion (λ e. find nat_cmp e.0 (entries rows) ≡ Some e.1) es

@@ -7,14 +7,14 @@ use Rattle.std.proofs.lemmas.List.{length-append}
 use Rattle.std.specs.Prelude.{Result, nat_lt}
 use Rattle.osb_language.specs.declared.fault.LineFault.{LineFault}
 use Rattle.osb_language.specs.declared.fault.LineFault.TheVariants.{LineTooLong}
-use Rattle.osb_schedule.specs.declared.faults.ScheduleFault.{ScheduleFault}
-use Rattle.osb_schedule.specs.declared.faults.ScheduleFault.TheVariants.{At, Memory}
 use Rattle.osb_language.specs.declared.line.Line.{Line}
 use Rattle.osb_language.specs.declared.limits.TheConstants.{LONGEST_LINE}
+use Rattle.osb_language.specs.Language.{line_of}
+use Rattle.osb_schedule.specs.declared.faults.ScheduleFault.{ScheduleFault}
+use Rattle.osb_schedule.specs.declared.faults.ScheduleFault.TheVariants.{At, Memory}
 use Rattle.osb_schedule.specs.declared.limits.TheConstants.{MOST_LINES}
 use Rattle.osb_schedule.specs.declared.schedule.Schedule.{Schedule}
 use Rattle.osb_schedule.specs.Faults.{fault_of, HasNoFault}
-use Rattle.osb_language.specs.Language.{line_of}
 use Rattle.osb_schedule.specs.Lines.{lines, line_at}
 use Rattle.osb_schedule.specs.Reading.{Refuses}
 use Rattle.osb_schedule.specs.Run.{IsLineFault}

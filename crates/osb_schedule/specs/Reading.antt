@@ -1,10 +1,10 @@
 -- What a line reader knows of the bytes that it has taken.
 use Rattle.std.specs.Prelude.{◌≡◌, ℕ, ◌+◌, ◌*◌, ◌<◌, ◌≤◌, Bool, List, ◌++◌, length, take, None, ⊤, refl}
 use Rattle.std.specs.Coded.{Coded, code_by, coded×, coded_list, coded_ℕ}
+use Rattle.osb_language.specs.declared.limits.TheConstants.{LONGEST_LINE}
 use Rattle.osb_schedule.specs.contracts.run.Run as run
 use Rattle.osb_schedule.specs.declared.faults.ScheduleFault.{ScheduleFault}
 use Rattle.osb_schedule.specs.declared.faults.ScheduleFault.TheVariants.{At, Memory}
-use Rattle.osb_language.specs.declared.limits.TheConstants.{LONGEST_LINE}
 use Rattle.osb_schedule.specs.declared.limits.TheConstants.{MOST_LINES}
 use Rattle.osb_schedule.specs.declared.run.Run.{Run}
 use Rattle.osb_schedule.specs.Faults.{fault_of, IsFirstFault}

@@ -7,9 +7,9 @@ use Rattle.osb_world.specs.declared.event.Event.{Event}
 use Rattle.osb_language.specs.declared.fault.LineFault.{LineFault}
 use Rattle.osb_language.specs.declared.fault.LineFault.TheVariants.{DuplicatePlan, LatePlan}
 use Rattle.osb_language.specs.declared.line.Line.{Line}
+use Rattle.osb_language.specs.Language.{line_of}
 use Rattle.osb_schedule.specs.declared.schedule.Schedule.{Schedule}
 use Rattle.osb_broker.specs.Answers.{Catalogue}
-use Rattle.osb_language.specs.Language.{line_of}
 
 -- a plan line adds its plan to the catalogue
 abbrev pub with_plan : Catalogue → Result Line LineFault → Catalogue

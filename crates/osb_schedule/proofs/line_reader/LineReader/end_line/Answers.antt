@@ -1,11 +1,11 @@
 -- A line feed ends the line that its last part makes whole.
 use Rattle.std.proofs.Common.{false, ◌≡◌, ◌+◌, ◌<◌, ◌∷◌, ◌++◌, length, length-take, sym, subst, arith}
 use Rattle.std.proofs.lemmas.Result.{on_ok_weaker, IfErr-weaker}
+use Rattle.osb_language.proofs.Splitting.{nil_of_length}
 use Rattle.osb_schedule.specs.Reading.{with_line, Refuses, HasReadAs}
 use Rattle.osb_schedule.specs.Run.{IsLineFault}
 use Rattle.osb_schedule.specs.Schedule.{said_fault}
 use Rattle.osb_schedule.specs.declared.limits.TheConstants.{MOST_LINES}
-use Rattle.osb_language.proofs.Splitting.{nil_of_length}
 use Rattle.osb_schedule.proofs.Reading.{on_ok_both, held_more, held_whole, good_feed, refused_feed}
 use Rattle.osb_schedule.proofs.line_reader.LineReader.end_line.Goals as goal
 
