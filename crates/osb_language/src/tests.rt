@@ -45,7 +45,7 @@ fn plans_and_nothing(rt: HostRuntime) -> Result<(), Fail> {
         ("plan S P async", plan_line(Mode::Async)),
         ("\tplan  S \t P sync \r", plan_line(Mode::Sync)),
     ];
-    for (text, said) in cases {
+    for &(text, said) in &cases {
         let line = line_with_ids(rt.alloc(), text)?;
         assert!(rt; read_line(line.as_bytes()) == Ok(said), "{text}");
     }
@@ -108,7 +108,7 @@ fn events(rt: HostRuntime) -> Result<(), Fail> {
         ("  restart\t", Event::Restart),
         (" \tanswer\t \tI\t", Event::Answer { id }),
     ];
-    for (text, event) in cases {
+    for &(text, event) in &cases {
         let line = line_with_ids(rt.alloc(), text)?;
         assert!(rt;
             read_line(line.as_bytes()) == Ok(Line::Event(event)),
@@ -121,7 +121,7 @@ fn events(rt: HostRuntime) -> Result<(), Fail> {
 #[test]
 fn ids_in_either_case(rt: HostRuntime) {
     let id = InstanceId::from_value(0xabcdef);
-    for line in [
+    for &line in &[
         b"send 00000000-0000-0000-0000-000000abcdef".as_slice(),
         b"send 00000000-0000-0000-0000-000000ABCDEF".as_slice(),
     ] {
@@ -132,7 +132,7 @@ fn ids_in_either_case(rt: HostRuntime) {
 // The first byte of a character of UTF-8, alone, and a byte that no character has.
 #[test]
 fn bytes_that_are_no_text(rt: HostRuntime) {
-    for line in [b"# \xc3".as_slice(), b"\xc3".as_slice(), b"\xff".as_slice()] {
+    for &line in &[b"# \xc3".as_slice(), b"\xc3".as_slice(), b"\xff".as_slice()] {
         assert!(rt; read_line(line) == Err(LineFault::NotAscii));
     }
 }
@@ -323,7 +323,7 @@ fn statuses(rt: HostRuntime) -> Result<(), Fail> {
         let read = GatewayStatus::read(word.as_bytes());
         assert!(rt; read.is_ok_and(|read| read.0 == status), "{word}");
     }
-    for word in [
+    for &word in &[
         "499",
         "600",
         "0502",
@@ -357,7 +357,7 @@ fn faults_of_lines_have_their_numbers_and_names(rt: HostRuntime) -> Result<(), F
         (LineFault::DuplicatePlan, 8, "DuplicatePlan"),
         (LineFault::TooManyLines, 9, "TooManyLines"),
     ];
-    for (fault, number, name) in cases {
+    for &(fault, number, name) in &cases {
         assert!(rt; fault as u8 == number, "{name}");
         assert!(rt; fault.to_string(rt.alloc())?.as_str() == name, "{name}");
     }

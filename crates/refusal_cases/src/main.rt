@@ -61,7 +61,7 @@ fn tell(rt: &impl Print, alloc: Global, part: &str) -> Result<()> {
 }
 
 fn tell_all(rt: &impl Print, alloc: Global) -> Result<()> {
-    for part in PARTS {
+    for &part in &PARTS {
         tell(rt, alloc, part)?;
     }
     Ok(())
@@ -69,7 +69,7 @@ fn tell_all(rt: &impl Print, alloc: Global) -> Result<()> {
 
 // Names the parts, for the check that goes through them.
 fn list(rt: &impl Print) -> Result<()> {
-    for part in PARTS {
+    for &part in &PARTS {
         println!(rt; "{part}")?;
     }
     Ok(())

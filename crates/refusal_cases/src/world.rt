@@ -121,7 +121,7 @@ pub fn steps(rt: &impl Print, alloc: Global) -> Result<()> {
         ),
     ];
     let mut case = case_after(alloc, &[], Call::Ids)?;
-    for (event, name) in events {
+    for &(event, name) in &events {
         case.call = Call::Step(event);
         tell(rt, alloc, name, &mut case)?;
     }

@@ -72,7 +72,7 @@ fn poll_both(rt: &impl Abort, broker: &mut Broker) -> Result<(), Fail> {
 
 #[test]
 fn other_rows_stay(rt: HostRuntime) -> Result<(), Fail> {
-    for count in [2, 50] {
+    for &count in &[2, 50] {
         let mut broker = new_broker(rt.alloc())?;
         provide(&rt, &mut broker, count)?;
         are_new(&rt, &broker, 1, count);

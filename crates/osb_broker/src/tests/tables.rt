@@ -175,7 +175,7 @@ fn check_case(rt: &impl Abort, alloc: Global, kind: Kind, case: Case) -> Result<
 
 #[test]
 fn provision(rt: HostRuntime) -> Result<(), Fail> {
-    for case in PROVISION {
+    for &case in &PROVISION {
         check_case(&rt, rt.alloc(), Kind::Provision, case)?;
     }
     Ok(())
@@ -183,7 +183,7 @@ fn provision(rt: HostRuntime) -> Result<(), Fail> {
 
 #[test]
 fn deprovision(rt: HostRuntime) -> Result<(), Fail> {
-    for case in DEPROVISION {
+    for &case in &DEPROVISION {
         check_case(&rt, rt.alloc(), Kind::Deprovision, case)?;
     }
     Ok(())
@@ -191,7 +191,7 @@ fn deprovision(rt: HostRuntime) -> Result<(), Fail> {
 
 #[test]
 fn poll(rt: HostRuntime) -> Result<(), Fail> {
-    for case in POLL {
+    for &case in &POLL {
         check_case(&rt, rt.alloc(), Kind::Poll, case)?;
     }
     Ok(())
@@ -199,7 +199,7 @@ fn poll(rt: HostRuntime) -> Result<(), Fail> {
 
 #[test]
 fn words(rt: HostRuntime) -> Result<(), Fail> {
-    for (phase, word) in [
+    for &(phase, word) in &[
         (Phase::Making, "making"),
         (Phase::Ready, "ready"),
         (Phase::Failed, "failed"),

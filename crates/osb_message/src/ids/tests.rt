@@ -16,7 +16,7 @@ fn texts_of_ids(rt: HostRuntime) {
 
 #[test]
 fn other_texts_are_no_ids(rt: HostRuntime) {
-    for text in [
+    for &text in &[
         "",
         "00000000000000000000000000000001",
         "{00000000-0000-0000-0000-000000000001}",
@@ -39,7 +39,7 @@ fn texts_in_lower_case_alone(rt: HostRuntime) {
     assert!(rt; InstanceId::from_lower_text(text) == Some(id));
     let mut buffer = [0u8; 36];
     assert!(rt; id.text_in(&mut buffer) == text);
-    for other in [
+    for &other in &[
         "",
         "00000000-0000-0000-0000-00000000ABCD",
         "00000000-0000-0000-0000-00000000abcD",
@@ -52,7 +52,7 @@ fn texts_in_lower_case_alone(rt: HostRuntime) {
 #[test]
 fn bytes_are_read_as_text_is(rt: HostRuntime) {
     let id = InstanceId::from_value(0x67e5_5044_10b1_426f_9247_bb68_0e5f_e0c8);
-    for text in [
+    for &text in &[
         b"67e55044-10b1-426f-9247-bb680e5fe0c8",
         b"67E55044-10B1-426F-9247-BB680E5FE0C8",
     ] {

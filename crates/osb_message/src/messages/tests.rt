@@ -4,7 +4,7 @@ use super::{Answer, Body, ErrorCode, Kind, LastState, well_formed};
 fn what_can_be_read_whole(rt: HostRuntime) {
     let state = Body::State(LastState::Succeeded);
     let code = Body::Error(ErrorCode::Other);
-    for (kind, status, body, expected) in [
+    for &(kind, status, body, expected) in &[
         (Kind::Provision, 200, Body::Empty, true),
         (Kind::Provision, 201, Body::Empty, true),
         (Kind::Provision, 202, Body::Empty, true),

@@ -100,7 +100,7 @@ fn the_text_of_a_platform(rt: HostRuntime) -> Result<(), Fail> {
 // A platform with an instance in each state, under the ids 1 to 7.
 fn in_each_state(rt: &impl Abort, alloc: Global) -> Platform {
     let mut platform = Platform::new(alloc);
-    for (id, answer) in [
+    for &(id, answer) in &[
         (7, None),
         (6, Some((500, Body::Empty))),
         (5, Some((500, Body::Empty))),
@@ -167,7 +167,7 @@ fn an_instance_in_each_state_is_loaded(rt: HostRuntime) -> Result<(), Fail> {
         panic!(rt; "the text isn't loaded");
     };
     assert_eq!(rt; platform.ids(alloc)?.len(), 7);
-    for (id, word, state) in EACH_STATE {
+    for &(id, word, state) in &EACH_STATE {
         let after = if id == 7 { State::Cleaning } else { state };
         assert!(rt;
             platform.row(InstanceId::from_value(id)) == Some(row(after)),
@@ -223,7 +223,7 @@ fn a_hundred_instances_are_loaded(rt: HostRuntime) -> Result<(), Fail> {
 #[test]
 fn one_instance_is_loaded(rt: HostRuntime) -> Result<(), Fail> {
     let alloc = rt.alloc();
-    for (word, expected) in [
+    for &(word, expected) in &[
         ("ready", Ok(one(State::Ready))),
         ("wanted", Ok(one(State::Cleaning))),
         ("done", Err(LoadFault::BadMember)),
@@ -270,7 +270,7 @@ fn repeated(alloc: Global, text: &str, times: u32) -> Result<String, Fail> {
 #[test]
 fn texts_that_nest(rt: HostRuntime) -> Result<(), Fail> {
     let alloc = rt.alloc();
-    for (what, open, close, times, expected) in [
+    for &(what, open, close, times, expected) in &[
         ("127 lists", "[", "]", 127, LoadFault::NotAnObject),
         ("128 lists", "[", "]", 128, LoadFault::NotJson),
         (

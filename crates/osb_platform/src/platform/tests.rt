@@ -213,7 +213,7 @@ fn a_hundred_instances(rt: HostRuntime) -> Result<(), Fail> {
 
 #[test]
 fn words_that_are_printed(rt: HostRuntime) -> Result<(), Fail> {
-    for (state, word) in [
+    for &(state, word) in &[
         (State::Wanted, "wanted"),
         (State::Polling, "polling"),
         (State::Ready, "ready"),
@@ -231,7 +231,7 @@ fn words_that_are_printed(rt: HostRuntime) -> Result<(), Fail> {
 
 #[test]
 fn after_a_provision(rt: HostRuntime) {
-    for (status, body, word, mitigated) in [
+    for &(status, body, word, mitigated) in &[
         (100, Body::Empty, "cleaning", true),
         (200, Body::Empty, "ready", false),
         (200, Body::Malformed, "unsettled", false),
@@ -266,7 +266,7 @@ fn after_a_provision(rt: HostRuntime) {
 
 #[test]
 fn after_a_deprovision(rt: HostRuntime) {
-    for (given, word) in [
+    for &(given, word) in &[
         (Some(answer(200, Body::Empty)), "gone"),
         (Some(answer(200, Body::Malformed)), "cleaning"),
         (Some(answer(201, Body::Empty)), "cleaning"),
@@ -290,7 +290,7 @@ fn after_a_deprovision(rt: HostRuntime) {
 
 #[test]
 fn after_a_poll(rt: HostRuntime) {
-    for (given, made, deleted) in [
+    for &(given, made, deleted) in &[
         (
             Some(answer(200, IN_PROGRESS)),
             "polling",
@@ -327,7 +327,7 @@ fn after_a_poll(rt: HostRuntime) {
 
 #[test]
 fn what_an_operator_removes(rt: HostRuntime) {
-    for (status, body, removed, after) in [
+    for &(status, body, removed, after) in &[
         (200, Body::Empty, Ok(()), State::Cleaning),
         (202, Body::Empty, Ok(()), State::Cleaning),
         (200, Body::Malformed, Ok(()), State::Cleaning),
@@ -350,7 +350,7 @@ fn what_an_operator_removes(rt: HostRuntime) {
 
 #[test]
 fn after_a_timeout_or_a_restart(rt: HostRuntime) {
-    for (state, after) in [
+    for &(state, after) in &[
         (State::Wanted, State::Cleaning),
         (State::Polling, State::Polling),
         (State::Ready, State::Ready),

@@ -50,7 +50,7 @@ fn replay(settle: bool, saved: bool) -> Asked {
 
 #[test]
 fn replays_with_and_without_options(rt: HostRuntime) -> Result<(), Fail> {
-    for (line, settle, saved) in [
+    for &(line, settle, saved) in &[
         ("osb-replay replay", false, false),
         ("osb-replay replay --settle", true, false),
         ("osb-replay replay --saved", false, true),
@@ -66,7 +66,7 @@ fn replays_with_and_without_options(rt: HostRuntime) -> Result<(), Fail> {
 
 #[test]
 fn the_table_is_asked_for(rt: HostRuntime) -> Result<(), Fail> {
-    for line in ["osb-replay table", "./osb_replay table", "table table"] {
+    for &line in &["osb-replay table", "./osb_replay table", "table table"] {
         check_taken(&rt, rt.alloc(), line, Asked::Table)?;
     }
     Ok(())
@@ -74,7 +74,7 @@ fn the_table_is_asked_for(rt: HostRuntime) -> Result<(), Fail> {
 
 #[test]
 fn lines_that_ask_for_help(rt: HostRuntime) -> Result<(), Fail> {
-    for (line, said) in [
+    for &(line, said) in &[
         ("osb-replay --help", "\n       osb-replay table\n"),
         ("osb-replay -h", "\n       osb-replay table\n"),
         ("./osb_replay --help", "\n       osb-replay table\n"),
@@ -89,7 +89,7 @@ fn lines_that_ask_for_help(rt: HostRuntime) -> Result<(), Fail> {
 
 #[test]
 fn lines_without_a_subcommand(rt: HostRuntime) -> Result<(), Fail> {
-    for (line, said) in [
+    for &(line, said) in &[
         ("", "requires a subcommand"),
         ("osb-replay", "requires a subcommand"),
         ("osb-replay --", "requires a subcommand"),
@@ -109,7 +109,7 @@ fn lines_without_a_subcommand(rt: HostRuntime) -> Result<(), Fail> {
 
 #[test]
 fn subcommands_that_are_refused(rt: HostRuntime) -> Result<(), Fail> {
-    for (line, said) in [
+    for &(line, said) in &[
         ("osb-replay replay --fast", "'--fast'"),
         ("osb-replay replay --setle", "exists: '--settle'"),
         ("osb-replay replay --save", "exists: '--saved'"),

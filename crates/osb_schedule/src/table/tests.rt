@@ -95,7 +95,7 @@ fn check_refused(rt: &impl Abort, alloc: Global, name: &str, room: usize, flushe
 #[test]
 fn writers_that_refuse(rt: HostRuntime) {
     let room = TABLE.len();
-    for (name, room, flushes) in [
+    for &(name, room, flushes) in &[
         ("every write is refused", 0, true),
         ("a write in the middle is refused", 200, true),
         ("the last byte is refused", room - 1, true),

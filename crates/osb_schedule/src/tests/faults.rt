@@ -15,7 +15,7 @@ fn texts_and_statuses_of_faults(rt: HostRuntime) -> Result<(), Fail> {
         (ReplayFault::Write, "write failed", 4),
         (ReplayFault::Memory, "out of memory", 5),
     ];
-    for (fault, text, status) in cases {
+    for &(fault, text, status) in &cases {
         assert!(rt; fault.to_string(rt.alloc())?.as_str() == text, "{text}");
         assert!(rt; status_of(&fault) == status, "{text}");
     }

@@ -130,7 +130,7 @@ fn as_many_and_as_long_lines_as_there_may_be(rt: HostRuntime) -> Result<(), Fail
 #[test]
 fn lines_that_are_too_long(rt: HostRuntime) -> Result<(), Fail> {
     let full = repeated(rt.alloc(), "#", 511)?;
-    for (name, end) in [
+    for &(name, end) in &[
         ("513 bytes", "##"),
         ("513 bytes and a line feed", "##\n"),
         ("512 bytes and a carriage return", "#\r\n"),

@@ -33,8 +33,8 @@ fn a_reader_that_fails_after_its_bytes(rt: HostRuntime) -> Result<(), Fail> {
             Some((100_001, LineFault::TooManyLines)),
         ),
     ];
-    for (name, schedule, found) in cases {
-        for most in [1, 7, 4096] {
+    for &(name, schedule, found) in &cases {
+        for &most in &[1, 7, 4096] {
             let bytes = schedule.as_bytes();
             // The call after the last byte.
             let fails_at = bytes.len().div_ceil(most).saturating_add(1);
@@ -87,7 +87,7 @@ fn a_reader_that_fails_at_each_call_in_turn(rt: HostRuntime) -> Result<(), Fail>
 fn a_line_is_judged_at_its_line_feed(rt: HostRuntime) {
     let (line, fault) = (1, LineFault::UnknownWord);
     let judged = ReplayFault::Schedule { line, fault };
-    for (fails_at, fault) in [(8, ReplayFault::Read), (9, judged)] {
+    for &(fails_at, fault) in &[(8, ReplayFault::Read), (9, judged)] {
         let reader = Pieces {
             fails_at,
             ..in_pieces(b"Restart\n", 1)
@@ -102,7 +102,7 @@ fn a_line_is_judged_at_its_line_feed(rt: HostRuntime) {
 fn a_reader_is_asked_once_a_call(rt: HostRuntime) -> Result<(), Fail> {
     let schedule = after_plans(rt.alloc(), MADE)?;
     // A last call finds the end.
-    for (most, calls) in [(1, 385), (7, 56), (4096, 2)] {
+    for &(most, calls) in &[(1, 385), (7, 56), (4096, 2)] {
         let mut reader = Input::new(in_pieces(schedule.as_bytes(), most));
         let mut writer = Output::new(Vec::new(rt.alloc()));
         let result = replay(rt.alloc(), &mut reader, &mut writer, PLAIN);
@@ -183,7 +183,7 @@ fn readers_that_never_end(rt: HostRuntime) {
             25,
         ),
     ];
-    for (name, byte, most, line, fault, calls) in cases {
+    for &(name, byte, most, line, fault, calls) in &cases {
         let mut reader = Input::new(Endless {
             byte,
             most,

@@ -219,7 +219,7 @@ skipped 0
         settle: false,
         saved: true,
     };
-    for (name, schedule, report) in cases {
+    for &(name, schedule, report) in &cases {
         check_report(&rt, rt.alloc(), name, options, schedule, report);
     }
     Ok(())
@@ -294,7 +294,7 @@ fn lines_that_say_nothing_known(rt: HostRuntime) -> Result<(), Fail> {
 // Of a character of UTF-8, too: its first byte alone, and all of it.
 #[test]
 fn bytes_above_127(rt: HostRuntime) {
-    for schedule in [
+    for &schedule in &[
         b"# \xc3\n".as_slice(),
         b"# \xc3\xa9\n".as_slice(),
         b"\xff".as_slice(),
@@ -312,7 +312,7 @@ fn statuses_that_no_gateway_has(rt: HostRuntime) -> Result<(), Fail> {
         ("a zero before it", "gateway I 0502", LineFault::BadChoice),
         ("none", "gateway I", LineFault::WordCount),
     ];
-    for (name, event, fault) in cases {
+    for &(name, event, fault) in &cases {
         let schedule = after_plans(rt.alloc(), event)?;
         check_fault(&rt, rt.alloc(), name, schedule.as_bytes(), 3, fault);
     }
@@ -346,7 +346,7 @@ fn plan_lines_that_come_late_or_twice(rt: HostRuntime) -> Result<(), Fail> {
 
 #[test]
 fn a_faulty_last_line_without_its_line_feed(rt: HostRuntime) {
-    for (text, line) in [("bogus", 1), ("\nbogus", 2)] {
+    for &(text, line) in &[("bogus", 1), ("\nbogus", 2)] {
         let what = "a word that begins no line";
         let bytes = text.as_bytes();
         check_fault(&rt, rt.alloc(), what, bytes, line, LineFault::UnknownWord);

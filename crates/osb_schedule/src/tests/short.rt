@@ -179,7 +179,7 @@ pub fn check_report(
     schedule: &str,
     report: &str,
 ) {
-    for most in CUTS {
+    for &most in &CUTS {
         let reader = in_pieces(schedule.as_bytes(), most);
         let (result, written) = outcome_with(alloc, reader, options);
         assert!(rt; result == Ok(()), "{name}, {most} bytes a call");
@@ -199,7 +199,7 @@ pub fn check_fault(
     line: u32,
     fault: LineFault,
 ) {
-    for most in CUTS {
+    for &most in &CUTS {
         let (result, written) = outcome(alloc, in_pieces(schedule, most));
         let found = ReplayFault::Schedule { line, fault };
         assert!(rt; result == Err(found), "{name}, {most} bytes a call");

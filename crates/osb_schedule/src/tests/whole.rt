@@ -33,7 +33,7 @@ fn plans_and_events_of_a_schedule(rt: HostRuntime) -> Result<(), Fail> {
         (0xb2, Some(Mode::Async)),
         (0xb3, None),
     ];
-    for (plan, mode) in modes {
+    for &(plan, mode) in &modes {
         let found = schedule.catalogue.mode(service, PlanId::from_value(plan));
         assert!(rt; found == mode, "{plan}");
     }

@@ -12,7 +12,7 @@ const REPORT: &str = "I ready ready; applied 3; skipped 0";
 fn a_writer_that_takes_little_a_call(rt: HostRuntime) -> Result<(), Fail> {
     let schedule = after_plans(rt.alloc(), MADE)?;
     let report = expanded(rt.alloc(), REPORT)?;
-    for (most, calls) in [(1, 69), (7, 10), (4096, 1)] {
+    for &(most, calls) in &[(1, 69), (7, 10), (4096, 1)] {
         let mut reader = Input::new(schedule.as_bytes());
         let mut writer = Output::new(taking_slowly(rt.alloc(), most));
         let result = replay(rt.alloc(), &mut reader, &mut writer, PLAIN);

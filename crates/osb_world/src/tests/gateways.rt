@@ -9,7 +9,7 @@ use std::test::Fail;
 #[test]
 fn gateway_errors(rt: HostRuntime) -> Result<(), Fail> {
     let (ready, making) = (Some(Phase::Ready), Some(Phase::Making));
-    for (told, story) in [
+    for &(told, story) in &[
         (
             ("in place of the broker", 502, Malformed, Cleaning, None),
             "create-sync gateway-502 answer",
@@ -58,7 +58,7 @@ fn gateway_errors(rt: HostRuntime) -> Result<(), Fail> {
 fn no_gateway_error(rt: HostRuntime) -> Result<(), Fail> {
     let wanted = (Some(Wanted), None);
     let ready = (Some(Ready), Some(Phase::Ready));
-    for (name, story, applied, both) in [
+    for &(name, story, applied, both) in &[
         ("with nothing out", "gateway-502", 0, (None, None)),
         ("a status below 500", "create-sync gateway-499", 1, wanted),
         ("a status above 599", "create-sync gateway-600", 1, wanted),

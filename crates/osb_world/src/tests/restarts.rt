@@ -71,7 +71,7 @@ const STORIES: [Restarted; 6] = [
 
 #[test]
 fn stories_with_a_restart(rt: HostRuntime) -> Result<(), Fail> {
-    for (name, story, applied, skipped, recorded, held) in STORIES {
+    for &(name, story, applied, skipped, recorded, held) in &STORIES {
         let events = events_of(&rt, rt.alloc(), story)?;
         let end = told_through(rt.alloc(), &events)?;
         assert_eq!(rt; (end.applied, end.skipped), (applied, skipped), "{name}");

@@ -20,7 +20,7 @@ const GONE: Sides = (Some(Gone), None);
 
 #[test]
 fn settled_instances(rt: HostRuntime) -> Result<(), Fail> {
-    for (story, before, after) in [
+    for &(story, before, after) in &[
         ("", NOTHING, NOTHING),
         ("create-sync deliver answer", READY, READY),
         ("create-sync", (Some(Wanted), None), GONE),

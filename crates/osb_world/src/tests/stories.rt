@@ -22,7 +22,7 @@ const FAILED: Body = Body::State(LastState::Failed);
 #[test]
 fn a_synchronous_plan(rt: HostRuntime) -> Result<(), Fail> {
     let ready = Some(Phase::Ready);
-    for (told, story) in [
+    for &(told, story) in &[
         (
             ("made at once", 201, Empty, Ready, ready),
             "create-sync deliver answer",
@@ -75,7 +75,7 @@ fn an_asynchronous_plan(rt: HostRuntime) -> Result<(), Fail> {
     let (making, ready) = (Some(Phase::Making), Some(Phase::Ready));
     let (failed, deleting) = (Some(Phase::Failed), Some(Phase::Deleting));
     let delete_failed = Some(Phase::DeleteFailed);
-    for (told, story) in [
+    for &(told, story) in &[
         (
             ("not accepted", 422, REQUIRED, Gone, None),
             "create-not-accepting deliver answer",
@@ -167,7 +167,7 @@ fn ready_on_both_sides(rt: HostRuntime) -> Result<(), Fail> {
 fn one_instance_beside_another(rt: HostRuntime) -> Result<(), Fail> {
     let (low, high) = (instance(), InstanceId::from_value(2));
     let mut world = World::new(rt.alloc(), new_catalogue(rt.alloc())?);
-    for (event, step) in [
+    for &(event, step) in &[
         (create(high, SYNC, false), Step::Applied),
         (create(high, SYNC, true), Step::Skipped),
         (create(low, SYNC, false), Step::Applied),
@@ -186,7 +186,7 @@ fn one_instance_beside_another(rt: HostRuntime) -> Result<(), Fail> {
 fn the_records_in_ascending_order(rt: HostRuntime) -> Result<(), Fail> {
     let (low, high) = (instance(), InstanceId::from_value(2));
     let mut world = World::new(rt.alloc(), new_catalogue(rt.alloc())?);
-    for event in [
+    for &event in &[
         create(high, SYNC, false),
         create(low, SYNC, false),
         Event::Timeout { id: high },

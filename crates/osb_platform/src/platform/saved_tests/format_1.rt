@@ -16,7 +16,7 @@ const UPPER_A0: &str = "00000000-0000-0000-0000-0000000000A0";
 
 #[test]
 fn an_old_text_is_saved_in_the_new_format(rt: HostRuntime) -> Result<(), Fail> {
-    for (old, new) in [
+    for &(old, new) in &[
         (OLD_READY, READY),
         ("{}", r#"{"instances":{},"version":2}"#),
     ] {
@@ -40,7 +40,7 @@ fn an_old_text_goes_on(rt: HostRuntime) -> Result<(), Fail> {
 #[test]
 fn words_of_one_instance(rt: HostRuntime) -> Result<(), Fail> {
     let alloc = rt.alloc();
-    for (word, expected) in [
+    for &(word, expected) in &[
         (r#""ready""#, Ok(one(State::Ready))),
         (r#""wanted""#, Ok(one(State::Cleaning))),
         (r#""\u0072eady""#, Ok(one(State::Ready))),
@@ -65,7 +65,7 @@ fn words_of_one_instance(rt: HostRuntime) -> Result<(), Fail> {
 #[test]
 fn plans_of_one_instance(rt: HostRuntime) -> Result<(), Fail> {
     let alloc = rt.alloc();
-    for (what, plan, expected) in [
+    for &(what, plan, expected) in &[
         ("an id", PLAN, Ok(one(State::Ready))),
         ("no plan", "", Err(LoadFault::BadMember)),
         ("another name", r#""x":1,"#, Err(LoadFault::BadMember)),
@@ -85,7 +85,7 @@ fn plans_of_one_instance(rt: HostRuntime) -> Result<(), Fail> {
         let text = format!(in alloc; "{{\"{ID}\":{{{plan}{SERVICE}{WORD}}}}}")?;
         assert!(rt; loaded(&rt, alloc, text.as_str()) == expected, "{what}");
     }
-    for (what, text) in [
+    for &(what, ref text) in &[
         (
             "spaces and line ends",
             format!(in alloc; "\n{{ \"{ID}\" :\n{{ {PLAN}\t{SERVICE}\r\n{WORD} }} }}\n ")?,
@@ -111,7 +111,7 @@ fn plans_of_one_instance(rt: HostRuntime) -> Result<(), Fail> {
 #[test]
 fn names_of_one_instance(rt: HostRuntime) -> Result<(), Fail> {
     let alloc = rt.alloc();
-    for (what, name, expected) in [
+    for &(what, name, expected) in &[
         ("the id", ID, Ok(one(State::Ready))),
         (
             "another id",
@@ -154,7 +154,7 @@ fn names_of_one_instance(rt: HostRuntime) -> Result<(), Fail> {
         loaded(&rt, alloc, twice.as_str()) == Ok(one(State::Ready)),
         "the id twice"
     );
-    for text in [
+    for text in &[
         format!(in alloc; "{{\"{ID}\":7,\"x\":{{}}}}")?,
         format!(in alloc; "{{\"x\":{{}},\"{ID}\":7}}")?,
         format!(in alloc; "{{\"{ID}\":7,\"x\":{{{PLAN}{SERVICE}{WORD}}}}}")?,
@@ -169,7 +169,7 @@ fn names_of_one_instance(rt: HostRuntime) -> Result<(), Fail> {
 
 #[test]
 fn complete_texts(rt: HostRuntime) {
-    for (what, text, expected) in [
+    for &(what, text, expected) in &[
         ("one ready instance", OLD_READY, Ok(one(State::Ready))),
         ("no instances", "{}", Ok(None)),
         ("spaces", " {\r\n\t} ", Ok(None)),

@@ -8,7 +8,7 @@ use std::test::Fail;
 #[test]
 fn versions(rt: HostRuntime) -> Result<(), Fail> {
     let alloc = rt.alloc();
-    for (version, fault) in [
+    for &(version, fault) in &[
         ("3", LoadFault::BadVersion),
         ("1", LoadFault::BadVersion),
         ("0", LoadFault::BadVersion),
@@ -31,7 +31,7 @@ fn versions(rt: HostRuntime) -> Result<(), Fail> {
         ("1e400", LoadFault::NotJson),
         ("", LoadFault::NotJson),
     ] {
-        for instances in ["{}", OLD_READY] {
+        for &instances in &["{}", OLD_READY] {
             let text = format!(in alloc; "{{\"instances\":{instances},\"version\":{version}}}")?;
             assert!(rt;
                 loaded(&rt, alloc, text.as_str()) == Err(fault),
@@ -44,7 +44,7 @@ fn versions(rt: HostRuntime) -> Result<(), Fail> {
 
 #[test]
 fn frames(rt: HostRuntime) {
-    for (text, expected) in [
+    for &(text, expected) in &[
         (READY, Ok(one(State::Ready))),
         (r#"{"instances":{},"version":2}"#, Ok(None)),
         (r#" {"version" : 2, "instances" : { } } "#, Ok(None)),
@@ -104,7 +104,7 @@ fn frames(rt: HostRuntime) {
 fn names_in_the_frame(rt: HostRuntime) -> Result<(), Fail> {
     let alloc = rt.alloc();
     let ready = OLD_READY;
-    for (text, expected) in [
+    for &(ref text, expected) in &[
         (
             format!(in alloc; "{{\"instances\":{{}},\"instances\":{ready},\"version\":2}}")?,
             Ok(one(State::Ready)),
@@ -150,7 +150,7 @@ fn nested_frames(rt: HostRuntime) -> Result<(), Fail> {
     for lists in 124..130 {
         let (opened, closed) = (repeated(alloc, "[", lists)?, repeated(alloc, "]", lists)?);
         let deep = format!(in alloc; "{opened}{closed}")?;
-        for (text, deepest, fault) in [
+        for &(ref text, deepest, fault) in &[
             (
                 format!(in alloc; "{{\"instances\":{{}},\"version\":2,\"x\":{deep}}}")?,
                 126,
