@@ -21,7 +21,10 @@ const OLD_READY: &str = "{\"00000000-0000-0000-0000-000000000001\":\
     \"service\":\"00000000-0000-0000-0000-0000000000a0\",\
     \"state\":\"ready\"}}";
 
-const ID: &str = "00000000-0000-0000-0000-000000000001";
+// What either has of that instance, the object of its members.
+const MEMBERS: &str = "{\"plan\":\"00000000-0000-0000-0000-0000000000b1\",\
+    \"service\":\"00000000-0000-0000-0000-0000000000a0\",\
+    \"state\":\"ready\"}";
 
 const PLAN: &str = r#""plan":"00000000-0000-0000-0000-0000000000b1","#;
 
@@ -68,6 +71,18 @@ fn loaded(
     let first = rows.next().map(|(id, row)| (*id, *row));
     assert!(rt; rows.next().is_none(), "a second instance");
     Ok(first)
+}
+
+// The text with this value in place of each `@`.
+fn filled(alloc: Global, text: &str, value: &str) -> Result<String, Fail> {
+    let mut whole = String::new(alloc);
+    for (at, part) in text.split('@').enumerate() {
+        if at > 0 {
+            whole.push_str(value)?;
+        }
+        whole.push_str(part)?;
+    }
+    Ok(whole)
 }
 
 // Creates an instance, and takes the answer to its Provision if there is one.

@@ -16,7 +16,7 @@ fn push_id(text: &mut String, number: u32) -> Result<(), Fail> {
         *digit = b"0123456789abcdef"[(left % 16) as usize];
         left /= 16;
     }
-    for digit in digits {
+    for &digit in &digits {
         text.push(digit as char)?;
     }
     Ok(())

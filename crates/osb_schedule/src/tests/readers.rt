@@ -1,8 +1,10 @@
 //! Readers that fail, give little, or never end.
 use crate::tests::short::{MADE, PLAIN, Pieces, after_plans, in_pieces, outcome, repeated};
 use crate::{DeviceFault, Input, LineFault, Output, ReplayFault, replay};
+use std::alloc::Global;
 use std::io;
 use std::io::Read;
+use std::process::Abort;
 use std::test::Fail;
 
 #[test]
@@ -38,29 +40,43 @@ fn a_reader_that_fails_after_its_bytes(rt: HostRuntime) -> Result<(), Fail> {
             let bytes = schedule.as_bytes();
             // The call after the last byte.
             let fails_at = bytes.len().div_ceil(most).saturating_add(1);
-            let mut reader = Input::new(Pieces {
+            let pieces = Pieces {
                 fails_at,
                 ..in_pieces(bytes, most)
-            });
-            let mut writer = Output::new(Vec::new(rt.alloc()));
-            let result = replay(rt.alloc(), &mut reader, &mut writer, PLAIN);
-            let fault = match found {
-                Some((line, fault)) => ReplayFault::Schedule { line, fault },
-                None => ReplayFault::Read,
             };
-            assert!(rt; result == Err(fault), "{name}, {most} bytes a call");
-            assert!(rt;
-                reader.refused() == found.is_none(),
-                "{name}, {most} bytes a call"
-            );
-            assert!(rt; !writer.refused(), "{name}, {most} bytes a call");
-            assert!(rt;
-                writer.into_inner().is_empty(),
-                "{name}, {most} bytes a call"
-            );
+            check_end(&rt, rt.alloc(), name, pieces, found);
         }
     }
     Ok(())
+}
+
+/// That a replay of these pieces ends with the fault that was found, or else because the reader failed, and
+/// writes nothing.
+fn check_end(
+    rt: &impl Abort,
+    alloc: Global,
+    name: &str,
+    pieces: Pieces<'_>,
+    found: Option<(u32, LineFault)>,
+) {
+    let most = pieces.most;
+    let mut reader = Input::new(pieces);
+    let mut writer = Output::new(Vec::new(alloc));
+    let result = replay(alloc, &mut reader, &mut writer, PLAIN);
+    let fault = match found {
+        Some((line, fault)) => ReplayFault::Schedule { line, fault },
+        None => ReplayFault::Read,
+    };
+    assert!(rt; result == Err(fault), "{name}, {most} bytes a call");
+    assert!(rt;
+        reader.refused() == found.is_none(),
+        "{name}, {most} bytes a call"
+    );
+    assert!(rt; !writer.refused(), "{name}, {most} bytes a call");
+    assert!(rt;
+        writer.into_inner().is_empty(),
+        "{name}, {most} bytes a call"
+    );
 }
 
 #[test]

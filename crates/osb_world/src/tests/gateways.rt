@@ -1,9 +1,10 @@
-use super::{events_of, is_told, new_catalogue, sides, sides_of_run, told_through};
-use crate::{Event, Step, World};
+use super::{ending_of, events_of, instance, is_told, sides, stepped};
+use crate::{Cell, Event, Step};
 use osb_broker::Phase;
 use osb_message::Answer;
 use osb_message::Body::{Empty, Malformed};
 use osb_platform::State::{Cleaning, Polling, Ready, Wanted};
+use std::process::Abort;
 use std::test::Fail;
 
 #[test]
@@ -69,11 +70,9 @@ fn no_gateway_error(rt: HostRuntime) -> Result<(), Fail> {
             ready,
         ),
     ] {
-        let events = events_of(&rt, rt.alloc(), story)?;
-        let end = told_through(rt.alloc(), &events)?;
+        let end = ending_of(&rt, rt.alloc(), story)?;
         assert_eq!(rt; (end.applied, end.skipped), (applied, 1), "{name}");
         assert_eq!(rt; end.sides, both, "{name}");
-        assert_eq!(rt; sides_of_run(rt.alloc(), &events)?, both, "{name}, by run");
     }
     Ok(())
 }
@@ -81,26 +80,21 @@ fn no_gateway_error(rt: HostRuntime) -> Result<(), Fail> {
 // What was sent stays out, and can be answered by a gateway again and again.
 #[test]
 fn one_gateway_error_after_another(rt: HostRuntime) -> Result<(), Fail> {
-    let mut world = World::new(rt.alloc(), new_catalogue(rt.alloc())?);
-    let events = events_of(
-        &rt,
-        rt.alloc(),
-        "create-sync deliver gateway-500 gateway-599",
-    )?;
-    for event in &events {
-        assert_eq!(rt; world.step(rt.alloc(), *event)?, Step::Applied, "{event:?}");
-    }
-    let cell = world.cell(super::instance());
-    assert_eq!(rt; sides(cell), (Some(Wanted), Some(Phase::Ready)));
-    assert!(rt; cell.out.is_some());
+    let story = "create-sync deliver gateway-500 gateway-599";
+    let mut world = stepped(&rt, rt.alloc(), &events_of(&rt, rt.alloc(), story)?)?;
+    check_answered(&rt, world.cell(instance()));
+    let lost = Event::Lose { id: instance() };
+    assert_eq!(rt; world.step(rt.alloc(), lost)?, Step::Applied);
+    Ok(())
+}
+
+// The Provision has made the instance and is still out, and the last of the gateways' errors travels.
+fn check_answered(rt: &impl Abort, cell: Cell) {
     let answer = Answer {
         status: 599,
         body: Malformed,
     };
+    assert_eq!(rt; sides(cell), (Some(Wanted), Some(Phase::Ready)));
+    assert!(rt; cell.out.is_some());
     assert_eq!(rt; cell.travelling, Some(answer));
-    let lost = Event::Lose {
-        id: super::instance(),
-    };
-    assert_eq!(rt; world.step(rt.alloc(), lost)?, Step::Applied);
-    Ok(())
 }

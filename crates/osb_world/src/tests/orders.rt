@@ -1,39 +1,45 @@
-use super::{SYNC, create, instance, new_catalogue, sides};
-use crate::{Event, Step, World, run};
+use super::{SYNC, Sides, check_two, create, instance, new_catalogue, next_instance, stepped};
+use crate::{Event, run};
 use osb_broker::{Outcome, Phase};
-use osb_message::InstanceId;
 use osb_platform::State;
 use std::test::Fail;
 
+// The first is ready, and the second is being cleaned up.
+const ENDS: (Sides, Sides) = (
+    (Some(State::Ready), Some(Phase::Ready)),
+    (Some(State::Cleaning), None),
+);
+
 // The instance with the greater id is created first, so that the other's messages go in before its own.
-#[test]
-fn created_in_falling_order(rt: HostRuntime) -> Result<(), Fail> {
-    let (low, high) = (instance(), InstanceId::from_value(2));
-    let events = [
+fn in_falling_order() -> [Event; 6] {
+    let (low, high) = (instance(), next_instance());
+    let (done, before) = (Outcome::Done, Outcome::Before);
+    [
         create(high, SYNC, false),
         create(low, SYNC, false),
         Event::Deliver {
             id: low,
-            outcome: Outcome::Done,
+            outcome: done,
         },
         Event::Answer { id: low },
         Event::Deliver {
             id: high,
-            outcome: Outcome::Before,
+            outcome: before,
         },
         Event::Answer { id: high },
-    ];
-    let mut world = World::new(rt.alloc(), new_catalogue(rt.alloc())?);
-    for event in &events {
-        let step = world.step(rt.alloc(), *event)?;
-        assert_eq!(rt; step, Step::Applied, "{event:?}");
-    }
-    let ran = run(rt.alloc(), new_catalogue(rt.alloc())?, &events)?;
-    for (name, end) in [("by step", world), ("by run", ran)] {
-        let ready = (Some(State::Ready), Some(Phase::Ready));
-        assert_eq!(rt; sides(end.cell(low)), ready, "{name}: low");
-        let cleaning = (Some(State::Cleaning), None);
-        assert_eq!(rt; sides(end.cell(high)), cleaning, "{name}: high");
-    }
+    ]
+}
+
+#[test]
+fn created_in_falling_order(rt: HostRuntime) -> Result<(), Fail> {
+    let world = stepped(&rt, rt.alloc(), &in_falling_order())?;
+    check_two(&rt, &world, ENDS, "by step");
+    Ok(())
+}
+
+#[test]
+fn created_in_falling_order_by_run(rt: HostRuntime) -> Result<(), Fail> {
+    let world = run(rt.alloc(), new_catalogue(rt.alloc())?, &in_falling_order())?;
+    check_two(&rt, &world, ENDS, "by run");
     Ok(())
 }

@@ -1,7 +1,10 @@
-use super::{SYNC, create, events_of, instance, new_catalogue, sides, sides_of_run, told_through};
-use crate::{Event, Step, World, run};
+use super::{
+    SYNC, Sides, check_two, create, ending_of, instance, new_catalogue, next_instance, run_through,
+    stepped,
+};
+use crate::{Event, World, run};
 use osb_broker::{Outcome, Phase};
-use osb_message::{Answer, Body, ErrorCode, InstanceId};
+use osb_message::{Answer, Body, ErrorCode};
 use osb_platform::State;
 use std::alloc::Global;
 use std::process::Abort;
@@ -72,30 +75,24 @@ const STORIES: [Restarted; 6] = [
 #[test]
 fn stories_with_a_restart(rt: HostRuntime) -> Result<(), Fail> {
     for &(name, story, applied, skipped, recorded, held) in &STORIES {
-        let events = events_of(&rt, rt.alloc(), story)?;
-        let end = told_through(rt.alloc(), &events)?;
+        let end = ending_of(&rt, rt.alloc(), story)?;
         assert_eq!(rt; (end.applied, end.skipped), (applied, skipped), "{name}");
         assert_eq!(rt; end.sides, (recorded, held), "{name}");
-        assert_eq!(rt;
-            sides_of_run(rt.alloc(), &events)?,
-            end.sides,
-            "{name}, by run"
-        );
     }
     Ok(())
 }
 
 #[test]
 fn a_deprovision_after_a_restart_finds_nothing(rt: HostRuntime) -> Result<(), Fail> {
-    let events = events_of(&rt, rt.alloc(), "create-sync restart send deliver")?;
-    let end = told_through(rt.alloc(), &events)?;
+    let end = ending_of(&rt, rt.alloc(), "create-sync restart send deliver")?;
     let body = Body::Error(ErrorCode::Other);
     assert_eq!(rt; end.travelled, Some(Answer { status: 410, body }));
     Ok(())
 }
 
 // Both instances are made, the answer of the first is garbled, the platform restarts and cleans it up.
-fn of_two(low: InstanceId, high: InstanceId) -> [Event; 11] {
+fn of_two() -> [Event; 11] {
+    let (low, high) = (instance(), next_instance());
     let outcome = Outcome::Done;
     [
         create(low, SYNC, false),
@@ -112,39 +109,35 @@ fn of_two(low: InstanceId, high: InstanceId) -> [Event; 11] {
     ]
 }
 
-// That the first is gone, and the second is ready.
-fn check_two(rt: &impl Abort, alloc: Global, end: &World, name: &str) -> Result<(), Fail> {
-    let (low, high) = (instance(), InstanceId::from_value(2));
-    assert_eq!(rt; sides(end.cell(low)), (Some(State::Gone), None), "{name}");
-    let ready = (Some(State::Ready), Some(Phase::Ready));
-    assert_eq!(rt; sides(end.cell(high)), ready, "{name}");
-    assert!(rt;
-        end.ids(alloc)?.as_slice() == [low, high].as_slice(),
-        "{name}"
-    );
+// The first is gone, and the second is ready.
+const ENDS: (Sides, Sides) = (
+    (Some(State::Gone), None),
+    (Some(State::Ready), Some(Phase::Ready)),
+);
+
+// That both are recorded, in ascending order.
+fn check_ids(rt: &impl Abort, alloc: Global, world: &World) -> Result<(), Fail> {
+    assert!(rt; world.ids(alloc)?.as_slice() == [instance(), next_instance()].as_slice());
     Ok(())
 }
 
 #[test]
 fn two_instances_and_a_restart(rt: HostRuntime) -> Result<(), Fail> {
-    let mut world = World::new(rt.alloc(), new_catalogue(rt.alloc())?);
-    for event in of_two(instance(), InstanceId::from_value(2)) {
-        assert_eq!(rt; world.step(rt.alloc(), event)?, Step::Applied, "{event:?}");
-    }
-    check_two(&rt, rt.alloc(), &world, "by step")
+    let world = stepped(&rt, rt.alloc(), &of_two())?;
+    check_two(&rt, &world, ENDS, "by step");
+    check_ids(&rt, rt.alloc(), &world)
 }
 
 #[test]
 fn two_instances_and_a_restart_by_run(rt: HostRuntime) -> Result<(), Fail> {
-    let events = of_two(instance(), InstanceId::from_value(2));
-    let world = run(rt.alloc(), new_catalogue(rt.alloc())?, &events)?;
-    check_two(&rt, rt.alloc(), &world, "by run")
+    let world = run(rt.alloc(), new_catalogue(rt.alloc())?, &of_two())?;
+    check_two(&rt, &world, ENDS, "by run");
+    check_ids(&rt, rt.alloc(), &world)
 }
 
 #[test]
 fn the_saved_record_of_one_ready_instance(rt: HostRuntime) -> Result<(), Fail> {
-    let events = events_of(&rt, rt.alloc(), "create-sync deliver answer")?;
-    let world = run(rt.alloc(), new_catalogue(rt.alloc())?, &events)?;
+    let world = run_through(&rt, rt.alloc(), "create-sync deliver answer")?;
     let saved = world.save(rt.alloc())?;
     assert!(rt;
         saved.as_str()

@@ -1,8 +1,11 @@
-use super::{SYNC, Sides, create, events_of, instance, new_catalogue, sides};
+use super::{
+    SYNC, Sides, create, events_of, instance, new_catalogue, next_instance, run_through, sides,
+};
 use crate::{Event, World, run};
 use osb_broker::{Outcome, Phase};
-use osb_message::InstanceId;
 use osb_platform::State::{Cleaning, CleaningPolling, Gone, Polling, Ready, Unsettled, Wanted};
+use std::alloc::Global;
+use std::process::Abort;
 use std::test::Fail;
 
 const FAILED_DELETION: &str = "create-async deliver answer finish-fail send deliver answer \
@@ -55,34 +58,51 @@ fn settled_instances(rt: HostRuntime) -> Result<(), Fail> {
             GONE,
         ),
     ] {
-        let events = events_of(&rt, rt.alloc(), story)?;
-        let mut world = run(rt.alloc(), new_catalogue(rt.alloc())?, &events)?;
-        assert_eq!(rt; sides(world.cell(instance())), before, "before: {story}");
-        world.settle(instance());
-        let cell = world.cell(instance());
-        assert_eq!(rt; sides(cell), after, "after: {story}");
-        assert_eq!(rt; (cell.out, cell.travelling), (None, None), "{story}");
+        is_settled(&rt, rt.alloc(), story, before, after)?;
     }
+    Ok(())
+}
+
+// What both sides have before the instance is settled, and afterwards, when nothing is out and nothing
+// travels.
+fn is_settled(
+    rt: &impl Abort,
+    alloc: Global,
+    story: &str,
+    before: Sides,
+    after: Sides,
+) -> Result<(), Fail> {
+    let mut world = run_through(rt, alloc, story)?;
+    assert_eq!(rt; sides(world.cell(instance())), before, "before: {story}");
+    world.settle(instance());
+    let cell = world.cell(instance());
+    assert_eq!(rt; sides(cell), after, "after: {story}");
+    assert!(rt; cell.out.is_none(), "out: {story}");
+    assert!(rt; cell.travelling.is_none(), "travelling: {story}");
     Ok(())
 }
 
 // What both sides have after each of three fault-free rounds, event by event.
 fn is_told_by_rounds(
-    rt: &impl std::process::Abort,
-    alloc: std::alloc::Global,
+    rt: &impl Abort,
+    alloc: Global,
     story: &str,
-    ends: [Sides; 3],
+    ends: &[Sides; 3],
 ) -> Result<(), Fail> {
-    let events = events_of(rt, alloc, story)?;
-    let mut world = run(alloc, new_catalogue(alloc)?, &events)?;
+    let mut world = run_through(rt, alloc, story)?;
     let round = events_of(rt, alloc, ROUND)?;
     for end in ends {
-        for event in &round {
-            world.step(alloc, *event)?;
-        }
-        assert_eq!(rt; sides(world.cell(instance())), end, "{story}");
+        assert_eq!(rt; sides_after(alloc, &mut world, &round)?, *end, "{story}");
     }
     Ok(())
+}
+
+// Both sides of the instance once the world is stepped through the events, of which some may be skipped.
+fn sides_after(alloc: Global, world: &mut World, events: &[Event]) -> Result<Sides, Fail> {
+    for event in events {
+        world.step(alloc, *event)?;
+    }
+    Ok(sides(world.cell(instance())))
 }
 
 #[test]
@@ -93,14 +113,14 @@ fn two_rounds_may_not_settle(rt: HostRuntime) -> Result<(), Fail> {
         &rt,
         rt.alloc(),
         FAILED_DELETION,
-        [delete_failed, deleting, GONE],
+        &[delete_failed, deleting, GONE],
     )?;
-    is_told_by_rounds(&rt, rt.alloc(), REFUSED_DELETION, [deleting, GONE, GONE])
+    is_told_by_rounds(&rt, rt.alloc(), REFUSED_DELETION, &[deleting, GONE, GONE])
 }
 
 #[test]
 fn another_instance_stays_as_it_is(rt: HostRuntime) -> Result<(), Fail> {
-    let (low, high) = (instance(), InstanceId::from_value(2));
+    let (low, high) = (instance(), next_instance());
     let outcome = Outcome::Done;
     let events = [
         create(low, SYNC, false),

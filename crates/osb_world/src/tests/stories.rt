@@ -1,10 +1,11 @@
 use super::{
-    SYNC, create, events_of, instance, is_told, new_catalogue, service, sides, told_through,
+    SYNC, check_two, create, ending_of, instance, is_told, new_catalogue, next_instance,
+    run_through, service, stepped, told_through,
 };
 use crate::{Event, Step, World, run};
 use osb_broker::{BrokerRow, Phase};
 use osb_message::Body::{Empty, Malformed};
-use osb_message::{Body, Catalogue, ErrorCode, InstanceId, LastState, PlanId};
+use osb_message::{Body, Catalogue, ErrorCode, LastState, PlanId};
 use osb_platform::PlatformRow;
 use osb_platform::State::{Cleaning, CleaningPolling, Gone, Polling, Ready, Unsettled, Wanted};
 use std::test::Fail;
@@ -136,8 +137,7 @@ fn nothing_happens(rt: HostRuntime) -> Result<(), Fail> {
 
 #[test]
 fn events_of_an_instance_that_was_never_created(rt: HostRuntime) -> Result<(), Fail> {
-    let events = events_of(&rt, rt.alloc(), "send lose finish-ok remove expire timeout")?;
-    let end = told_through(rt.alloc(), &events)?;
+    let end = ending_of(&rt, rt.alloc(), "send lose finish-ok remove expire timeout")?;
     assert_eq!(rt; (end.applied, end.skipped), (0, 6));
     assert_eq!(rt; end.sides, (None, None));
     Ok(())
@@ -145,8 +145,7 @@ fn events_of_an_instance_that_was_never_created(rt: HostRuntime) -> Result<(), F
 
 #[test]
 fn ready_on_both_sides(rt: HostRuntime) -> Result<(), Fail> {
-    let events = events_of(&rt, rt.alloc(), "create-sync deliver answer")?;
-    let world = run(rt.alloc(), new_catalogue(rt.alloc())?, &events)?;
+    let world = run_through(&rt, rt.alloc(), "create-sync deliver answer")?;
     let recorded = PlatformRow {
         service: service(),
         plan: PlanId::from_value(SYNC),
@@ -165,7 +164,7 @@ fn ready_on_both_sides(rt: HostRuntime) -> Result<(), Fail> {
 
 #[test]
 fn one_instance_beside_another(rt: HostRuntime) -> Result<(), Fail> {
-    let (low, high) = (instance(), InstanceId::from_value(2));
+    let (low, high) = (instance(), next_instance());
     let mut world = World::new(rt.alloc(), new_catalogue(rt.alloc())?);
     for &(event, step) in &[
         (create(high, SYNC, false), Step::Applied),
@@ -176,23 +175,21 @@ fn one_instance_beside_another(rt: HostRuntime) -> Result<(), Fail> {
     ] {
         assert_eq!(rt; world.step(rt.alloc(), event)?, step, "{event:?}");
     }
-    assert_eq!(rt; sides(world.cell(low)), (Some(Wanted), None));
-    assert_eq!(rt; sides(world.cell(high)), (Some(Cleaning), None));
+    let ends = ((Some(Wanted), None), (Some(Cleaning), None));
+    check_two(&rt, &world, ends, "one beside another");
     assert!(rt; world.ids(rt.alloc())?.as_slice() == [low, high].as_slice());
     Ok(())
 }
 
 #[test]
 fn the_records_in_ascending_order(rt: HostRuntime) -> Result<(), Fail> {
-    let (low, high) = (instance(), InstanceId::from_value(2));
-    let mut world = World::new(rt.alloc(), new_catalogue(rt.alloc())?);
-    for &event in &[
+    let (low, high) = (instance(), next_instance());
+    let events = [
         create(high, SYNC, false),
         create(low, SYNC, false),
         Event::Timeout { id: high },
-    ] {
-        assert_eq!(rt; world.step(rt.alloc(), event)?, Step::Applied, "{event:?}");
-    }
+    ];
+    let world = stepped(&rt, rt.alloc(), &events)?;
     let mut states = Vec::new(rt.alloc());
     for (id, row) in world.records() {
         states.push((*id, row.state))?;

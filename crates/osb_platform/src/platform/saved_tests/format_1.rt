@@ -1,8 +1,10 @@
 //! Texts of format 1, which has the instances alone: they load as they did.
-use super::{ID, OLD_READY, PLAN, READY, SERVICE, loaded, one, row};
+use super::{MEMBERS, OLD_READY, PLAN, READY, SERVICE, filled, loaded, one, row};
 use crate::{LoadFault, Platform, State};
 use osb_message::InstanceId;
 use std::test::Fail;
+
+const ID: &str = "00000000-0000-0000-0000-000000000001";
 
 const UPPER_CASE_PLAN: &str = r#""plan":"00000000-0000-0000-0000-0000000000B1","#;
 
@@ -10,9 +12,8 @@ const UNHYPHENATED_PLAN: &str = r#""plan":"000000000000000000000000000000b1","#;
 
 const WORD: &str = r#""state":"ready""#;
 
-const A0: &str = "00000000-0000-0000-0000-0000000000a0";
-
-const UPPER_A0: &str = "00000000-0000-0000-0000-0000000000A0";
+// One instance with white space round it; `@` stands for the object of its members.
+const NAMED: &str = "\n{ \"00000000-0000-0000-0000-000000000001\" :\n@ }\n ";
 
 #[test]
 fn an_old_text_is_saved_in_the_new_format(rt: HostRuntime) -> Result<(), Fail> {
@@ -85,26 +86,41 @@ fn plans_of_one_instance(rt: HostRuntime) -> Result<(), Fail> {
         let text = format!(in alloc; "{{\"{ID}\":{{{plan}{SERVICE}{WORD}}}}}")?;
         assert!(rt; loaded(&rt, alloc, text.as_str()) == expected, "{what}");
     }
-    for &(what, ref text) in &[
+    Ok(())
+}
+
+// The members as they are saved, in another spacing and in another order, and a service that isn't written
+// as it must be.
+#[test]
+fn members_of_one_instance(rt: HostRuntime) -> Result<(), Fail> {
+    for &(what, members, expected) in &[
+        ("as saved", MEMBERS, Ok(one(State::Ready))),
         (
             "spaces and line ends",
-            format!(in alloc; "\n{{ \"{ID}\" :\n{{ {PLAN}\t{SERVICE}\r\n{WORD} }} }}\n ")?,
+            "{ \"plan\" : \"00000000-0000-0000-0000-0000000000b1\",\t\
+                \"service\":\n\"00000000-0000-0000-0000-0000000000a0\",\r\n\
+                \"state\":\"ready\" }",
+            Ok(one(State::Ready)),
         ),
         (
             "the state before the plan",
-            format!(in alloc; "{{\"{ID}\":{{{WORD},{PLAN}\"service\":\"{A0}\"}}}}")?,
+            "{\"state\":\"ready\",\"plan\":\"00000000-0000-0000-0000-0000000000b1\",\
+                \"service\":\"00000000-0000-0000-0000-0000000000a0\"}",
+            Ok(one(State::Ready)),
+        ),
+        (
+            "a service in upper case",
+            "{\"plan\":\"00000000-0000-0000-0000-0000000000b1\",\
+                \"service\":\"00000000-0000-0000-0000-0000000000A0\",\"state\":\"ready\"}",
+            Err(LoadFault::BadMember),
         ),
     ] {
+        let text = filled(rt.alloc(), NAMED, members)?;
         assert!(rt;
-            loaded(&rt, alloc, text.as_str()) == Ok(one(State::Ready)),
+            loaded(&rt, rt.alloc(), text.as_str()) == expected,
             "{what}"
         );
     }
-    let service = format!(in alloc; "{{\"{ID}\":{{{PLAN}\"service\":\"{UPPER_A0}\",{WORD}}}}}")?;
-    assert!(rt;
-        loaded(&rt, alloc, service.as_str()) == Err(LoadFault::BadMember),
-        "a service in upper case"
-    );
     Ok(())
 }
 
@@ -149,19 +165,34 @@ fn names_of_one_instance(rt: HostRuntime) -> Result<(), Fail> {
         let text = format!(in alloc; "{{\"{name}\":{{{PLAN}{SERVICE}{WORD}}}}}")?;
         assert!(rt; loaded(&rt, alloc, text.as_str()) == expected, "{what}");
     }
-    let twice = format!(in alloc; "{{\"{ID}\":7,\"{ID}\":{{{PLAN}{SERVICE}{WORD}}}}}")?;
-    assert!(rt;
-        loaded(&rt, alloc, twice.as_str()) == Ok(one(State::Ready)),
-        "the id twice"
-    );
-    for text in &[
-        format!(in alloc; "{{\"{ID}\":7,\"x\":{{}}}}")?,
-        format!(in alloc; "{{\"x\":{{}},\"{ID}\":7}}")?,
-        format!(in alloc; "{{\"{ID}\":7,\"x\":{{{PLAN}{SERVICE}{WORD}}}}}")?,
+    Ok(())
+}
+
+// Texts with two names, or with one twice; `@` stands for the members of one instance.
+#[test]
+fn two_names(rt: HostRuntime) -> Result<(), Fail> {
+    for &(form, expected) in &[
+        (
+            r#"{"00000000-0000-0000-0000-000000000001":7,"00000000-0000-0000-0000-000000000001":@}"#,
+            Ok(one(State::Ready)),
+        ),
+        (
+            r#"{"00000000-0000-0000-0000-000000000001":7,"x":{}}"#,
+            Err(LoadFault::BadKey),
+        ),
+        (
+            r#"{"x":{},"00000000-0000-0000-0000-000000000001":7}"#,
+            Err(LoadFault::BadKey),
+        ),
+        (
+            r#"{"00000000-0000-0000-0000-000000000001":7,"x":@}"#,
+            Err(LoadFault::BadKey),
+        ),
     ] {
+        let text = filled(rt.alloc(), form, MEMBERS)?;
         assert!(rt;
-            loaded(&rt, alloc, text.as_str()) == Err(LoadFault::BadKey),
-            "{text}"
+            loaded(&rt, rt.alloc(), text.as_str()) == expected,
+            "{form}"
         );
     }
     Ok(())

@@ -1,7 +1,8 @@
 //! What stands round the instances, and texts that misbehave there. The expected values are what Rust's
 //! `serde_json` 1.0.87 reads.
-use super::{ID, OLD_READY, READY, loaded, one, repeated};
+use super::{OLD_READY, READY, filled, loaded, one, repeated};
 use crate::{LoadFault, State};
+use std::alloc::Global;
 use std::test::Fail;
 
 // What is written for the version, and what comes of it.
@@ -99,91 +100,98 @@ fn frames(rt: HostRuntime) {
     }
 }
 
-// Names that stand twice, of which the last counts, and names that are written with escapes.
+// Names that stand twice, of which the last counts, and names that are written with escapes; `@` stands
+// for the instances, of which there is one.
 #[test]
 fn names_in_the_frame(rt: HostRuntime) -> Result<(), Fail> {
-    let alloc = rt.alloc();
-    let ready = OLD_READY;
-    for &(ref text, expected) in &[
+    for &(frame, expected) in &[
         (
-            format!(in alloc; "{{\"instances\":{{}},\"instances\":{ready},\"version\":2}}")?,
+            r#"{"instances":{},"instances":@,"version":2}"#,
             Ok(one(State::Ready)),
         ),
         (
-            format!(in alloc; "{{\"instances\":[],\"version\":2,\"instances\":{ready}}}")?,
+            r#"{"instances":[],"version":2,"instances":@}"#,
             Ok(one(State::Ready)),
         ),
         (
-            format!(in alloc; "{{\"instances\":{ready},\"version\":2,\"instances\":[]}}")?,
+            r#"{"instances":@,"version":2,"instances":[]}"#,
             Err(LoadFault::BadOuter),
         ),
         (
-            format!(in alloc; "{{\"version\":3,\"instances\":{ready},\"version\":2}}")?,
+            r#"{"version":3,"instances":@,"version":2}"#,
             Ok(one(State::Ready)),
         ),
         (
-            format!(in alloc; "{{\"version\":2,\"instances\":{ready},\"version\":3}}")?,
+            r#"{"version":2,"instances":@,"version":3}"#,
             Err(LoadFault::BadVersion),
         ),
         (
-            format!(in alloc; "{{\"inst\\u0061nces\":{ready},\"ver\\u0073ion\":2}}")?,
+            r#"{"inst\u0061nces":@,"ver\u0073ion":2}"#,
             Ok(one(State::Ready)),
         ),
         (
-            format!(in alloc; "{{\"instances\":{ready},\"ver\\u0073ion\":3,\"version\":2}}")?,
+            r#"{"instances":@,"ver\u0073ion":3,"version":2}"#,
             Ok(one(State::Ready)),
         ),
         (
-            format!(in alloc; "{{\"instances\":{ready},\"version\":2,\"ver\\u0073ion\":3}}")?,
+            r#"{"instances":@,"version":2,"ver\u0073ion":3}"#,
             Err(LoadFault::BadVersion),
         ),
     ] {
-        assert!(rt; loaded(&rt, alloc, text.as_str()) == expected, "{text}");
+        let text = filled(rt.alloc(), frame, OLD_READY)?;
+        assert!(rt;
+            loaded(&rt, rt.alloc(), text.as_str()) == expected,
+            "{frame}"
+        );
     }
     Ok(())
 }
 
-// So many lists in places that are judged late: the deepest that are read, and one more.
+// Lists in lists, for which `@` stands, in places that are judged late: up to the deepest that are read in
+// each place, and more.
 #[test]
 fn nested_frames(rt: HostRuntime) -> Result<(), Fail> {
-    let alloc = rt.alloc();
-    for lists in 124..130 {
-        let (opened, closed) = (repeated(alloc, "[", lists)?, repeated(alloc, "]", lists)?);
-        let deep = format!(in alloc; "{opened}{closed}")?;
-        for &(ref text, deepest, fault) in &[
-            (
-                format!(in alloc; "{{\"instances\":{{}},\"version\":2,\"x\":{deep}}}")?,
-                126,
-                LoadFault::BadOuter,
-            ),
-            (
-                format!(in alloc; "{{\"instances\":{{}},\"version\":{deep}}}")?,
-                126,
-                LoadFault::BadVersion,
-            ),
-            (
-                format!(in alloc; "{{\"instances\":{{\"{ID}\":{deep}}},\"version\":2}}")?,
-                125,
-                LoadFault::BadMember,
-            ),
-            (
-                format!(in alloc;
-                    "{{\"instances\":{{\"{ID}\":{{\"state\":{deep}}}}},\"version\":2}}"
-                )?,
-                124,
-                LoadFault::BadMember,
-            ),
-        ] {
+    for &(place, deepest, fault) in &[
+        (
+            r#"{"instances":{},"version":2,"x":@}"#,
+            126,
+            LoadFault::BadOuter,
+        ),
+        (
+            r#"{"instances":{},"version":@}"#,
+            126,
+            LoadFault::BadVersion,
+        ),
+        (
+            r#"{"instances":{"00000000-0000-0000-0000-000000000001":@},"version":2}"#,
+            125,
+            LoadFault::BadMember,
+        ),
+        (
+            r#"{"instances":{"00000000-0000-0000-0000-000000000001":{"state":@}},"version":2}"#,
+            124,
+            LoadFault::BadMember,
+        ),
+    ] {
+        for lists in 124..130 {
             let expected = if lists > deepest {
                 LoadFault::NotJson
             } else {
                 fault
             };
+            let text = filled(rt.alloc(), place, nested_lists(rt.alloc(), lists)?.as_str())?;
             assert!(rt;
-                loaded(&rt, alloc, text.as_str()) == Err(expected),
-                "{lists} {fault:?}"
+                loaded(&rt, rt.alloc(), text.as_str()) == Err(expected),
+                "{lists} in {place}"
             );
         }
     }
     Ok(())
+}
+
+// So many lists, each in the one before it.
+fn nested_lists(alloc: Global, lists: u32) -> Result<String, Fail> {
+    let mut text = repeated(alloc, "[", lists)?;
+    text.push_str(repeated(alloc, "]", lists)?.as_str())?;
+    Ok(text)
 }
