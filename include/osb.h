@@ -10,8 +10,8 @@
  *     `struct osb_platform p = {0};`. Its pointer is made, read and freed by this library alone: no
  *     program sets it, follows it, or copies the handle to use both. A handle may be moved, by a copy after
  *     which the old one isn't used again.
- *   - Every other struct has its members set before it is handed in, also one that is only written to
- *     (`= {0}` does), and a bool is 0 or 1.
+ *   - Everything else is set before it is handed in, also what is only written to: each member of a struct and
+ *     each number (`= {0}` does), and all of a room (as calloc sets it). A bool is 0 or 1.
  *   - A handle, and whatever else a running call was given, is used by one call at a time. Different handles
  *     are independent, and a handle may pass from one thread to another.
  *   - No call is made from a signal handler, or in the forked child of a process with threads.
@@ -39,7 +39,10 @@ extern "C" {
 /* The version of the library, as OSB_VERSION has it. A program that is linked to a shared library compares. */
 uint32_t osb_version(void);
 
-/* ---- Statuses: what became of a call. Each has one meaning, and no number ever changes. */
+/* ---- Statuses: what became of a call. Each has one meaning, and no number ever changes. The comment of a call
+ *      names OSB_DONE, and then in their order those that it returns where it isn't done: of several that fit, the
+ *      first. But where an allocation failed, OSB_MEMORY may come in place of OSB_PLAN_TWICE, OSB_TOO_SMALL and
+ *      OSB_NOT_JSON to OSB_BAD_MEMBER. */
 
 enum osb_status {
     OSB_DONE = 0,             /* it was done */
@@ -51,8 +54,8 @@ enum osb_status {
     OSB_BUSY = 6,             /* a request is out */
     OSB_NOTHING_DUE = 7,      /* nothing is to be sent: the state is ready, gone or unsettled */
     OSB_NO_REQUEST = 8,       /* no request of the instance is out */
-    OSB_NOT_POLLING = 9,      /* the state isn't polling */
-    OSB_NOT_REMOVABLE = 10,   /* the state is none of polling, ready and unsettled */
+    OSB_NOT_POLLING = 9,      /* no request is out, and the state isn't polling */
+    OSB_NOT_REMOVABLE = 10,   /* no request is out, and the state is none of polling, ready and unsettled */
     OSB_NOTHING_RUNNING = 11, /* the instance is neither being made nor being deleted */
     OSB_NOT_HELD = 12,        /* the broker has no row of the instance */
     OSB_PLAN_TWICE = 13,      /* two of the plans have the same service and plan */
@@ -93,15 +96,15 @@ enum osb_kind {
 };
 
 struct osb_request {
-    uint8_t kind; /* an enum osb_kind */
-    bool accepts_incomplete;
+    uint8_t kind;            /* an enum osb_kind */
+    bool accepts_incomplete; /* whether the operation may be asynchronous */
     struct osb_id id, service, plan;
 };
 
 /* What can be read of an answer's body. Each number that isn't here is OSB_MALFORMED too. */
 enum osb_body {
     OSB_MALFORMED = 0,         /* it can't be read */
-    OSB_EMPTY = 1,             /* it can be read, and says neither of the following */
+    OSB_EMPTY = 1,             /* it can be read, and says none of the following */
     OSB_IN_PROGRESS = 2,       /* "state": "in progress" */
     OSB_SUCCEEDED = 3,         /* "state": "succeeded" */
     OSB_FAILED = 4,            /* "state": "failed" */
@@ -168,18 +171,19 @@ uint32_t osb_platform_new(struct osb_platform *platform);
 /* Frees the platform, if there is one. The handle is empty then, and a second call does nothing. */
 void osb_platform_free(struct osb_platform *platform);
 
-/* Records a new instance as wanted, and gives its Provision, which is then out.
+/* Records a new instance as wanted, and gives its Provision, which is then out and accepts an asynchronous
+ * operation where `accepts_incomplete` says so.
  * OSB_DONE, OSB_EMPTY_HANDLE, OSB_ID_USED, OSB_MEMORY. */
 uint32_t osb_platform_create(struct osb_platform *platform, struct osb_id id, struct osb_id service,
                              struct osb_id plan, bool accepts_incomplete, struct osb_request *request);
 
 /* Gives the request that is due, which is then out: a Poll in polling and cleaning-polling, a Deprovision in
- * cleaning.
+ * cleaning. It has the recorded service and plan, and always accepts an asynchronous operation.
  * OSB_DONE, OSB_EMPTY_HANDLE, OSB_UNKNOWN, OSB_BUSY, OSB_NOTHING_DUE. */
 uint32_t osb_platform_send(struct osb_platform *platform, struct osb_id id, struct osb_request *request);
 
-/* Takes the answer to the request that is out: the state becomes what the table of its kind gives, and
- * nothing is out.
+/* Takes the answer to the request that is out: the state becomes what the table of its kind gives
+ * (docs/platform.md), and nothing is out.
  * OSB_DONE, OSB_EMPTY_HANDLE, OSB_NO_REQUEST (also where the id isn't recorded). */
 uint32_t osb_platform_answer(struct osb_platform *platform, struct osb_id id, struct osb_answer answer);
 
@@ -211,9 +215,9 @@ uint32_t osb_platform_save(struct osb_platform *platform, uint8_t *room, size_t 
 
 /* Makes the platform that a saved record names, after a restart, in an empty handle: wanted becomes cleaning,
  * every other state stays, and nothing is out.
- * OSB_DONE, OSB_FULL_HANDLE, else the first that fits of OSB_NOT_UTF8, OSB_NOT_JSON, OSB_NOT_AN_OBJECT,
- * OSB_BAD_VERSION, OSB_BAD_OUTER, OSB_BAD_KEY, OSB_BAD_MEMBER; OSB_MEMORY in place of any but
- * OSB_FULL_HANDLE and OSB_NOT_UTF8. What osb_platform_save wrote gives OSB_DONE or OSB_MEMORY. */
+ * OSB_DONE, OSB_FULL_HANDLE, OSB_NOT_UTF8, OSB_NOT_JSON, OSB_NOT_AN_OBJECT, OSB_BAD_VERSION, OSB_BAD_OUTER,
+ * OSB_BAD_KEY, OSB_BAD_MEMBER, OSB_MEMORY. In an empty handle, what osb_platform_save wrote gives OSB_DONE or
+ * OSB_MEMORY. */
 uint32_t osb_platform_load(struct osb_platform *platform, const uint8_t *text, size_t length);
 
 /* ---- The broker: what it answers, and what it holds. */
@@ -257,13 +261,14 @@ uint32_t osb_broker_new(struct osb_broker *broker, const struct osb_plan *plans,
 /* Frees the broker, if there is one. The handle is empty then, and a second call does nothing. */
 void osb_broker_free(struct osb_broker *broker);
 
-/* Handles a request, with the outcome of the work behind it, and gives the answer to send.
- * OSB_DONE, or the first that fits of OSB_EMPTY_HANDLE, OSB_BAD_KIND, OSB_BAD_OUTCOME, OSB_MEMORY, which only
- * a Provision that makes a row can return. */
+/* Handles a request, with the outcome of the work behind it, and gives the answer to send, by the tables of
+ * docs/broker.md.
+ * OSB_DONE, OSB_EMPTY_HANDLE, OSB_BAD_KIND, OSB_BAD_OUTCOME, OSB_MEMORY (only of a Provision that makes a row). */
 uint32_t osb_broker_handle(struct osb_broker *broker, const struct osb_request *request, uint8_t outcome,
                            struct osb_answer *answer);
 
-/* Ends the operation that runs on the instance, well (ok) or badly.
+/* Ends the operation that runs on the instance, well (ok) or badly. One that is being made is there then, or
+ * could not be made; one that is being deleted has no row, or could not be deleted.
  * OSB_DONE, OSB_EMPTY_HANDLE, OSB_NOTHING_RUNNING. */
 uint32_t osb_broker_finish(struct osb_broker *broker, struct osb_id id, bool ok);
 

@@ -1,7 +1,8 @@
 # What the built program was made of. Read by the launcher and by libosb, and by check, which marks the program that
 # the gate has proved and built as the current one. $top is the folder of the repository. The program is
 # that of the crate $built_crate, osb_replay where nothing else is said, under the name $built_file in its folder out.
-: "${built_crate:=osb_replay}" "${built_file:=$built_crate}"
+# $built_by is the script at the top that builds it, where rt alone doesn't.
+: "${built_crate:=osb_replay}" "${built_file:=$built_crate}" "${built_by:=}"
 out=$top/crates/$built_crate/out
 program=$out/$built_file
 built=$out/built
@@ -31,7 +32,7 @@ sources() (
     set -o pipefail
     cd "$top" || exit 1
     names=$(crates) || exit 1
-    parts=(crates.txt)
+    parts=(crates.txt ${built_by:+"$built_by"})
     for name in $names; do
         for part in src specs proofs; do
             [ ! -e "crates/$name/$part" ] || parts+=("crates/$name/$part")

@@ -1,7 +1,7 @@
 /* The conformance suite, over the exports: each line of the mitigation table and of the record tables by
- * create, send and answer, each rule of the broker's three tables by handle, an instance of each plan by calls
- * in a row, and the statuses in their order. What is expected stands here by hand, from docs/platform.md and
- * docs/broker.md. The last line printed is 'N passed, M failed'. */
+ * create, send and answer, which calls of the platform apply in each state, each rule of the broker's three
+ * tables by handle, an instance of each plan by calls in a row, and the statuses in their order. What is expected
+ * stands here by hand, from docs/platform.md and docs/broker.md. The last line printed is 'N passed, M failed'. */
 #include "osb.h"
 #include <stdio.h>
 #include <string.h>
@@ -70,6 +70,13 @@ static const struct line provisions[] = {
     {TIMEOUT, OSB_EMPTY, OSB_CLEANING, true},
 };
 
+/* Whether the instance is recorded in the state, with this request out. */
+static bool records(struct osb_platform *platform, uint8_t state, uint8_t out)
+{
+    struct osb_platform_row row = {0};
+    return osb_platform_row(platform, I, &row) == OSB_DONE && row.state == state && row.out == out;
+}
+
 static void check_provision(const struct line *line)
 {
     struct osb_platform platform = {0};
@@ -81,7 +88,7 @@ static void check_provision(const struct line *line)
     CHECK(osb_platform_create(&platform, I, S, P, true, &request) == OSB_DONE);
     CHECK(request.kind == OSB_PROVISION && request.accepts_incomplete && request.id.low == 1);
     CHECK(request.service.low == 0xa0 && request.plan.low == 0xb1);
-    CHECK(osb_platform_row(&platform, I, &row) == OSB_DONE && row.state == OSB_WANTED && row.out == OSB_PROVISION);
+    CHECK(records(&platform, OSB_WANTED, OSB_PROVISION));
     if (line->status == TIMEOUT) {
         CHECK(osb_platform_timeout(&platform, I) == OSB_DONE);
         CHECK(osb_decide_timeout(OSB_WANTED) == line->recorded);
@@ -91,8 +98,8 @@ static void check_provision(const struct line *line)
         CHECK(osb_mitigates(answer) == line->mitigated);
     }
     CHECK((line->recorded == OSB_CLEANING) == line->mitigated);
-    CHECK(osb_platform_row(&platform, I, &row) == OSB_DONE && row.state == line->recorded && row.out == OSB_NO_KIND);
-    CHECK(row.service.low == 0xa0 && row.plan.low == 0xb1);
+    CHECK(records(&platform, line->recorded, OSB_NO_KIND));
+    CHECK(osb_platform_row(&platform, I, &row) == OSB_DONE && row.service.low == 0xa0 && row.plan.low == 0xb1);
     osb_platform_free(&platform);
 }
 
@@ -116,32 +123,48 @@ static const struct line deprovisions[] = {
     {TIMEOUT, OSB_EMPTY, OSB_CLEANING, false},
 };
 
-/* An instance in a state that a broker's answers lead to: cleaning, polling or cleaning-polling. */
+/* The status of a Provision's answer, with an empty body, after which the state is recorded; 500 leads to
+ * cleaning, from where a Deprovision that is answered by 202 leads to cleaning-polling. */
+static uint16_t leads_to(uint8_t state)
+{
+    switch (state) {
+    case OSB_POLLING:
+        return 202;
+    case OSB_READY:
+        return 201;
+    case OSB_GONE:
+        return 400;
+    case OSB_UNSETTLED:
+        return 409;
+    default:
+        return 500;
+    }
+}
+
+/* An instance in any state but wanted, with nothing out. Its Provision didn't accept an asynchronous operation. */
 static void bring_to(struct osb_platform *platform, uint8_t state)
 {
     struct osb_request request = {0};
-    struct osb_platform_row row = {0};
     CHECK(osb_platform_new(platform) == OSB_DONE);
-    CHECK(osb_platform_create(platform, I, S, P, true, &request) == OSB_DONE);
-    CHECK(osb_platform_answer(platform, I, answered(state == OSB_POLLING ? 202 : 500, OSB_EMPTY)) == OSB_DONE);
+    CHECK(osb_platform_create(platform, I, S, P, false, &request) == OSB_DONE);
+    CHECK(osb_platform_answer(platform, I, answered(leads_to(state), OSB_EMPTY)) == OSB_DONE);
     if (state == OSB_CLEANING_POLLING) {
         CHECK(osb_platform_send(platform, I, &request) == OSB_DONE && request.kind == OSB_DEPROVISION);
         CHECK(osb_platform_answer(platform, I, answered(202, OSB_EMPTY)) == OSB_DONE);
     }
-    CHECK(osb_platform_row(platform, I, &row) == OSB_DONE && row.state == state && row.out == OSB_NO_KIND);
+    CHECK(records(platform, state, OSB_NO_KIND));
 }
 
 static void check_sent(uint8_t state, uint8_t kind, const struct line *line)
 {
     struct osb_platform platform = {0};
     struct osb_request request = {0};
-    struct osb_platform_row row = {0};
     struct osb_answer answer = answered(line->status, line->body);
 
     bring_to(&platform, state);
     CHECK(osb_platform_send(&platform, I, &request) == OSB_DONE);
     CHECK(request.kind == kind && request.accepts_incomplete && request.id.low == 1);
-    CHECK(osb_platform_row(&platform, I, &row) == OSB_DONE && row.state == state && row.out == kind);
+    CHECK(records(&platform, state, kind));
     if (line->status == TIMEOUT) {
         CHECK(osb_platform_timeout(&platform, I) == OSB_DONE);
         CHECK(osb_decide_timeout(state) == line->recorded);
@@ -149,7 +172,7 @@ static void check_sent(uint8_t state, uint8_t kind, const struct line *line)
         CHECK(osb_platform_answer(&platform, I, answer) == OSB_DONE);
         CHECK((kind == OSB_POLL ? osb_decide_poll(state, answer) : osb_decide_deprovision(answer)) == line->recorded);
     }
-    CHECK(osb_platform_row(&platform, I, &row) == OSB_DONE && row.state == line->recorded && row.out == OSB_NO_KIND);
+    CHECK(records(&platform, line->recorded, OSB_NO_KIND));
     osb_platform_free(&platform);
 }
 
@@ -180,6 +203,75 @@ static void check_poll(const struct poll *poll)
     check_sent(OSB_POLLING, OSB_POLL, &line);
     line.recorded = poll->from_cleaning_polling;
     check_sent(OSB_CLEANING_POLLING, OSB_POLL, &line);
+}
+
+/* ---- The calls: in each state with nothing out, which of them applies, and what it records. */
+
+static const struct due {
+    uint8_t state, kind; /* the request that is due, or OSB_NO_KIND */
+    uint32_t expire, remove;
+} dues[] = {
+    {OSB_POLLING, OSB_POLL, OSB_DONE, OSB_DONE},
+    {OSB_READY, OSB_NO_KIND, OSB_NOT_POLLING, OSB_DONE},
+    {OSB_CLEANING, OSB_DEPROVISION, OSB_NOT_POLLING, OSB_NOT_REMOVABLE},
+    {OSB_CLEANING_POLLING, OSB_POLL, OSB_NOT_POLLING, OSB_NOT_REMOVABLE},
+    {OSB_GONE, OSB_NO_KIND, OSB_NOT_POLLING, OSB_NOT_REMOVABLE},
+    {OSB_UNSETTLED, OSB_NO_KIND, OSB_NOT_POLLING, OSB_DONE},
+};
+
+/* An instance with a request out: what is refused then, and changes nothing. */
+static void check_busy(struct osb_platform *platform, uint8_t state, uint8_t kind)
+{
+    struct osb_request request = {7, false, {7, 7}, {7, 7}, {7, 7}};
+    CHECK(osb_platform_create(platform, I, S, P, true, &request) == OSB_ID_USED);
+    CHECK(osb_platform_send(platform, I, &request) == OSB_BUSY);
+    CHECK(request.kind == 7 && request.id.low == 7 && request.service.low == 7 && request.plan.low == 7);
+    CHECK(osb_platform_expire(platform, I) == OSB_BUSY);
+    CHECK(osb_platform_remove(platform, I) == OSB_BUSY);
+    CHECK(records(platform, state, kind));
+}
+
+static void check_due(const struct due *due)
+{
+    struct osb_platform platform = {0};
+    struct osb_request request = {7, false, {7, 7}, {7, 7}, {7, 7}};
+
+    bring_to(&platform, due->state);
+    CHECK(osb_platform_create(&platform, I, S, P, true, &request) == OSB_ID_USED);
+    CHECK(osb_platform_answer(&platform, I, answered(200, OSB_EMPTY)) == OSB_NO_REQUEST);
+    CHECK(osb_platform_timeout(&platform, I) == OSB_NO_REQUEST);
+    CHECK(osb_platform_send(&platform, I, &request) == (due->kind == OSB_NO_KIND ? OSB_NOTHING_DUE : OSB_DONE));
+    CHECK(records(&platform, due->state, due->kind));
+    if (due->kind == OSB_NO_KIND) {
+        CHECK(request.kind == 7 && request.id.low == 7 && request.service.low == 7 && request.plan.low == 7);
+    } else {
+        CHECK(request.kind == due->kind && request.id.low == 1 && request.accepts_incomplete);
+        CHECK(request.service.low == 0xa0 && request.plan.low == 0xb1);
+        check_busy(&platform, due->state, due->kind);
+    }
+    osb_platform_free(&platform);
+
+    bring_to(&platform, due->state);
+    CHECK(osb_platform_expire(&platform, I) == due->expire);
+    CHECK(records(&platform, due->expire == OSB_DONE ? OSB_CLEANING : due->state, OSB_NO_KIND));
+    osb_platform_free(&platform);
+
+    bring_to(&platform, due->state);
+    CHECK(osb_platform_remove(&platform, I) == due->remove);
+    CHECK(records(&platform, due->remove == OSB_DONE ? OSB_CLEANING : due->state, OSB_NO_KIND));
+    osb_platform_free(&platform);
+}
+
+/* The one state that has its request out from the beginning. */
+static void check_wanted(void)
+{
+    struct osb_platform platform = {0};
+    struct osb_request request = {0};
+
+    CHECK(osb_platform_new(&platform) == OSB_DONE);
+    CHECK(osb_platform_create(&platform, I, S, P, true, &request) == OSB_DONE);
+    check_busy(&platform, OSB_WANTED, OSB_PROVISION);
+    osb_platform_free(&platform);
 }
 
 /* ---- The broker: each rule of its tables. */
@@ -631,6 +723,9 @@ int main(void)
         check_sent(OSB_CLEANING, OSB_DEPROVISION, &deprovisions[at]);
     for (at = 0; at < COUNT(polls); at++)
         check_poll(&polls[at]);
+    for (at = 0; at < COUNT(dues); at++)
+        check_due(&dues[at]);
+    check_wanted();
     for (at = 0; at < COUNT(rules); at++)
         check_rule(&rules[at]);
     check_platform();

@@ -67,8 +67,10 @@ def main():
     header = re.sub(r"/\*.*?\*/", "", open("include/osb.h", encoding="utf-8").read(), flags=re.S)
     for name, taken, given in exports:
         print(f"{c_type(given) if given else 'void'} {name}({parameters(taken)});")
-    structs = r"#\[repr\(C\)\]\s*(?:#\[derive[^\n]*\]\s*)?pub struct (\w+) \{(.*?)\n\}"
-    for name, body in re.findall(structs, whole, re.S):
+    structs = re.findall(r"#\[repr\(C\)\]\s*(?:#\[derive[^\n]*\]\s*)?pub struct (\w+) \{(.*?)\n\}", whole, re.S)
+    if whole.count("repr(C)") != len(structs) or not structs:
+        sys.exit("mirror.py: some struct has a form that isn't read here")
+    for name, body in structs:
         fields = [it for it in re.findall(r"^\s*(?:pub )?(\w+): ([^,{}]+),$", body, re.M) if it[1] != "Global"]
         own, twin = c_type(name), f"struct twin_{snake(name)}"
         print(f"\n{twin} {{")

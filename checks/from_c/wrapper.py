@@ -67,6 +67,8 @@ def handles():
     texts = [f"00000000-0000-0000-0000-0000000000{end}" for end in ("01", "a0", "b2")]
     one, service, plan = [Id.of(text) for text in texts]
     same("an id", str(one), texts[0])
+    same("one id, twice", one == Id.of(texts[0]) and len({one, Id.of(texts[0])}) == 1, True)
+    same("two ids", one == service or one != Id.of(texts[0]), False)
     refused("no id", lambda: Id.of("1"), Status.NOT_AN_ID)
     with Broker([Plan(service, plan, True)]) as broker, Platform() as platform, Platform() as other:
         for it in (platform, other):
@@ -80,7 +82,7 @@ def handles():
         answer = broker.handle(platform.send(one), Outcome.WORK_DONE)
         same("handle", (answer.status, Body(answer.body)), (200, Body.SUCCEEDED))
         platform.answer(one, answer)
-        same("ids", [str(it) for it in platform.ids()], texts[:1])
+        same("ids", platform.ids(), [one])
         with Platform(platform.save()) as loaded:
             same("load", State(loaded.row(one).state), State.READY)
         platform.remove(one)

@@ -34,14 +34,14 @@ struct saved_record {
 /* Saves the platform, in place of what was saved before. */
 static void save(struct osb_platform *platform, struct saved_record *saved)
 {
-    uint8_t nothing[1], *text;
+    uint8_t nothing[1] = {0}, *text;
     size_t length = 0;
     uint32_t status = osb_platform_save(platform, nothing, 0, &length);
     if (status != OSB_TOO_SMALL)
         done(status, "osb_platform_save");
-    text = malloc(length);
+    text = calloc(length, 1);
     if (!text)
-        done(OSB_MEMORY, "malloc");
+        done(OSB_MEMORY, "calloc");
     done(osb_platform_save(platform, text, length, &length), "osb_platform_save");
     free(saved->text);
     saved->text = text;
@@ -52,9 +52,11 @@ static void show(struct osb_platform *platform, struct osb_broker *broker, struc
 {
     struct osb_platform_row record = {0};
     struct osb_broker_row row = {0};
+    uint32_t status = osb_broker_row(broker, id, &row);
+    if (status != OSB_NOT_HELD)
+        done(status, "osb_broker_row");
     done(osb_platform_row(platform, id, &record), "osb_platform_row");
-    printf("recorded: %s, held: %s\n", states[record.state],
-           osb_broker_row(broker, id, &row) == OSB_DONE ? "yes" : "no");
+    printf("recorded: %s, held: %s\n", states[record.state], status == OSB_DONE ? "yes" : "no");
 }
 
 int main(void)
@@ -66,6 +68,7 @@ int main(void)
     struct osb_id id = id_of("00000000-0000-0000-0000-000000000001");
     struct osb_plan plan = {{0}, {0}, false};
     struct saved_record saved = {NULL, 0};
+    uint32_t status;
 
     plan.service = id_of("00000000-0000-0000-0000-0000000000a0");
     plan.plan = id_of("00000000-0000-0000-0000-0000000000b1");
@@ -87,13 +90,15 @@ int main(void)
 
     /* Until nothing is due any more. The platform is saved before a request is sent, and before an answer is
      * shown. */
-    while (osb_platform_send(&platform, id, &request) == OSB_DONE) {
+    while ((status = osb_platform_send(&platform, id, &request)) == OSB_DONE) {
         save(&platform, &saved);
         done(osb_broker_handle(&broker, &request, OSB_WORK_DONE, &answer), "osb_broker_handle");
         done(osb_platform_answer(&platform, id, answer), "osb_platform_answer");
         save(&platform, &saved);
         printf("%s: %d\n", kinds[request.kind], answer.status);
     }
+    if (status != OSB_NOTHING_DUE)
+        done(status, "osb_platform_send");
     show(&platform, &broker, id);
 
     printf("%.*s\n", (int)saved.length, (const char *)saved.text);

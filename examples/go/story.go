@@ -40,7 +40,7 @@ func idOf(text string) (id C.struct_osb_id, err error) {
 	return id, err
 }
 
-// A Platform owns a handle, which C code alone moves or frees.
+// A Platform owns a handle. It isn't to be copied, since both copies would use one pointer.
 type Platform struct{ handle C.struct_osb_platform }
 
 func (p *Platform) save() ([]byte, error) {
@@ -59,7 +59,7 @@ func (p *Platform) load(text []byte) error {
 	return done(C.osb_platform_load(&p.handle, room(text), C.size_t(len(text))))
 }
 
-// A Broker owns a handle.
+// A Broker owns a handle, and isn't to be copied either.
 type Broker struct{ handle C.struct_osb_broker }
 
 var kinds = []string{"Provision", "Poll", "Deprovision"}
@@ -71,9 +71,11 @@ func show(platform *Platform, broker *Broker, id C.struct_osb_id) error {
 	if err := done(C.osb_platform_row(&platform.handle, id, &record)); err != nil {
 		return err
 	}
-	held := "no"
-	if C.osb_broker_row(&broker.handle, id, &row) == C.OSB_DONE {
-		held = "yes"
+	held := "yes"
+	if status := C.osb_broker_row(&broker.handle, id, &row); status == C.OSB_NOT_HELD {
+		held = "no"
+	} else if err := done(status); err != nil {
+		return err
 	}
 	fmt.Printf("recorded: %s, held: %s\n", states[record.state], held)
 	return nil
@@ -133,7 +135,14 @@ func story() error {
 	}
 
 	// The platform is saved before a request is sent, and before an answer is shown.
-	for C.osb_platform_send(&platform.handle, id, &request) == C.OSB_DONE {
+	for {
+		status := C.osb_platform_send(&platform.handle, id, &request)
+		if status == C.OSB_NOTHING_DUE {
+			break
+		}
+		if err := done(status); err != nil {
+			return err
+		}
 		if saved, err = platform.save(); err != nil {
 			return err
 		}

@@ -1,7 +1,8 @@
 """The platform and the broker of libosb, by ctypes. include/osb.h says what each call does.
 
 What isn't done is raised as an `OsbError` with its status. A `Platform` and a `Broker` own their handle: it
-can't be copied, and is freed at the end of a `with`, or by `close`.
+can't be copied, and is freed at the end of a `with`, or by `close`. A call keeps the interpreter's lock, so threads
+can share a handle; in an interpreter without that lock they can't.
 """
 import ctypes as c
 import enum
@@ -42,6 +43,15 @@ class Id(c.Structure):
         _lib.osb_id_to_text(self, text)
         return text.raw.decode()
 
+    def __repr__(self) -> str:
+        return f"Id.of({str(self)!r})"
+
+    def __eq__(self, other: object) -> bool:
+        return isinstance(other, Id) and (self.high, self.low) == (other.high, other.low)
+
+    def __hash__(self) -> int:
+        return hash((self.high, self.low))
+
 
 class Request(c.Structure):
     _fields_ = [("kind", c.c_uint8), ("accepts_incomplete", c.c_bool), ("id", Id), ("service", Id), ("plan", Id)]
@@ -67,7 +77,7 @@ class _Handle(c.Structure):
     _fields_ = [("at", c.c_void_p)]
 
 
-_lib = c.CDLL(os.environ.get("LIBOSB", "libosb.so.0"))
+_lib = c.PyDLL(os.environ.get("LIBOSB", "libosb.so.0"))
 _P = c.POINTER
 for _name, _given, _taken in [
     ("osb_version", c.c_uint32, []),
@@ -196,7 +206,7 @@ class Platform:
     def ids(self) -> typing.List[Id]:
         needed, room = c.c_size_t(0), (Id * 1)()
         status = _lib.osb_platform_ids(self._handle, room, 0, needed)
-        if status == Status.TOO_SMALL:
+        while status == Status.TOO_SMALL:
             room = (Id * needed.value)()
             status = _lib.osb_platform_ids(self._handle, room, needed.value, needed)
         _check(status)
@@ -205,7 +215,7 @@ class Platform:
     def save(self) -> bytes:
         needed, room = c.c_size_t(0), c.create_string_buffer(1)
         status = _lib.osb_platform_save(self._handle, room, 0, needed)
-        if status == Status.TOO_SMALL:
+        while status == Status.TOO_SMALL:
             room = c.create_string_buffer(needed.value)
             status = _lib.osb_platform_save(self._handle, room, needed.value, needed)
         _check(status)

@@ -105,8 +105,8 @@ pub extern "C" fn osb_broker_handle(
     ensures other_kinds { kind_of request.now.kind ≢ Some Provision → result ≢ code Status.Memory }
     ensures statuses { IsTrue (is_one_of (Status.Done ∷ Status.EmptyHandle ∷ Status.BadKind
         ∷ Status.BadOutcome ∷ Status.Memory ∷ []) result) }
-    ensures held { result ≡ code Status.Done →
-        IsSomeAnd broker.new.held (λ b. (id : ℕ) → IsHeldAt b.catalogue b.rows id) }
+    ensures held { IsSome (request_of request.now) → IsSome (outcome_of outcome)
+        → IfSome broker.new.held (λ b. (id : ℕ) → IsHeldAt b.catalogue b.rows id) }
     ensures refused { result ≢ code Status.Done → broker.new.held ≡ broker.old.held }
     ensures unwritten { result ≢ code Status.Done → answer.new ≡ answer.old }
 {

@@ -23,9 +23,9 @@ pub(crate) enum Status {
     NothingDue,
     // No request of the instance is out.
     NoRequest,
-    // The state isn't `polling`.
+    // No request is out, and the state isn't `polling`.
     NotPolling,
-    // The state is none of `polling`, `ready` and `unsettled`.
+    // No request is out, and the state is none of `polling`, `ready` and `unsettled`.
     NotRemovable,
     // No operation runs on the instance.
     NothingRunning,
