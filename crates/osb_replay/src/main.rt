@@ -2,16 +2,12 @@
 //!
 //! `osb-replay replay` reads a schedule on standard input and writes on standard output what the
 //! platform records and what the broker holds in the end. `osb-replay table` writes the orphan
-//! mitigation table.
+//! mitigation table. What the words of the command line ask for, and how the program ends, is
+//! `osb_command_line`'s.
 #![tactic(auto)]
 
-mod command_line;
-mod help;
-mod program;
-
-use command_line::{WordsFault, read_words};
+use osb_command_line::{WordsFault, carry_out, end, read_words, refuse, show_help, words_of};
 use osb_schedule::{Input, Output, ReplayFault};
-use program::{carry_out, end, refuse, show_help, words_of};
 use std::process::ExitCode;
 
 fn main(rt: HostRuntime) -> ExitCode {

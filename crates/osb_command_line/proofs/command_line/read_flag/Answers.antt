@@ -1,7 +1,7 @@
 -- What is read is the option's value, or false where it has none.
 use Rattle.clap.specs.Words.{found_of}
-use Rattle.osb_replay.proofs.Flags.{flag_some, flag_none}
-use Rattle.osb_replay.proofs.command_line.read_flag.Goals as goal
+use Rattle.osb_command_line.proofs.Flags.{flag_some, flag_none}
+use Rattle.osb_command_line.proofs.command_line.read_flag.Goals as goal
 
 pub returns-in-Some : goal.returns-in-Some
 returns-in-Some c =

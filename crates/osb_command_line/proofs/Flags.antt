@@ -9,7 +9,7 @@ use Rattle.clap.specs.Matches.{one_text}
 use Rattle.clap.specs.Walk.{Text, rows_of}
 use Rattle.clap.specs.declared.parser.matches.Found.{Found}
 use Rattle.clap.proofs.WalkLemmas.{one_text-rows}
-use Rattle.osb_replay.specs.CommandLine.{is_set}
+use Rattle.osb_command_line.specs.CommandLine.{is_set}
 
 abbrev reads_true : Option Text → Bool
 reads_true o = option_map_or (λ t. bytes_eq t (codes "true")) o false

@@ -8,9 +8,9 @@ use Rattle.clap.specs.Walk.{Text}
 use Rattle.clap.specs.declared.error.Error.{Error}
 use Rattle.clap.specs.declared.error.kind.ErrorKind.{ErrorKind}
 use Rattle.clap.specs.declared.error.kind.ErrorKind.TheVariants.{OutOfMemory}
-use Rattle.osb_replay.specs.CommandLine.{command, Explains, IsTold}
-use Rattle.osb_replay.specs.declared.command_line.WordsFault.{WordsFault}
-use Rattle.osb_replay.specs.declared.command_line.WordsFault.TheVariants.{Help, Refused, Memory}
+use Rattle.osb_command_line.specs.CommandLine.{command, Explains, IsTold}
+use Rattle.osb_command_line.specs.declared.command_line.WordsFault.{WordsFault}
+use Rattle.osb_command_line.specs.declared.command_line.WordsFault.TheVariants.{Help, Refused, Memory}
 
 command_is_free : is_simple_and_free command ≡ true
 command_is_free = refl

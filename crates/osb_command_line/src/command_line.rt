@@ -1,7 +1,7 @@
 //! The command line (this project's choice).
 ghost use Rattle.std.specs.Prelude.{◌≡◌, [], false, map, IfErr, IfOk, OnOk, string_bytes};
-ghost use Rattle.osb_replay.specs.CommandLine.{asked_of, asked_words, command, flag, is_set, program};
-ghost use Rattle.osb_replay.specs.CommandLine.{replay_command, table_command, Explains, IsTold};
+ghost use Rattle.osb_command_line.specs.CommandLine.{asked_of, asked_words, command, flag, is_set, program};
+ghost use Rattle.osb_command_line.specs.CommandLine.{replay_command, table_command, Explains, IsTold};
 ghost use Rattle.clap.specs.Faults.{fault_of};
 ghost use Rattle.clap.specs.Words.{app_of, found_of, kind_of, rows_of, rule_of, subcommand_rows_of};
 ghost use Rattle.clap.specs.declared.builder.command.Command.TheViews.{out-Command};

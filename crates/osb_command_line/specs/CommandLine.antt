@@ -10,10 +10,10 @@ use Rattle.clap.specs.declared.builder.action.ArgAction.TheVariants.{SetTrue}
 use Rattle.clap.specs.declared.error.kind.ErrorKind.{ErrorKind}
 use Rattle.clap.specs.declared.error.kind.ErrorKind.TheVariants.{DisplayHelp, OutOfMemory}
 use Rattle.osb_schedule.specs.declared.options.Options.{Options}
-use Rattle.osb_replay.specs.declared.command_line.Asked.{Asked}
-use Rattle.osb_replay.specs.declared.command_line.Asked.TheVariants.{Replay, Table}
-use Rattle.osb_replay.specs.declared.command_line.WordsFault.{WordsFault}
-use Rattle.osb_replay.specs.declared.command_line.WordsFault.TheVariants.{Help, Refused, Memory}
+use Rattle.osb_command_line.specs.declared.command_line.Asked.{Asked}
+use Rattle.osb_command_line.specs.declared.command_line.Asked.TheVariants.{Replay, Table}
+use Rattle.osb_command_line.specs.declared.command_line.WordsFault.{WordsFault}
+use Rattle.osb_command_line.specs.declared.command_line.WordsFault.TheVariants.{Help, Refused, Memory}
 
 -- ---- the command
 

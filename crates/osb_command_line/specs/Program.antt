@@ -7,10 +7,10 @@ use Rattle.osb_schedule.specs.Replay as replay
 use Rattle.osb_schedule.specs.Replay.{ReadsWhole, WritesReport}
 use Rattle.osb_schedule.specs.declared.faults.ReplayFault.{ReplayFault}
 use Rattle.osb_schedule.specs.declared.faults.ReplayFault.TheVariants.{Write}
-use Rattle.osb_replay.specs.declared.command_line.Asked.{Asked}
-use Rattle.osb_replay.specs.declared.command_line.Asked.TheVariants.{Replay, Table}
-use Rattle.osb_replay.specs.declared.command_line.WordsFault.{WordsFault}
-use Rattle.osb_replay.specs.declared.command_line.WordsFault.TheVariants.{Help, Refused, Memory}
+use Rattle.osb_command_line.specs.declared.command_line.Asked.{Asked}
+use Rattle.osb_command_line.specs.declared.command_line.Asked.TheVariants.{Replay, Table}
+use Rattle.osb_command_line.specs.declared.command_line.WordsFault.{WordsFault}
+use Rattle.osb_command_line.specs.declared.command_line.WordsFault.TheVariants.{Help, Refused, Memory}
 
 -- what was asked for is done: the reader had these bytes left, before and after, and the writer held those
 abbrev pub IsDone : Asked → Option (List ℕ) → Option (List ℕ) → Option (List ℕ) → Option (List ℕ) → Type 0

@@ -1,6 +1,6 @@
 -- An error of the command is told as what it is.
-use Rattle.osb_replay.proofs.Explaining.{explained}
-use Rattle.osb_replay.proofs.command_line.read_words.Goals as goal
+use Rattle.osb_command_line.proofs.Explaining.{explained}
+use Rattle.osb_command_line.proofs.command_line.read_words.Goals as goal
 
 pub returns-clause-fault : goal.returns-clause-fault
 returns-clause-fault c =

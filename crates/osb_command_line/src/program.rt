@@ -3,8 +3,8 @@ ghost use Rattle.std.specs.Prelude.{◌≡◌, ◌≢◌, IfErr, IsOkUnless, OnO
 ghost use Rattle.std.specs.Io.KnownBytes.{Appends};
 ghost use Rattle.std.specs.Process.{exit_status};
 ghost use Rattle.osb_schedule.specs.declared.faults.ReplayFault.TheVariants.{Write as WriteFault};
-ghost use Rattle.osb_replay.specs.Program.{ending, Explains, IsDone, IsNoHelp};
-ghost use Rattle.osb_replay.specs.declared.command_line.Asked.TheVariants.{Table};
+ghost use Rattle.osb_command_line.specs.Program.{ending, Explains, IsDone, IsNoHelp};
+ghost use Rattle.osb_command_line.specs.declared.command_line.Asked.TheVariants.{Table};
 
 use crate::command_line::{Asked, WordsFault};
 use osb_schedule::{Input, Output, ReplayFault, replay, status_of, write_table};

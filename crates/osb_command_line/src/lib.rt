@@ -1,0 +1,13 @@
+//! The command line of `osb-replay`: what its words ask for, the doing of it, and how the program ends (this
+//! project's choice).
+//!
+//! [`read_words`] reads words by `clap`, and [`carry_out`] does what they ask for. [`show_help`] and [`refuse`]
+//! tell why nothing is done, and [`end`] has the status of each ending.
+#![tactic(auto)]
+
+mod command_line;
+mod help;
+mod program;
+
+pub use command_line::{Asked, WordsFault, read_words};
+pub use program::{carry_out, end, refuse, show_help, words_of};
