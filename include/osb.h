@@ -16,9 +16,10 @@
  *     are independent, and a handle may pass from one thread to another.
  *   - No call is made from a signal handler, or in the forked child of a process with threads.
  *   - malloc, realloc and free are one allocator's, and blocks are aligned as C has it.
+ *   - There is stack enough. How much a call takes isn't proved; in the tests 128 KiB are enough for each.
  *
- * What the library keeps. A call that doesn't return OSB_DONE has changed nothing, but for what its comment
- * names. No call blocks, prints, ends the process or keeps a pointer that it was given. */
+ * What the library keeps. A call that returns another status than OSB_DONE has changed nothing, but for what its
+ * comment names. No call blocks, prints, ends the process or keeps a pointer that it was given. */
 #ifndef OSB_H
 #define OSB_H
 
@@ -118,8 +119,9 @@ struct osb_answer {
     uint8_t body;    /* an enum osb_body */
 };
 
-/* Whether an answer to a request of the kind has a status of success and a body that can be read whole.
- * False where the kind is none. */
+/* Whether an answer to a request of the kind has a status of success and a body that can be read whole: to a
+ * Provision or a Deprovision 200, 201 or 202 with OSB_EMPTY, to a Poll 200 with OSB_IN_PROGRESS, OSB_SUCCEEDED or
+ * OSB_FAILED. False where the kind is none. */
 bool osb_well_formed(uint8_t kind, struct osb_answer answer);
 
 /* ---- The platform's tables, which take any answer. They are for those who keep their own records; a struct
@@ -143,9 +145,12 @@ bool osb_mitigates(struct osb_answer answer);
 uint8_t osb_decide_provision(struct osb_answer answer);
 uint8_t osb_decide_deprovision(struct osb_answer answer);
 
-/* The record of an instance in this state after the answer to its Poll, after a request that got no answer,
- * and after a restart. OSB_NO_STATE where the number stands for no state. */
+/* The record of an instance in this state after the answer to its Poll: a state that isn't polled stays.
+ * OSB_NO_STATE where the number stands for no state. */
 uint8_t osb_decide_poll(uint8_t state, struct osb_answer answer);
+
+/* The record of an instance in this state after a request that got no answer, and after a restart: wanted becomes
+ * cleaning, and every other state stays. OSB_NO_STATE where the number stands for no state. */
 uint8_t osb_decide_timeout(uint8_t state);
 uint8_t osb_decide_restart(uint8_t state);
 
@@ -213,8 +218,8 @@ uint32_t osb_platform_ids(struct osb_platform *platform, struct osb_id *room, si
  * OSB_DONE, OSB_EMPTY_HANDLE, OSB_TOO_SMALL (*needed is then written, and the room as before), OSB_MEMORY. */
 uint32_t osb_platform_save(struct osb_platform *platform, uint8_t *room, size_t bytes, size_t *needed);
 
-/* Makes the platform that a saved record names, after a restart, in an empty handle: wanted becomes cleaning,
- * every other state stays, and nothing is out.
+/* Makes the platform that a saved record of format 1 or 2 names (docs/saved-record.md), after a restart, in an
+ * empty handle: wanted becomes cleaning, every other state stays, and nothing is out.
  * OSB_DONE, OSB_FULL_HANDLE, OSB_NOT_UTF8, OSB_NOT_JSON, OSB_NOT_AN_OBJECT, OSB_BAD_VERSION, OSB_BAD_OUTER,
  * OSB_BAD_KEY, OSB_BAD_MEMBER, OSB_MEMORY. In an empty handle, what osb_platform_save wrote gives OSB_DONE or
  * OSB_MEMORY. */

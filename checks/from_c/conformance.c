@@ -20,7 +20,38 @@ static void check(int is, const char *what, int line)
 
 #define CHECK(what) check((what), #what, __LINE__)
 
-static const struct osb_id I = {0, 1}, J = {0, 2}, S = {0, 0xa0}, P = {0, 0xb1}, Q = {0, 0xb2}, R = {0, 0xb3};
+static const struct osb_id I = {0, 1}, J = {0, 2}, S = {0, 0xa0}, T = {0, 0xa1}, P = {0, 0xb1}, Q = {0, 0xb2};
+
+/* What is handed in to be written: a call that isn't done leaves it so. */
+static const struct osb_request some_request = {7, false, {7, 7}, {7, 7}, {7, 7}};
+static const struct osb_platform_row some_record = {{7, 7}, {7, 7}, 7, 7};
+static const struct osb_broker_row some_row = {{7, 7}, {7, 7}, 7};
+static const struct osb_answer some_answer = {7, 7};
+
+static bool are_seven(struct osb_id a, struct osb_id b)
+{
+    return a.high == 7 && a.low == 7 && b.high == 7 && b.low == 7;
+}
+
+static bool is_some_request(struct osb_request it)
+{
+    return it.kind == 7 && !it.accepts_incomplete && are_seven(it.id, it.id) && are_seven(it.service, it.plan);
+}
+
+static bool is_some_record(struct osb_platform_row it)
+{
+    return are_seven(it.service, it.plan) && it.state == 7 && it.out == 7;
+}
+
+static bool is_some_row(struct osb_broker_row it)
+{
+    return are_seven(it.service, it.plan) && it.phase == 7;
+}
+
+static bool is_some_answer(struct osb_answer it)
+{
+    return it.status == 7 && it.body == 7;
+}
 
 static struct osb_answer answered(uint16_t status, uint8_t body)
 {
@@ -222,10 +253,10 @@ static const struct due {
 /* An instance with a request out: what is refused then, and changes nothing. */
 static void check_busy(struct osb_platform *platform, uint8_t state, uint8_t kind)
 {
-    struct osb_request request = {7, false, {7, 7}, {7, 7}, {7, 7}};
+    struct osb_request request = some_request;
     CHECK(osb_platform_create(platform, I, S, P, true, &request) == OSB_ID_USED);
     CHECK(osb_platform_send(platform, I, &request) == OSB_BUSY);
-    CHECK(request.kind == 7 && request.id.low == 7 && request.service.low == 7 && request.plan.low == 7);
+    CHECK(is_some_request(request));
     CHECK(osb_platform_expire(platform, I) == OSB_BUSY);
     CHECK(osb_platform_remove(platform, I) == OSB_BUSY);
     CHECK(records(platform, state, kind));
@@ -234,7 +265,7 @@ static void check_busy(struct osb_platform *platform, uint8_t state, uint8_t kin
 static void check_due(const struct due *due)
 {
     struct osb_platform platform = {0};
-    struct osb_request request = {7, false, {7, 7}, {7, 7}, {7, 7}};
+    struct osb_request request = some_request;
 
     bring_to(&platform, due->state);
     CHECK(osb_platform_create(&platform, I, S, P, true, &request) == OSB_ID_USED);
@@ -243,7 +274,7 @@ static void check_due(const struct due *due)
     CHECK(osb_platform_send(&platform, I, &request) == (due->kind == OSB_NO_KIND ? OSB_NOTHING_DUE : OSB_DONE));
     CHECK(records(&platform, due->state, due->kind));
     if (due->kind == OSB_NO_KIND) {
-        CHECK(request.kind == 7 && request.id.low == 7 && request.service.low == 7 && request.plan.low == 7);
+        CHECK(is_some_request(request));
     } else {
         CHECK(request.kind == due->kind && request.id.low == 1 && request.accepts_incomplete);
         CHECK(request.service.low == 0xa0 && request.plan.low == 0xb1);
@@ -278,7 +309,8 @@ static void check_wanted(void)
 
 enum { NO_ROW = 255 };
 
-/* A row before and after: its plan and its phase, or none. S sells P, which is synchronous, and Q, which isn't. */
+/* A row before and after: its plan and its phase, or none. S sells P, which is synchronous, and Q, which isn't; T
+ * sells P too. */
 struct rule {
     uint8_t kind;
     uint64_t row_plan;
@@ -357,14 +389,16 @@ static struct osb_request asked(uint8_t kind, uint64_t plan, bool accepts)
 
 static void new_broker(struct osb_broker *broker)
 {
-    struct osb_plan plans[2];
+    struct osb_plan plans[3];
     memset(plans, 0, sizeof plans);
     plans[0].service = S;
     plans[0].plan = P;
     plans[1].service = S;
     plans[1].plan = Q;
     plans[1].is_asynchronous = true;
-    CHECK(osb_broker_new(broker, plans, 2) == OSB_DONE);
+    plans[2].service = T;
+    plans[2].plan = P;
+    CHECK(osb_broker_new(broker, plans, 3) == OSB_DONE);
 }
 
 /* Brings the instance to a phase. */
@@ -420,6 +454,27 @@ static void check_rule(const struct rule *rule)
     osb_broker_free(&broker);
 }
 
+/* Another service is another plan, and isn't on sale because one of its plans is. */
+static void check_service(void)
+{
+    struct osb_broker broker = {0};
+    struct osb_request request = asked(OSB_PROVISION, 0xb2, true);
+
+    new_broker(&broker);
+    request.service = T;
+    CHECK(answers(&broker, request, OSB_WORK_DONE, 400, OSB_OTHER_ERROR));
+    CHECK(holds(&broker, 0xb2, NO_ROW));
+    bring_broker_to(&broker, 0xb1, OSB_MADE);
+    request.plan = P;
+    CHECK(answers(&broker, request, OSB_WORK_DONE, 409, OSB_OTHER_ERROR));
+    request.kind = OSB_DEPROVISION;
+    CHECK(answers(&broker, request, OSB_WORK_DONE, 400, OSB_OTHER_ERROR));
+    request.kind = OSB_POLL;
+    CHECK(answers(&broker, request, OSB_WORK_DONE, 400, OSB_OTHER_ERROR));
+    CHECK(holds(&broker, 0xb1, OSB_MADE));
+    osb_broker_free(&broker);
+}
+
 /* ---- Which answers are well formed: for each kind, each status of success and each body. */
 
 static void check_well_formed(void)
@@ -435,17 +490,16 @@ static void check_well_formed(void)
             }
 }
 
-/* ---- The platform by itself: each status of its calls, in order. */
+/* ---- The platform by itself: an empty handle, an id that isn't recorded, and calls in a row. */
 
 static void check_platform(void)
 {
     struct osb_platform platform = {0};
-    struct osb_request request = {0};
-    struct osb_platform_row row = {0};
-    struct osb_id ids[2];
+    struct osb_request request = some_request;
+    struct osb_platform_row row = some_record;
+    struct osb_id ids[2] = {{7, 7}, {7, 7}};
     size_t needed = 7;
 
-    memset(ids, 0, sizeof ids);
     CHECK(osb_platform_create(&platform, I, S, Q, true, &request) == OSB_EMPTY_HANDLE);
     CHECK(osb_platform_send(&platform, I, &request) == OSB_EMPTY_HANDLE);
     CHECK(osb_platform_answer(&platform, I, answered(200, OSB_EMPTY)) == OSB_EMPTY_HANDLE);
@@ -453,27 +507,24 @@ static void check_platform(void)
     CHECK(osb_platform_expire(&platform, I) == OSB_EMPTY_HANDLE);
     CHECK(osb_platform_remove(&platform, I) == OSB_EMPTY_HANDLE);
     CHECK(osb_platform_row(&platform, I, &row) == OSB_EMPTY_HANDLE);
-    CHECK(osb_platform_ids(&platform, ids, 2, &needed) == OSB_EMPTY_HANDLE && needed == 7);
+    CHECK(osb_platform_ids(&platform, ids, 2, &needed) == OSB_EMPTY_HANDLE && needed == 7 && are_seven(ids[0], ids[1]));
+    CHECK(is_some_request(request) && is_some_record(row));
     osb_platform_free(&platform);
 
     CHECK(osb_platform_new(&platform) == OSB_DONE);
     CHECK(osb_platform_new(&platform) == OSB_FULL_HANDLE);
-    CHECK(osb_platform_ids(&platform, ids, 0, &needed) == OSB_DONE && needed == 0);
+    CHECK(osb_platform_ids(&platform, ids, 0, &needed) == OSB_DONE && needed == 0 && are_seven(ids[0], ids[1]));
     CHECK(osb_platform_send(&platform, I, &request) == OSB_UNKNOWN);
     CHECK(osb_platform_expire(&platform, I) == OSB_UNKNOWN);
     CHECK(osb_platform_remove(&platform, I) == OSB_UNKNOWN);
     CHECK(osb_platform_row(&platform, I, &row) == OSB_UNKNOWN);
     CHECK(osb_platform_answer(&platform, I, answered(200, OSB_EMPTY)) == OSB_NO_REQUEST);
     CHECK(osb_platform_timeout(&platform, I) == OSB_NO_REQUEST);
+    CHECK(is_some_request(request) && is_some_record(row));
     CHECK(osb_platform_create(&platform, I, S, Q, true, &request) == OSB_DONE);
     CHECK(request.kind == OSB_PROVISION && request.accepts_incomplete && request.plan.low == 0xb2);
-    request.id = R;
-    CHECK(osb_platform_create(&platform, I, S, P, false, &request) == OSB_ID_USED && request.id.low == 0xb3);
-    CHECK(osb_platform_send(&platform, I, &request) == OSB_BUSY && request.id.low == 0xb3);
     CHECK(osb_platform_answer(&platform, I, answered(202, OSB_EMPTY)) == OSB_DONE);
     CHECK(osb_platform_send(&platform, I, &request) == OSB_DONE && request.kind == OSB_POLL);
-    CHECK(osb_platform_expire(&platform, I) == OSB_BUSY);
-    CHECK(osb_platform_remove(&platform, I) == OSB_BUSY);
     CHECK(osb_platform_answer(&platform, I, answered(404, OSB_EMPTY)) == OSB_DONE);
     CHECK(osb_platform_answer(&platform, I, answered(404, OSB_EMPTY)) == OSB_NO_REQUEST);
     CHECK(osb_platform_expire(&platform, I) == OSB_DONE);
@@ -489,10 +540,10 @@ static void check_platform(void)
     CHECK(osb_platform_send(&platform, I, &request) == OSB_NOTHING_DUE);
 
     CHECK(osb_platform_ids(&platform, ids, 2, &needed) == OSB_DONE && needed == 1);
-    CHECK(ids[0].low == 1 && ids[1].low == 0);
-    ids[0].low = 0;
+    CHECK(ids[0].low == 1 && are_seven(ids[1], ids[1]));
+    ids[0] = ids[1];
     CHECK(osb_platform_create(&platform, J, S, P, false, &request) == OSB_DONE && !request.accepts_incomplete);
-    CHECK(osb_platform_ids(&platform, ids, 1, &needed) == OSB_TOO_SMALL && needed == 2 && ids[0].low == 0);
+    CHECK(osb_platform_ids(&platform, ids, 1, &needed) == OSB_TOO_SMALL && needed == 2 && are_seven(ids[0], ids[1]));
     CHECK(osb_platform_ids(&platform, ids, 2, &needed) == OSB_DONE && needed == 2);
     CHECK(ids[0].low == 1 && ids[1].low == 2 && ids[0].high == 0 && ids[1].high == 0);
     CHECK(osb_platform_answer(&platform, J, answered(201, OSB_EMPTY)) == OSB_DONE);
@@ -558,37 +609,31 @@ static void check_broker(void)
 {
     struct osb_broker broker = {0};
     struct osb_request request = asked(OSB_PROVISION, 0xb1, false);
-    struct osb_answer answer = answered(7, 7);
-    struct osb_broker_row row = {0};
+    struct osb_answer answer = some_answer;
+    struct osb_broker_row row = some_row;
     struct osb_plan plans[2];
 
     check_synchronous();
     check_asynchronous();
     memset(plans, 0, sizeof plans);
     plans[1].is_asynchronous = true;
-    CHECK(osb_broker_handle(&broker, &request, OSB_WORK_DONE, &answer) == OSB_EMPTY_HANDLE && answer.status == 7);
+    CHECK(osb_broker_handle(&broker, &request, OSB_WORK_DONE, &answer) == OSB_EMPTY_HANDLE && is_some_answer(answer));
     CHECK(osb_broker_finish(&broker, I, true) == OSB_EMPTY_HANDLE);
-    CHECK(osb_broker_row(&broker, I, &row) == OSB_EMPTY_HANDLE);
+    CHECK(osb_broker_row(&broker, I, &row) == OSB_EMPTY_HANDLE && is_some_row(row));
     CHECK(osb_broker_new(&broker, plans, 2) == OSB_PLAN_TWICE && broker.at == NULL);
     CHECK(osb_broker_new(&broker, plans, 0) == OSB_DONE);
     CHECK(osb_broker_new(&broker, plans, 1) == OSB_FULL_HANDLE);
     CHECK(osb_broker_handle(&broker, &request, OSB_WORK_DONE, &answer) == OSB_DONE && answer.status == 400);
     osb_broker_free(&broker);
-    CHECK(osb_broker_row(&broker, I, &row) == OSB_EMPTY_HANDLE);
+    CHECK(osb_broker_row(&broker, I, &row) == OSB_EMPTY_HANDLE && is_some_row(row));
     osb_broker_free(&broker);
     new_broker(&broker);
     request.kind = 3;
-    answer.status = 7;
-    CHECK(osb_broker_handle(&broker, &request, 3, &answer) == OSB_BAD_KIND && answer.status == 7);
+    answer = some_answer;
+    CHECK(osb_broker_handle(&broker, &request, 3, &answer) == OSB_BAD_KIND && is_some_answer(answer));
     request.kind = OSB_PROVISION;
-    CHECK(osb_broker_handle(&broker, &request, 3, &answer) == OSB_BAD_OUTCOME && answer.status == 7);
-    CHECK(osb_broker_row(&broker, I, &row) == OSB_NOT_HELD);
-    CHECK(osb_broker_finish(&broker, I, true) == OSB_NOTHING_RUNNING);
-    request.plan = Q;
-    request.accepts_incomplete = true;
-    CHECK(osb_broker_handle(&broker, &request, OSB_WORK_DONE, &answer) == OSB_DONE && answer.status == 202);
-    CHECK(osb_broker_finish(&broker, I, true) == OSB_DONE);
-    CHECK(osb_broker_row(&broker, I, &row) == OSB_DONE && row.phase == OSB_MADE && row.plan.low == 0xb2);
+    CHECK(osb_broker_handle(&broker, &request, 3, &answer) == OSB_BAD_OUTCOME && is_some_answer(answer));
+    CHECK(osb_broker_row(&broker, I, &row) == OSB_NOT_HELD && is_some_row(row));
     CHECK(osb_broker_finish(&broker, I, true) == OSB_NOTHING_RUNNING);
     osb_broker_free(&broker);
 }
@@ -615,6 +660,18 @@ static uint32_t load_status(const char *text)
     CHECK((platform.at == NULL) == (status != OSB_DONE));
     osb_platform_free(&platform);
     return status;
+}
+
+/* Objects within objects, of which no name is an id's. */
+static uint32_t nested_status(size_t depth)
+{
+    char text[1024] = {0};
+    size_t at;
+    for (at = 0; at < depth; at++)
+        memcpy(text + 5 * at, "{\"x\":", 5);
+    text[5 * depth] = '1';
+    memset(text + 5 * depth + 1, '}', depth);
+    return load_status(text);
 }
 
 static uint8_t state_after_load(const char *text)
@@ -658,6 +715,8 @@ static void check_saved(void)
     CHECK(load_status("{") == OSB_NOT_JSON);
     CHECK(load_status("") == OSB_NOT_JSON);
     CHECK(load_status("[]") == OSB_NOT_AN_OBJECT);
+    CHECK(nested_status(127) == OSB_BAD_KEY);
+    CHECK(nested_status(128) == OSB_NOT_JSON);
     CHECK(load_status("{\"version\":3}") == OSB_BAD_VERSION);
     CHECK(load_status("{\"version\":2}") == OSB_BAD_OUTER);
     CHECK(load_status("{\"version\":2,\"instances\":[]}") == OSB_BAD_OUTER);
@@ -728,6 +787,7 @@ int main(void)
     check_wanted();
     for (at = 0; at < COUNT(rules); at++)
         check_rule(&rules[at]);
+    check_service();
     check_platform();
     check_broker();
     check_saved();

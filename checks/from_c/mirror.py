@@ -17,7 +17,7 @@ PLAIN = {"u8": "uint8_t", "u16": "uint16_t", "u32": "uint32_t", "u64": "uint64_t
 
 # Where the header's name of a number isn't made of the source's by upper case and underscores alone.
 NAMES = {"State": {}, "Kind": {}, "Status": {},
-         "Body": {"InProgress": "IN_PROGRESS", "Error": "OTHER_ERROR", "Other": "OTHER_ERROR"},
+         "Body": {"Other": "OTHER_ERROR"},
          "Outcome": {"Done": "WORK_DONE", "Before": "FAILED_BEFORE", "After": "FAILED_AFTER"},
          "Phase": {"Ready": "MADE", "Failed": "MAKE_FAILED"}}
 

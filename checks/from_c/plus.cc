@@ -5,10 +5,11 @@
 namespace {
 class Platform {
 public:
-    Platform() { osb_platform_new(&handle); }
     ~Platform() { osb_platform_free(&handle); }
+    Platform() = default;
     Platform(const Platform &) = delete;
     Platform &operator=(const Platform &) = delete;
+    uint32_t make() { return osb_platform_new(&handle); }
     uint32_t timeout(osb_id id) { return osb_platform_timeout(&handle, id); }
 
 private:
@@ -19,7 +20,9 @@ private:
 int main()
 {
     Platform platform;
-    if (platform.timeout(osb_id{0, 1}) != OSB_NO_REQUEST || osb_version() != OSB_VERSION)
+    if (platform.make() != OSB_DONE || platform.timeout(osb_id{0, 1}) != OSB_NO_REQUEST)
+        return 1;
+    if (osb_version() != OSB_VERSION)
         return 1;
     std::puts("ok");
     return 0;

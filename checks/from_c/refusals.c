@@ -4,7 +4,9 @@
  * made again. At the end as much memory is in use as at the beginning. It ends with status 1, and says why on
  * standard error, where one of these isn't so. Needs the GNU C library, as refuse.c does. */
 #include "osb.h"
+#include <inttypes.h>
 #include <malloc.h>
+#include <stdarg.h>
 #include <stdio.h>
 #include <stdlib.h>
 #include <string.h>
@@ -42,17 +44,6 @@ static uint32_t ended(uint32_t status)
 
 #define CALL(name, arguments) (begin(#name), ended(name arguments))
 
-/* All that the exports show of both sides: a call that is refused its memory leaves it as it was. The
- * allocations that this takes aren't counted. */
-struct shown {
-    bool has_platform, has_broker;
-    size_t length, count;
-    uint8_t text[ROOM];
-    struct osb_platform_row records[INSTANCES];
-    struct osb_broker_row rows[INSTANCES];
-    bool is_held[INSTANCES];
-};
-
 static struct osb_id id_of(unsigned k)
 {
     struct osb_id id = {0, 0};
@@ -63,34 +54,91 @@ static struct osb_id id_of(unsigned k)
 
 static const struct osb_id service = {0, 0xa0}, plan = {0, 0xb1};
 
-static void show(struct osb_platform *platform, struct osb_broker *broker, struct shown *shown)
+static struct osb_platform platform, loaded;
+static struct osb_broker broker;
+
+/* All that the exports show of these three, as text: a call that is refused its memory leaves it as it was. The
+ * allocations that this takes aren't counted. */
+struct shown {
+    char text[4 * ROOM];
+    size_t length;
+};
+
+static struct shown before, after;
+
+static void say(struct shown *shown, const char *format, ...)
 {
-    unsigned k;
+    size_t room = sizeof shown->text - shown->length;
+    va_list values;
+    int length;
+
+    va_start(values, format);
+    length = vsnprintf(shown->text + shown->length, room, format, values);
+    va_end(values);
+    if (length < 0 || (size_t)length >= room)
+        fail("there is no room for what is shown");
+    shown->length += (size_t)length;
+}
+
+static void say_id(struct shown *shown, struct osb_id id)
+{
+    say(shown, " %" PRIx64 " %" PRIx64, id.high, id.low);
+}
+
+static void show_platform(struct osb_platform *of, struct shown *shown)
+{
+    static uint8_t text[ROOM];
     struct osb_id ids[INSTANCES];
-    memset(ids, 0, sizeof ids);
-    memset(shown, 0, sizeof *shown);
-    shown->has_platform = platform->at != NULL;
-    shown->has_broker = broker->at != NULL;
-    if (shown->has_platform) {
-        if (osb_platform_save(platform, shown->text, ROOM, &shown->length) != OSB_DONE)
-            fail("the platform isn't saved");
-        if (osb_platform_ids(platform, ids, INSTANCES, &shown->count) != OSB_DONE)
-            fail("the ids aren't listed");
+    struct osb_platform_row row = {0};
+    size_t length = 0, count = 0, k;
+
+    if (of->at == NULL) {
+        say(shown, "no platform\n");
+        return;
     }
-    for (k = 0; k < INSTANCES; k++) {
-        osb_platform_row(platform, id_of(k), &shown->records[k]);
-        shown->is_held[k] = osb_broker_row(broker, id_of(k), &shown->rows[k]) == OSB_DONE;
+    memset(ids, 0, sizeof ids);
+    if (osb_platform_save(of, text, ROOM, &length) != OSB_DONE)
+        fail("the platform isn't saved");
+    if (osb_platform_ids(of, ids, INSTANCES, &count) != OSB_DONE)
+        fail("the ids aren't listed");
+    say(shown, "a platform: %.*s\n", (int)length, (const char *)text);
+    for (k = 0; k < count; k++) {
+        if (osb_platform_row(of, ids[k], &row) != OSB_DONE)
+            fail("a listed id has no row");
+        say_id(shown, ids[k]);
+        say_id(shown, row.service);
+        say_id(shown, row.plan);
+        say(shown, " %d %d\n", row.state, row.out);
     }
 }
 
-static struct osb_platform platform, loaded;
-static struct osb_broker broker;
-static struct shown before, after;
+static void show_broker(struct shown *shown)
+{
+    struct osb_broker_row row = {0};
+    unsigned k;
+
+    say(shown, "%s broker\n", broker.at == NULL ? "no" : "a");
+    for (k = 0; k < INSTANCES; k++)
+        if (osb_broker_row(&broker, id_of(k), &row) == OSB_DONE) {
+            say_id(shown, id_of(k));
+            say_id(shown, row.service);
+            say_id(shown, row.plan);
+            say(shown, " %d\n", row.phase);
+        }
+}
+
+static void show(struct shown *shown)
+{
+    shown->length = 0;
+    show_platform(&platform, shown);
+    show_platform(&loaded, shown);
+    show_broker(shown);
+}
 
 static void same(const char *why)
 {
-    show(&platform, &broker, &after);
-    if (memcmp(&before, &after, sizeof before) != 0)
+    show(&after);
+    if (strcmp(before.text, after.text) != 0)
         fail(why);
 }
 
@@ -109,7 +157,7 @@ static bool is_zero(const void *room, size_t bytes)
 #define DO(name, arguments, unwritten)                                   \
     do {                                                                 \
         uint32_t status;                                                 \
-        show(&platform, &broker, &before);                               \
+        show(&before);                                                   \
         status = CALL(name, arguments);                                  \
         if (status == OSB_MEMORY) {                                      \
             same(#name " changed something, and returned OSB_MEMORY");   \

@@ -48,10 +48,14 @@ func (p *Platform) save() ([]byte, error) {
 	var needed C.size_t
 	for {
 		status := C.osb_platform_save(&p.handle, room(text), C.size_t(len(text)), &needed)
-		if status != C.OSB_TOO_SMALL {
-			return text, done(status)
+		if status == C.OSB_TOO_SMALL {
+			text = make([]byte, needed)
+			continue
 		}
-		text = make([]byte, needed)
+		if err := done(status); err != nil {
+			return nil, err
+		}
+		return text[:needed], nil
 	}
 }
 
@@ -81,16 +85,6 @@ func show(platform *Platform, broker *Broker, id C.struct_osb_id) error {
 	return nil
 }
 
-// The first error of the calls, in their order.
-func first(errs ...error) error {
-	for _, err := range errs {
-		if err != nil {
-			return err
-		}
-	}
-	return nil
-}
-
 func story() error {
 	var platform Platform
 	var broker Broker
@@ -100,12 +94,23 @@ func story() error {
 		C.osb_platform_free(&platform.handle)
 		C.osb_broker_free(&broker.handle)
 	}()
-	id, err1 := idOf("00000000-0000-0000-0000-000000000001")
-	service, err2 := idOf("00000000-0000-0000-0000-0000000000a0")
-	plan, err3 := idOf("00000000-0000-0000-0000-0000000000b1")
+	id, err := idOf("00000000-0000-0000-0000-000000000001")
+	if err != nil {
+		return err
+	}
+	service, err := idOf("00000000-0000-0000-0000-0000000000a0")
+	if err != nil {
+		return err
+	}
+	plan, err := idOf("00000000-0000-0000-0000-0000000000b1")
+	if err != nil {
+		return err
+	}
 	sold := C.struct_osb_plan{service: service, plan: plan}
-	if err := first(err1, err2, err3, done(C.osb_broker_new(&broker.handle, &sold, 1)),
-		done(C.osb_platform_new(&platform.handle))); err != nil {
+	if err := done(C.osb_broker_new(&broker.handle, &sold, 1)); err != nil {
+		return err
+	}
+	if err := done(C.osb_platform_new(&platform.handle)); err != nil {
 		return err
 	}
 

@@ -30,6 +30,7 @@ class OsbError(Exception):
 
 
 class Id(c.Structure):
+    """The number of 128 bits that an id's text writes, in two halves. It isn't changed once it is made."""
     _fields_ = [("high", c.c_uint64), ("low", c.c_uint64)]
 
     @classmethod
@@ -47,7 +48,9 @@ class Id(c.Structure):
         return f"Id.of({str(self)!r})"
 
     def __eq__(self, other: object) -> bool:
-        return isinstance(other, Id) and (self.high, self.low) == (other.high, other.low)
+        if not isinstance(other, Id):
+            return NotImplemented
+        return (self.high, self.low) == (other.high, other.low)
 
     def __hash__(self) -> int:
         return hash((self.high, self.low))

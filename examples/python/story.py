@@ -10,7 +10,7 @@ PLAN = Id.of("00000000-0000-0000-0000-0000000000b1")
 
 def show(platform: Platform, broker: Broker) -> None:
     state = State(platform.row(INSTANCE).state).name.lower().replace("_", "-")
-    print(f"recorded: {state}, held: {'yes' if broker.row(INSTANCE) else 'no'}")
+    print(f"recorded: {state}, held: {'no' if broker.row(INSTANCE) is None else 'yes'}")
 
 
 with Broker([Plan(SERVICE, PLAN, False)]) as broker:

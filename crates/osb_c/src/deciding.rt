@@ -13,9 +13,10 @@ use crate::answers::{OsbAnswer, answer_from};
 use crate::kinds::kind_from;
 use crate::states::{NO_STATE, state_from, state_out};
 
-/// Whether an answer to a request of the kind has a status of success and a body that can be read whole
-/// (sections Provisioning, Polling Last Operation for Service Instances and Deprovisioning). No answer to a
-/// number that stands for no kind has (this project's choice).
+/// Whether an answer to a request of the kind has a status of success and a body that can be read whole: to a
+/// Provision or a Deprovision 200, 201 or 202 with an empty body, to a Poll 200 with a state (sections
+/// Provisioning, Deprovisioning and Polling Last Operation for Service Instances; that nothing else in a body is
+/// read is this project's choice). No answer to a number that stands for no kind has (this project's choice).
 #[unsafe(no_mangle)]
 pub extern "C" fn osb_well_formed(kind: u8, answer: OsbAnswer) -> bool
     ensures readable { IsTrue result ↔ IsSomeAnd (kind_of kind) (λ k. IsTrue (well_formed k (answer_of answer))) }

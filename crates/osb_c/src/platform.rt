@@ -105,8 +105,8 @@ pub extern "C" fn osb_platform_create(
 /// has the recorded service and plan, and always accepts an asynchronous operation (this project's choice).
 /// It takes no memory.
 ///
-/// It returns `Done`, or exactly one of these: `EmptyHandle` where the handle is empty, `Unknown` where the
-/// id isn't recorded, `Busy` where a request is out, `NothingDue` in `ready`, `gone` and `unsettled`. Where
+/// It returns `Done`, or the first of these that fits: `EmptyHandle` where the handle is empty, `Unknown` where
+/// the id isn't recorded, `Busy` where a request is out, `NothingDue` in `ready`, `gone` and `unsettled`. Where
 /// it isn't `Done`, the platform and the request are as before.
 #[unsafe(no_mangle)]
 pub extern "C" fn osb_platform_send(
@@ -214,8 +214,8 @@ pub extern "C" fn osb_platform_timeout(alloc: Global, platform: &mut OsbPlatform
 /// Gives up polling: the maximum polling duration has passed, and `polling` becomes `cleaning` (sections
 /// Polling Last Operation for Service Instances and Orphan Mitigation). It takes no memory.
 ///
-/// It returns `Done`, or exactly one of these, with the platform as before: `EmptyHandle` where the handle
-/// is empty, `Unknown` where the id isn't recorded, `Busy` where a request is out, `NotPolling` in every
+/// It returns `Done`, or the first of these that fits, with the platform as before: `EmptyHandle` where the
+/// handle is empty, `Unknown` where the id isn't recorded, `Busy` where a request is out, `NotPolling` in every
 /// state but `polling`.
 #[unsafe(no_mangle)]
 pub extern "C" fn osb_platform_expire(alloc: Global, platform: &mut OsbPlatform, id: OsbId) -> u32
@@ -250,9 +250,9 @@ pub extern "C" fn osb_platform_expire(alloc: Global, platform: &mut OsbPlatform,
 /// Has an instance deleted, as an operator asks: `polling`, `ready` and `unsettled` become `cleaning`
 /// (section Deprovisioning; from which states is this project's choice). It takes no memory.
 ///
-/// It returns `Done`, or exactly one of these, with the platform as before: `EmptyHandle` where the handle
-/// is empty, `Unknown` where the id isn't recorded, `Busy` where a request is out, `NotRemovable` in every
-/// other state.
+/// It returns `Done`, or the first of these that fits, with the platform as before: `EmptyHandle` where the
+/// handle is empty, `Unknown` where the id isn't recorded, `Busy` where a request is out, `NotRemovable` in
+/// every other state.
 #[unsafe(no_mangle)]
 pub extern "C" fn osb_platform_remove(alloc: Global, platform: &mut OsbPlatform, id: OsbId) -> u32
     ensures row { result ≡ code Status.Done →

@@ -1,8 +1,8 @@
 //! The command line of `osb-replay`: what its words ask for, the doing of it, and how the program ends (this
 //! project's choice).
 //!
-//! [`read_words`] reads words by `clap`, and [`carry_out`] does what they ask for. [`show_help`] and [`refuse`]
-//! tell why nothing is done, and [`end`] has the status of each ending.
+//! [`words_of`] has the words, [`read_words`] reads them by `clap`, and [`carry_out`] does what they ask for.
+//! [`show_help`] writes help, [`refuse`] tells why words are refused, and [`end`] has the status of each ending.
 #![tactic(auto)]
 
 mod command_line;
