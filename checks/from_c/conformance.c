@@ -268,7 +268,7 @@ static void check_due(const struct due *due)
     struct osb_request request = some_request;
 
     bring_to(&platform, due->state);
-    CHECK(osb_platform_create(&platform, I, S, P, true, &request) == OSB_ID_USED);
+    CHECK(osb_platform_create(&platform, I, S, P, true, &request) == OSB_ID_USED && is_some_request(request));
     CHECK(osb_platform_answer(&platform, I, answered(200, OSB_EMPTY)) == OSB_NO_REQUEST);
     CHECK(osb_platform_timeout(&platform, I) == OSB_NO_REQUEST);
     CHECK(osb_platform_send(&platform, I, &request) == (due->kind == OSB_NO_KIND ? OSB_NOTHING_DUE : OSB_DONE));
@@ -446,6 +446,8 @@ static void check_rule(const struct rule *rule)
     new_broker(&broker);
     bring_broker_to(&broker, rule->row_plan, rule->phase);
     CHECK(holds(&broker, rule->row_plan, rule->phase));
+    if (rule->phase != OSB_MAKING && rule->phase != OSB_DELETING)
+        CHECK(osb_broker_finish(&broker, I, true) == OSB_NOTHING_RUNNING);
     CHECK(answers(&broker, request, rule->outcome, rule->status, rule->body));
     CHECK(holds(&broker, rule->phase == NO_ROW ? rule->plan : rule->row_plan, rule->phase_after));
     if (failed > before)

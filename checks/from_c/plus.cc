@@ -5,8 +5,8 @@
 namespace {
 class Platform {
 public:
-    ~Platform() { osb_platform_free(&handle); }
     Platform() = default;
+    ~Platform() { osb_platform_free(&handle); }
     Platform(const Platform &) = delete;
     Platform &operator=(const Platform &) = delete;
     uint32_t make() { return osb_platform_new(&handle); }

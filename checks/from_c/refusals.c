@@ -152,6 +152,11 @@ static bool is_zero(const void *room, size_t bytes)
     return bytes == 0;
 }
 
+static bool is_seven(struct osb_id id)
+{
+    return id.high == 7 && id.low == 7;
+}
+
 /* Makes a call, and where it was refused its memory, once more; `unwritten` says then whether what it writes is as
  * before. */
 #define DO(name, arguments, unwritten)                                   \
@@ -171,10 +176,11 @@ static bool is_zero(const void *room, size_t bytes)
 
 static void provision(unsigned k)
 {
-    struct osb_request request = {7, false, {7, 7}, {7, 7}, {7, 7}};
+    struct osb_request request = {7, true, {7, 7}, {7, 7}, {7, 7}};
     struct osb_answer answer = {7, 7};
     DO(osb_platform_create, (&platform, id_of(k), service, plan, false, &request),
-       request.kind == 7 && request.id.low == 7 && request.service.low == 7 && request.plan.low == 7);
+       request.kind == 7 && request.accepts_incomplete && is_seven(request.id) && is_seven(request.service)
+           && is_seven(request.plan));
     DO(osb_broker_handle, (&broker, &request, OSB_WORK_DONE, &answer), answer.status == 7 && answer.body == 7);
     if (answer.status != 201)
         fail("the broker doesn't make the instance");

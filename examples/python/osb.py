@@ -30,7 +30,7 @@ class OsbError(Exception):
 
 
 class Id(c.Structure):
-    """The number of 128 bits that an id's text writes, in two halves. It isn't changed once it is made."""
+    """The number of 128 bits that an id's text writes. Its halves aren't to be set: that would change its hash."""
     _fields_ = [("high", c.c_uint64), ("low", c.c_uint64)]
 
     @classmethod

@@ -141,8 +141,8 @@ fn fault_by(alloc: Global, error: &clap::Error) -> WordsFault
 ///
 /// [`WordsFault::Help`] with the help where they ask for it: by `--help` or `-h`, of the program or of
 /// a subcommand, or by the word `help`. [`WordsFault::Refused`] with a text for the user where they
-/// are none of these. [`WordsFault::Memory`] where an allocation failed, but for those of a hint in that
-/// text: `clap` leaves a hint out that it finds no memory for.
+/// are none of these. [`WordsFault::Memory`] where an allocation failed, but for one by which `clap` gathers
+/// the letters of a word for the hint in that text: it goes on letter by letter, and the text is the same.
 pub fn read_words(alloc: Global, words: &[String]) -> Result<Asked, WordsFault>
     ensures asked { IfOk result (λ asked. asked_words (map string_bytes words.now) ≡ Some asked) }
     ensures faultless { OnOk result (fault_of command (map string_bytes words.now) ≡ []) }

@@ -1,7 +1,7 @@
 //! The command line of `osb-replay`: what its words ask for, the doing of it, and how the program ends (this
 //! project's choice).
 //!
-//! [`words_of`] has the words, [`read_words`] reads them by `clap`, and [`carry_out`] does what they ask for.
+//! [`words_of`] gives the words, [`read_words`] reads them by `clap`, and [`carry_out`] does what they ask for.
 //! [`show_help`] writes help, [`refuse`] tells why words are refused, and [`end`] has the status of each ending.
 #![tactic(auto)]
 
