@@ -3,6 +3,7 @@
 //!
 //! [`words_of`] gives the words, [`read_words`] reads them by `clap`, and [`carry_out`] does what they ask for.
 //! [`show_help`] writes help, [`refuse`] tells why words are refused, and [`end`] has the status of each ending.
+//! The first two take memory, and [`carry_out`] does for a replay; the others take none.
 #![tactic(auto)]
 
 mod command_line;

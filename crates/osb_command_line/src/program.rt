@@ -99,7 +99,7 @@ pub fn show_help<W: Write>(writer: &mut W, text: &str) -> Result<(), ReplayFault
 }
 
 /// Says on standard error why the command line is refused, and returns the status for that. Where
-/// standard error fails too, the status says it all.
+/// standard error fails too, the status says it all. It takes no memory.
 pub fn refuse(rt: &impl Eprint, text: &str) -> ExitCode
     ensures status { exit_status result ≡ 2 }
 {
@@ -107,7 +107,8 @@ pub fn refuse(rt: &impl Eprint, text: &str) -> ExitCode
     ExitCode::from(REFUSED)
 }
 
-/// Says on standard error what went wrong, if anything did, and returns the status for it.
+/// Says on standard error what went wrong, if anything did, and returns the status for it. Where
+/// standard error fails too, the status says it all. It takes no memory.
 pub fn end(rt: &impl Eprint, outcome: Result<(), ReplayFault>) -> ExitCode
     ensures status { exit_status result ≡ ending outcome }
 {

@@ -1,5 +1,5 @@
-//! Each library call that may run out of memory, made where a check refuses one of its allocations, and
-//! made again after the refusal.
+//! The library calls that may run out of memory, `replay` and the command line's aside: each made where a
+//! check refuses one of its allocations, and made again after the refusal.
 //!
 //! `refusal_cases PART` tells one part, without a word it tells all of them, and `refusal_cases parts`
 //! names them. Four lines tell of a call: what there is before it (`before`), its name (`call`), what it
