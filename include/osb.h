@@ -4,8 +4,8 @@
  *
  * What C has to keep. None of it is checked, and what is proved holds only where it is kept.
  *
- *   - No pointer is null, not even one to a room or a list of length 0, and each points to as much as its
- *     length says. Nothing that a call writes to overlaps anything else that the call is given.
+ *   - No pointer is null, not even one to a room or a list of length 0; each is aligned for its type, and points
+ *     to as much as its length says. Nothing that a call writes to overlaps anything else that the call is given.
  *   - A handle (struct osb_platform, struct osb_broker) is zeroed before its first call, as by
  *     `struct osb_platform p = {0};`. Its pointer is made, read and freed by this library alone: no
  *     program sets it, follows it, or copies the handle to use both. A handle may be moved, by a copy after
@@ -13,13 +13,16 @@
  *   - Everything else is set before it is handed in, also what is only written to: each member of a struct and
  *     each number (`= {0}` does), and all of a room (as calloc sets it). A bool is 0 or 1.
  *   - A handle, and whatever else a running call was given, is used by one call at a time. Different handles
- *     are independent, and a handle may pass from one thread to another.
+ *     are independent, and a handle may pass from one thread to another, where a lock, a thread's start or join,
+ *     or a sequentially consistent atomic orders that.
  *   - No call is made from a signal handler, or in the forked child of a process with threads.
  *   - malloc, realloc and free are one allocator's, and blocks are aligned as C has it.
  *   - There is stack enough. How much a call takes isn't proved; in the tests 128 KiB are enough for each.
  *
  * What the library keeps. A call that returns another status than OSB_DONE has changed nothing, but for what its
- * comment names. No call blocks, prints, ends the process or keeps a pointer that it was given. */
+ * comment names. One that returns OSB_DONE has changed no other instance's record or row, and no broker's plans; row,
+ * ids, save and osb_broker_row change nothing of the handle. No call prints, ends the process or keeps a pointer that
+ * it was given, and none waits but within malloc, realloc and free. */
 #ifndef OSB_H
 #define OSB_H
 
@@ -192,7 +195,7 @@ uint32_t osb_platform_send(struct osb_platform *platform, struct osb_id id, stru
  * OSB_DONE, OSB_EMPTY_HANDLE, OSB_NO_REQUEST (also where the id isn't recorded). */
 uint32_t osb_platform_answer(struct osb_platform *platform, struct osb_id id, struct osb_answer answer);
 
-/* Gives up the request that is out: wanted becomes cleaning, and every other state stays.
+/* Gives up the request that is out: wanted becomes cleaning, every other state stays, and nothing is out.
  * OSB_DONE, OSB_EMPTY_HANDLE, OSB_NO_REQUEST (also where the id isn't recorded). */
 uint32_t osb_platform_timeout(struct osb_platform *platform, struct osb_id id);
 

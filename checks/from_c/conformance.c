@@ -19,6 +19,7 @@ static void check(int is, const char *what, int line)
 }
 
 #define CHECK(what) check((what), #what, __LINE__)
+#define COUNT(list) (sizeof(list) / sizeof *(list))
 
 static const struct osb_id I = {0, 1}, J = {0, 2}, S = {0, 0xa0}, T = {0, 0xa1}, P = {0, 0xb1}, Q = {0, 0xb2};
 
@@ -128,7 +129,6 @@ static void check_provision(const struct line *line)
         CHECK(osb_decide_provision(answer) == line->recorded);
         CHECK(osb_mitigates(answer) == line->mitigated);
     }
-    CHECK((line->recorded == OSB_CLEANING) == line->mitigated);
     CHECK(records(&platform, line->recorded, OSB_NO_KIND));
     CHECK(osb_platform_row(&platform, I, &row) == OSB_DONE && row.service.low == 0xa0 && row.plan.low == 0xb1);
     osb_platform_free(&platform);
@@ -624,6 +624,7 @@ static void check_broker(void)
     CHECK(osb_broker_row(&broker, I, &row) == OSB_EMPTY_HANDLE && is_some_row(row));
     CHECK(osb_broker_new(&broker, plans, 2) == OSB_PLAN_TWICE && broker.at == NULL);
     CHECK(osb_broker_new(&broker, plans, 0) == OSB_DONE);
+    plans[0] = (struct osb_plan){S, P, false};
     CHECK(osb_broker_new(&broker, plans, 1) == OSB_FULL_HANDLE);
     CHECK(osb_broker_handle(&broker, &request, OSB_WORK_DONE, &answer) == OSB_DONE && answer.status == 400);
     osb_broker_free(&broker);
@@ -691,11 +692,13 @@ static void check_saved(void)
 {
     struct osb_platform platform = {0};
     struct osb_request request = {0};
-    uint8_t room[sizeof record + 8];
+    uint8_t room[sizeof record + 8], before[sizeof record + 8];
     size_t needed = 7, length = strlen(record);
 
     memset(room, '#', sizeof room);
+    memset(before, '#', sizeof before);
     CHECK(osb_platform_save(&platform, room, sizeof room, &needed) == OSB_EMPTY_HANDLE && needed == 7);
+    CHECK(memcmp(room, before, sizeof room) == 0);
     CHECK(osb_platform_new(&platform) == OSB_DONE);
     CHECK(osb_platform_save(&platform, room, sizeof room, &needed) == OSB_DONE);
     CHECK(needed == strlen(no_instances) && memcmp(room, no_instances, needed) == 0 && room[needed] == '#');
@@ -703,10 +706,10 @@ static void check_saved(void)
     CHECK(osb_platform_answer(&platform, I, answered(201, OSB_EMPTY)) == OSB_DONE);
     memset(room, '#', sizeof room);
     CHECK(osb_platform_save(&platform, room, length - 1, &needed) == OSB_TOO_SMALL && needed == length);
-    CHECK(room[0] == '#' && room[length - 2] == '#');
+    CHECK(memcmp(room, before, sizeof room) == 0);
     CHECK(osb_platform_save(&platform, room, sizeof room, &needed) == OSB_DONE && needed == length);
     CHECK(memcmp(room, record, length) == 0 && room[length] == '#' && room[sizeof room - 1] == '#');
-    CHECK(loaded(record, &platform) == OSB_FULL_HANDLE);
+    CHECK(loaded("{}", &platform) == OSB_FULL_HANDLE && records(&platform, OSB_READY, OSB_NO_KIND));
     osb_platform_free(&platform);
 
     CHECK(state_after_load(record) == OSB_READY);
@@ -734,26 +737,27 @@ static void check_saved(void)
 
 static void check_ids(void)
 {
+    static const char *const others[] = {"", "\xff\xff", "00000000000000000000000000000001",
+        "{00000000-0000-0000-0000-000000000001}", "00000000-0000-0000-0000-00000000000g"};
     struct osb_id id = {7, 7};
-    uint8_t text[37] = "....................................";
-    static const char highest[] = "FFFFFFFF-FFFF-FFFF-FFFF-FFFFFFFFFFFF";
-    static const char mixed[] = "12345678-9abc-DEF0-0123-456789abcdef";
+    uint8_t text[37];
+    size_t at;
 
-    CHECK(osb_id_from_text((const uint8_t *)"", 0, &id) == OSB_NOT_AN_ID && id.high == 7);
-    CHECK(osb_id_from_text((const uint8_t *)"00000000000000000000000000000001", 32, &id) == OSB_NOT_AN_ID);
-    CHECK(osb_id_from_text((const uint8_t *)"{00000000-0000-0000-0000-000000000001}", 38, &id) == OSB_NOT_AN_ID);
-    CHECK(osb_id_from_text((const uint8_t *)"00000000-0000-0000-0000-00000000000g", 36, &id) == OSB_NOT_AN_ID);
-    CHECK(osb_id_from_text((const uint8_t *)"\xff\xff", 2, &id) == OSB_NOT_AN_ID && id.low == 7);
-    CHECK(osb_id_from_text((const uint8_t *)highest, 36, &id) == OSB_DONE);
+    for (at = 0; at < COUNT(others); at++) {
+        uint32_t status = osb_id_from_text((const uint8_t *)others[at], strlen(others[at]), &id);
+        CHECK(status == OSB_NOT_AN_ID && are_seven(id, id));
+    }
+    CHECK(osb_id_from_text((const uint8_t *)"FFFFFFFF-FFFF-FFFF-FFFF-FFFFFFFFFFFF", 36, &id) == OSB_DONE);
     CHECK(id.high == UINT64_MAX && id.low == UINT64_MAX);
+    memset(text, '#', sizeof text);
     osb_id_to_text(id, text);
-    CHECK(memcmp(text, "ffffffff-ffff-ffff-ffff-ffffffffffff", 37) == 0);
-    CHECK(osb_id_from_text((const uint8_t *)mixed, 36, &id) == OSB_DONE);
+    CHECK(memcmp(text, "ffffffff-ffff-ffff-ffff-ffffffffffff#", 37) == 0);
+    CHECK(osb_id_from_text((const uint8_t *)"12345678-9abc-DEF0-0123-456789abcdef", 36, &id) == OSB_DONE);
     CHECK(id.high == UINT64_C(0x123456789abcdef0) && id.low == UINT64_C(0x0123456789abcdef));
     osb_id_to_text(id, text);
-    CHECK(memcmp(text, "12345678-9abc-def0-0123-456789abcdef", 37) == 0);
+    CHECK(memcmp(text, "12345678-9abc-def0-0123-456789abcdef#", 37) == 0);
     osb_id_to_text(I, text);
-    CHECK(memcmp(text, "00000000-0000-0000-0000-000000000001", 37) == 0);
+    CHECK(memcmp(text, "00000000-0000-0000-0000-000000000001#", 37) == 0);
 }
 
 static void check_states(void)
@@ -768,8 +772,6 @@ static void check_states(void)
             CHECK(osb_decide_poll((uint8_t)state, answered(200, OSB_SUCCEEDED)) == kept);
     }
 }
-
-#define COUNT(list) (sizeof(list) / sizeof *(list))
 
 int main(void)
 {
