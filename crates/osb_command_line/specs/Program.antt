@@ -1,5 +1,5 @@
 -- What the program does of what it is asked for (this project's choice).
-use Rattle.std.specs.Prelude.{◌≡◌, Bool, Err, IsTrue, List, ℕ, Ok, Option, Result, ⊤}
+use Rattle.std.specs.Prelude.{◌≡◌, Bool, false, Err, IsTrue, List, ℕ, Ok, Option, Result, ⊤}
 use Rattle.std.specs.Io.KnownBytes.{Appends}
 use Rattle.osb_schedule.specs.Conversions.{exit_status}
 use Rattle.osb_schedule.specs.MitigationTable.{table_text}
@@ -17,6 +17,11 @@ abbrev pub IsDone : Asked → Option (List ℕ) → Option (List ℕ) → Option
 IsDone (Replay options) left left_after held held_after =
     (bytes : List ℕ) × ReadsWhole left left_after bytes × WritesReport options held held_after bytes
 IsDone Table left left_after held held_after = Appends held held_after table_text
+
+-- none of the devices that were asked has refused
+abbrev pub IsAnswered : Asked → Bool → Bool → Type 0
+IsAnswered (Replay options) input_refused output_refused = (input_refused ≡ false) × (output_refused ≡ false)
+IsAnswered Table input_refused output_refused = output_refused ≡ false
 
 -- what a fault says of what was read, and of which device refused
 abbrev pub Explains : Asked → Option (List ℕ) → Option (List ℕ) → Bool → Bool → ReplayFault → Type 0

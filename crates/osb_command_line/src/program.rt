@@ -2,8 +2,9 @@
 ghost use Rattle.std.specs.Prelude.{◌≡◌, ◌≢◌, IfErr, IsOkUnless, OnOk};
 ghost use Rattle.std.specs.Io.KnownBytes.{Appends};
 ghost use Rattle.std.specs.Process.{exit_status};
+ghost use Rattle.osb_schedule.specs.Replay.{ReadsFew};
 ghost use Rattle.osb_schedule.specs.declared.faults.ReplayFault.TheVariants.{Write as WriteFault};
-ghost use Rattle.osb_command_line.specs.Program.{ending, Explains, IsDone, IsNoHelp};
+ghost use Rattle.osb_command_line.specs.Program.{ending, Explains, IsAnswered, IsDone, IsNoHelp};
 ghost use Rattle.osb_command_line.specs.declared.command_line.Asked.TheVariants.{Table};
 
 use crate::command_line::{Asked, WordsFault};
@@ -74,6 +75,8 @@ pub fn carry_out<R: Read, W: Write>(
         (W.contents writer.new.device)) }
     ensures fault { IfErr result (λ fault. Explains asked (R.remaining reader.old.device)
         (R.remaining reader.new.device) reader.new.refused writer.new.refused fault) }
+    ensures answered { OnOk result (IsAnswered asked reader.new.refused writer.new.refused) }
+    ensures bound { asked ≢ Table → ReadsFew (R.remaining reader.old.device) (R.remaining reader.new.device) }
     ensures unread { asked ≡ Table → reader.new ≡ reader.old }
     ensures unwritten { IfErr result (λ fault. fault ≢ WriteFault → writer.new ≡ writer.old) }
 {
