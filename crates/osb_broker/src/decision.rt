@@ -46,12 +46,10 @@ pub(crate) fn decide(
         ≡ (handled catalogue.now row request.now outcome).row }
     ensures answer { result.answer ≡ (handled catalogue.now row request.now outcome).answer }
 {
+    let mode = catalogue.mode(request.service, request.plan);
     match request.kind {
-        Kind::Provision => {
-            let mode = catalogue.mode(request.service, request.plan);
-            provision(mode, row, request, outcome)
-        }
-        Kind::Deprovision => deprovision(catalogue, row, request, outcome),
+        Kind::Provision => provision(mode, row, request, outcome),
+        Kind::Deprovision => deprovision(mode, row, request, outcome),
         Kind::Poll => unchanged(poll(row, request, outcome)),
     }
 }

@@ -6,7 +6,7 @@ ghost use Rattle.osb_broker.specs.Deprovision as spec;
 use crate::answers::{empty, error};
 use crate::decision::{Change, Decision, unchanged};
 use crate::{BrokerRow, Outcome, Phase};
-use osb_message::{Answer, Catalogue, ErrorCode, Mode, Request};
+use osb_message::{Answer, ErrorCode, Mode, Request};
 
 // The row goes, or at an asynchronous plan starts to go; and an answer.
 fn deleted(mode: Mode, row: BrokerRow, answer: Answer) -> Decision
@@ -40,31 +40,26 @@ fn accepted(mode: Mode, row: BrokerRow, outcome: Outcome) -> Decision
     }
 }
 
-// What is decided on a Deprovision: the first rule that fits. The catalogue is asked where no rule
-// fits before. The pair of a row is never missing there, so no rule speaks of that; it is answered
-// as at a Provision.
+// What is decided on a Deprovision, where the catalogue has the request's pair with this mode: the
+// first rule that fits. The pair of a row is never missing there, so no rule speaks of that; it is
+// answered as at a Provision.
 pub(crate) fn deprovision(
-    catalogue: &Catalogue,
+    mode: Option<Mode>,
     row: Option<BrokerRow>,
     request: &Request,
     outcome: Outcome,
 ) -> Decision
     ensures row { row_after result.change row
-        ≡ (spec.deprovision_answer catalogue.now row request.now outcome).row }
-    ensures answer { result.answer
-        ≡ (spec.deprovision_answer catalogue.now row request.now outcome).answer }
+        ≡ (spec.deprovision_at mode row request.now outcome).row }
+    ensures answer { result.answer ≡ (spec.deprovision_at mode row request.now outcome).answer }
 {
-    let Some(old) = row else {
-        return unchanged(error(410, ErrorCode::Other));
-    };
-    if !old.is_of_plan(request) {
-        return unchanged(error(400, ErrorCode::Other));
-    }
-    match catalogue.mode(request.service, request.plan) {
-        None => unchanged(error(400, ErrorCode::Other)),
-        Some(Mode::Async) if !request.accepts_incomplete => {
+    match (row, mode) {
+        (None, _) => unchanged(error(410, ErrorCode::Other)),
+        (Some(old), _) if !old.is_of_plan(request) => unchanged(error(400, ErrorCode::Other)),
+        (_, None) => unchanged(error(400, ErrorCode::Other)),
+        (_, Some(Mode::Async)) if !request.accepts_incomplete => {
             unchanged(error(422, ErrorCode::AsyncRequired))
         }
-        Some(mode) => accepted(mode, old, outcome),
+        (Some(old), Some(mode)) => accepted(mode, old, outcome),
     }
 }

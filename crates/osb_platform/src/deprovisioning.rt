@@ -3,7 +3,7 @@ ghost use Rattle.std.specs.Prelude.{◌≡◌};
 ghost use Rattle.osb_platform.specs.State.{state_after_deprovision};
 
 use crate::State;
-use osb_message::{Answer, Body};
+use osb_message::{Answer, Kind, well_formed};
 
 /// The record of a `cleaning` instance after the answer to its Deprovision.
 ///
@@ -13,10 +13,10 @@ use osb_message::{Answer, Body};
 pub fn decide_deprovision(answer: Answer) -> State
     ensures state { result ≡ state_after_deprovision answer }
 {
-    match (answer.status, answer.body) {
-        (200, Body::Empty) => State::Gone,
-        (202, Body::Empty) => State::CleaningPolling,
-        (410, _) => State::Gone,
+    match answer.status {
+        200 if well_formed(Kind::Deprovision, answer) => State::Gone,
+        202 if well_formed(Kind::Deprovision, answer) => State::CleaningPolling,
+        410 => State::Gone,
         _ => State::Cleaning,
     }
 }

@@ -4,7 +4,7 @@ ghost use Rattle.osb_platform.specs.Mitigation.{mitigate};
 ghost use Rattle.osb_platform.specs.State.{state_after_provision};
 
 use crate::State;
-use osb_message::{Answer, Body, ErrorCode};
+use osb_message::{Answer, Body, ErrorCode, Kind, well_formed};
 
 /// The record of a `wanted` instance after the answer to its Provision.
 ///
@@ -16,8 +16,8 @@ pub fn decide_provision(answer: Answer) -> State
     ensures mitigated { (result ≡ State.Cleaning) ↔ IsTrue (mitigate answer) }
 {
     match (answer.status, answer.body) {
-        (200 | 201, Body::Empty) => State::Ready,
-        (202, Body::Empty) => State::Polling,
+        (200 | 201, _) if well_formed(Kind::Provision, answer) => State::Ready,
+        (202, _) if well_formed(Kind::Provision, answer) => State::Polling,
         (200 | 408 | 409, _) => State::Unsettled,
         (422, Body::Error(ErrorCode::AsyncRequired)) => State::Gone,
         (422, _) => State::Unsettled,
