@@ -10,7 +10,7 @@ use Rattle.osb_world.specs.declared.event.Event.TheVariants as Happens
 use Rattle.osb_language.specs.declared.fault.LineFault.{LineFault}
 use Rattle.osb_language.specs.declared.fault.LineFault.TheVariants.{LineTooLong, NotAscii, UnknownWord}
 use Rattle.osb_language.specs.declared.line.Line.{Line}
-use Rattle.osb_language.specs.declared.limits.TheConstants.{LONGEST_LINE}
+use Rattle.osb_language.specs.Limits.{longest_line}
 use Rattle.osb_language.specs.Fields.{and_then, choice, consents, endings, four_fields, id_field, modes, no_fields}
 use Rattle.osb_language.specs.Fields.{one_field}
 use Rattle.osb_language.specs.Fields.{outcomes, status_field, three_fields, two_fields}
@@ -77,5 +77,5 @@ is_ascii bytes = list_all (λ byte. nat_le byte 127) bytes
 -- what a line says, without its line feed; one carriage return at its end is dropped
 unfoldable pub line_of : List ℕ → Result Line LineFault
 line_of bytes =
-    if nat_lt LONGEST_LINE (length bytes) then Err LineTooLong else
+    if nat_lt longest_line (length bytes) then Err LineTooLong else
     (if is_ascii bytes then spelled (words_of (strip_carriage_return bytes)) else Err NotAscii)

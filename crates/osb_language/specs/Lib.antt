@@ -1,4 +1,5 @@
 pub mod Fields
 pub mod Language
+pub mod Limits
 pub mod Spelling
 pub mod Words

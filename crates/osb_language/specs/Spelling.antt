@@ -10,7 +10,7 @@ use Rattle.osb_broker.specs.declared.outcome.Outcome.TheVariants.{Done, Before, 
 use Rattle.osb_world.specs.declared.event.Event.{Event}
 use Rattle.osb_world.specs.declared.event.Event.TheVariants as Happens
 use Rattle.osb_language.specs.declared.line.Line.{Line}
-use Rattle.osb_language.specs.declared.limits.TheConstants.{LONGEST_LINE}
+use Rattle.osb_language.specs.Limits.{longest_line}
 use Rattle.osb_language.specs.Language.{begins_comment, is_ascii}
 use Rattle.osb_language.specs.Words.{IsSpacedOut}
 
@@ -83,7 +83,7 @@ Spells (first ∷ words) (Line.Event event) = IsRow (event_row event) first word
 -- a line says this: it is short enough and ASCII, and the words that it is spaced out as, one carriage
 -- return at its end dropped, spell it
 pub record Says (bytes : List ℕ) (said : Line) : Type 0 where
-  pub short : length bytes ≤ LONGEST_LINE
+  pub short : length bytes ≤ longest_line
   pub ascii : IsTrue (is_ascii bytes)
   pub words : List (List ℕ)
   pub spaced : IsSpacedOut (strip_carriage_return bytes) words

@@ -3,16 +3,16 @@ use Rattle.std.specs.Prelude.{◌≡◌, ℕ, ◌<◌, ◌⊎◌, Bool, List, na
 use Rattle.std.specs.Prelude.{None, IsTrue}
 use Rattle.osb_language.specs.declared.fault.LineFault.{LineFault}
 use Rattle.osb_language.specs.declared.fault.LineFault.TheVariants.{TooManyLines, LineTooLong}
-use Rattle.osb_language.specs.declared.limits.TheConstants.{LONGEST_LINE}
-use Rattle.osb_schedule.specs.declared.limits.TheConstants.{MOST_LINES}
+use Rattle.osb_language.specs.Limits.{longest_line}
+use Rattle.osb_schedule.specs.Limits.{most_lines}
 use Rattle.osb_schedule.specs.Lines.{lines, ended_lines, line_at}
 use Rattle.osb_schedule.specs.Schedule.{said_fault}
 
 -- the first fault of a line after the earlier ones
 abbrev pub fault_of : List (List ℕ) → List ℕ → Option LineFault
 fault_of earlier line =
-    if nat_le MOST_LINES (length earlier) then Some TooManyLines else
-    (if nat_lt LONGEST_LINE (length line) then Some LineTooLong else
+    if nat_le most_lines (length earlier) then Some TooManyLines else
+    (if nat_lt longest_line (length line) then Some LineTooLong else
     said_fault earlier line)
 
 -- the fault of line n, from 0
@@ -23,7 +23,7 @@ fault_at bytes n = fault_of (take n (lines bytes)) (line_at (lines bytes) n)
 abbrev pub IsJudged : List ℕ → Bool → ℕ → Type 0
 IsJudged bytes ended n =
     (n < length (lines bytes))
-    × ((n < ended_lines bytes) ⊎ IsTrue ended ⊎ (LONGEST_LINE < length (line_at (lines bytes) n)) ⊎ (n ≡ MOST_LINES))
+    × ((n < ended_lines bytes) ⊎ IsTrue ended ⊎ (longest_line < length (line_at (lines bytes) n)) ⊎ (n ≡ most_lines))
 
 -- no line that is judged has a fault
 abbrev pub HasNoFault : List ℕ → Bool → Type 0

@@ -1,6 +1,7 @@
 pub mod Conversions
 pub mod Device
 pub mod Faults
+pub mod Limits
 pub mod Lines
 pub mod MitigationTable
 pub mod Reading

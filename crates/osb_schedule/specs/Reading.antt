@@ -1,11 +1,11 @@
 -- What a line reader knows of the bytes that it has taken.
 use Rattle.std.specs.Prelude.{◌≡◌, ℕ, ◌+◌, ◌*◌, ◌<◌, ◌≤◌, Bool, List, ◌++◌, length, take, None, ⊤, refl}
 use Rattle.std.specs.Coded.{Coded, code_by, coded×, coded_list, coded_ℕ}
-use Rattle.osb_language.specs.declared.limits.TheConstants.{LONGEST_LINE}
+use Rattle.osb_language.specs.Limits.{longest_line}
 use Rattle.osb_schedule.specs.contracts.run.Run as run
 use Rattle.osb_schedule.specs.declared.faults.ScheduleFault.{ScheduleFault}
 use Rattle.osb_schedule.specs.declared.faults.ScheduleFault.TheVariants.{At, Memory}
-use Rattle.osb_schedule.specs.declared.limits.TheConstants.{MOST_LINES}
+use Rattle.osb_schedule.specs.Limits.{most_lines}
 use Rattle.osb_schedule.specs.declared.run.Run.{Run}
 use Rattle.osb_schedule.specs.Faults.{fault_of, IsFirstFault}
 use Rattle.osb_schedule.specs.Lines.{lines, ended_lines, line_at}
@@ -33,9 +33,9 @@ pub record HasReadAs (bytes : List ℕ) (reader : Reading) (ended : List (List �
   pub split : EndedAs bytes ended reader.held
   pub number : reader.ended ≡ length ended
   pub ran : HasRun ended reader.run
-  pub room : length reader.held ≤ LONGEST_LINE
-  pub few : reader.ended ≤ MOST_LINES
-  pub within : 0 < length reader.held → reader.ended < MOST_LINES
+  pub room : length reader.held ≤ longest_line
+  pub few : reader.ended ≤ most_lines
+  pub within : 0 < length reader.held → reader.ended < most_lines
 
 -- the reader has taken these bytes, and no line that they end has a fault
 abbrev pub HasRead : List ℕ → Reading → Type 0
@@ -45,9 +45,9 @@ HasRead bytes reader = (ended : List (List ℕ)) × HasReadAs bytes reader ended
 abbrev pub with_line : Reading → List ℕ → Reading
 with_line reader line = record { held = line; ended = reader.ended; run = reader.run }
 
--- at least as much as the bytes taken, and below MOST_BYTES
+-- at least as much as the bytes taken, and below most_bytes
 abbrev pub taken : Reading → ℕ
-taken reader = (LONGEST_LINE + 1) * reader.ended + length reader.held
+taken reader = (longest_line + 1) * reader.ended + length reader.held
 
 -- the first fault of the bytes so far, its line from 1; want of memory says nothing
 abbrev pub Refuses : List ℕ → Bool → ScheduleFault → Type 0

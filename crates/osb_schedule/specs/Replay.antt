@@ -4,14 +4,14 @@ use Rattle.std.specs.Io.KnownBytes.{Appends, Consumes, IsAtEnd}
 use Rattle.osb_language.specs.declared.fault.LineFault.{LineFault}
 use Rattle.osb_schedule.specs.declared.faults.ReplayFault.{ReplayFault}
 use Rattle.osb_schedule.specs.declared.faults.ReplayFault.TheVariants.{Schedule, Read, Write, Memory}
-use Rattle.osb_schedule.specs.declared.limits.TheConstants.{MOST_BYTES}
+use Rattle.osb_schedule.specs.Limits.{most_bytes}
 use Rattle.osb_schedule.specs.declared.options.Options.{Options}
 use Rattle.osb_schedule.specs.Faults.{HasNoFault, IsFirstFault}
 use Rattle.osb_schedule.specs.Report.{IsReport}
 
 -- a reader went from the one to the other by no more bytes than are ever needed
 abbrev pub ReadsFew : Option (List ℕ) → Option (List ℕ) → Type 0
-ReadsFew before after = (bytes : List ℕ) × Consumes before after bytes × (length bytes ≤ MOST_BYTES)
+ReadsFew before after = (bytes : List ℕ) × Consumes before after bytes × (length bytes ≤ most_bytes)
 
 -- a reader went from the one to the other by these bytes, was read to its end, and no line has a fault
 pub record ReadsWhole (before after : Option (List ℕ)) (bytes : List ℕ) : Type 0 where
