@@ -12,6 +12,10 @@ pub fn synchronous() -> PlanId {
     PlanId::from_value(0xb1)
 }
 
+pub fn asynchronous() -> PlanId {
+    PlanId::from_value(0xb2)
+}
+
 pub fn first() -> InstanceId {
     InstanceId::from_value(1)
 }
@@ -20,10 +24,16 @@ pub fn second() -> InstanceId {
     InstanceId::from_value(2)
 }
 
-// The synchronous plan on sale.
+// No part records it.
+pub fn third() -> InstanceId {
+    InstanceId::from_value(3)
+}
+
+// The two plans on sale.
 pub fn catalogue(alloc: Global) -> Result<Catalogue, AddFault> {
     let mut catalogue = Catalogue::new(alloc);
     catalogue.add(service(), synchronous(), Mode::Sync)?;
+    catalogue.add(service(), asynchronous(), Mode::Async)?;
     Ok(catalogue)
 }
 
@@ -33,6 +43,15 @@ pub fn create(id: InstanceId) -> Event {
         service: service(),
         plan: synchronous(),
         accepts: false,
+    }
+}
+
+pub fn create_asynchronous(id: InstanceId) -> Event {
+    Event::Create {
+        id,
+        service: service(),
+        plan: asynchronous(),
+        accepts: true,
     }
 }
 

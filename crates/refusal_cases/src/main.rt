@@ -21,18 +21,23 @@ use std::alloc::Global;
 use std::env;
 
 // The parts, in the order in which they are told.
-const PARTS: [&str; 15] = [
+const PARTS: [&str; 20] = [
     "rows-insert",
     "rows-ids",
     "catalogue-add",
     "broker-handle",
+    "broker-finish",
     "platform-create",
+    "platform-requests",
     "platform-ids",
     "platform-save",
     "load-format-1",
     "load-format-2",
     "world-steps",
     "world-restart",
+    "world-unrecorded",
+    "world-cleaned-up",
+    "world-expired",
     "world-ids",
     "world-save",
     "run",
@@ -45,6 +50,8 @@ fn tell(rt: &impl Print, alloc: Global, part: &str) -> Result<()> {
         "rows-ids" => rows::ids(rt, alloc),
         "catalogue-add" => catalogue::add(rt, alloc),
         "broker-handle" => broker::handle(rt, alloc),
+        "broker-finish" => broker::finish(rt, alloc),
+        "platform-requests" => platform::requests(rt, alloc),
         "platform-create" => platform::create(rt, alloc),
         "platform-ids" => platform::ids(rt, alloc),
         "platform-save" => platform::save(rt, alloc),
@@ -52,6 +59,9 @@ fn tell(rt: &impl Print, alloc: Global, part: &str) -> Result<()> {
         "load-format-2" => platform::load(rt, alloc, platform::FORMAT_2),
         "world-steps" => world::steps(rt, alloc),
         "world-restart" => world::restart(rt, alloc),
+        "world-unrecorded" => world::unrecorded(rt, alloc),
+        "world-cleaned-up" => world::cleaned_up(rt, alloc),
+        "world-expired" => world::expired(rt, alloc),
         "world-ids" => world::ids(rt, alloc),
         "world-save" => world::save(rt, alloc),
         "run" => world::run_events(rt, alloc),

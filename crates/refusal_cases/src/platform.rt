@@ -1,8 +1,8 @@
-//! A platform records an instance, lists what it records, saves it and loads it.
+//! A platform records an instance, makes its requests, lists what it records, saves it and loads it.
 use crate::instances::{first, service, synchronous};
 use crate::telling::{Case, Returned, listed, saved, tell};
 use anyhow::{Context, Result};
-use osb_message::Request;
+use osb_message::{Answer, Body, Request};
 use osb_platform::{CreateFault, LoadFault, Platform};
 use std::alloc::Global;
 
@@ -21,6 +21,11 @@ pub const FORMAT_2: &str = "{\"instances\":{\"00000000-0000-0000-0000-0000000000
 #[derive(Clone, Copy)]
 enum Call {
     Create,
+    Send,
+    Answer(u16),
+    Timeout,
+    Expire,
+    Remove,
     Ids,
     Save,
     Load(&'static str),
@@ -42,6 +47,14 @@ fn created(returned: Result<Request, CreateFault>) -> Returned {
         Ok(_) => Returned::Word("Ok"),
         Err(CreateFault::IdUsed) => Returned::Word("IdUsed"),
         Err(CreateFault::Memory) => Returned::Memory,
+    }
+}
+
+// What a call that takes no memory returned, as it is told.
+fn told<T: Drop, E: Drop>(returned: Result<T, E>) -> Returned {
+    match returned {
+        Ok(_) => Returned::Word("Ok"),
+        Err(_) => Returned::Word("refused"),
     }
 }
 
@@ -69,6 +82,14 @@ impl Case for PlatformCase {
     fn call(&mut self) -> Returned {
         match self.call {
             Call::Create => created(create_first(&mut self.platform)),
+            Call::Send => told(self.platform.send(first())),
+            Call::Answer(status) => {
+                let body = Body::Empty;
+                told(self.platform.answer(first(), Answer { status, body }))
+            }
+            Call::Timeout => told(self.platform.timeout(first())),
+            Call::Expire => told(self.platform.expire(first())),
+            Call::Remove => told(self.platform.remove(first())),
             Call::Ids => listed(self.platform.ids(self.alloc)),
             Call::Save => saved(self.platform.save(self.alloc)),
             Call::Load(text) => self.load(text),
@@ -101,6 +122,56 @@ pub fn create(rt: &impl Print, alloc: Global) -> Result<()> {
         "Platform::create again, without memory",
         &mut case,
     )
+}
+
+// An instance's life to its end, with each call that is refused on the way.
+const LIFE: [(Call, &str); 16] = [
+    (Call::Send, "Platform::send of none, without memory"),
+    (
+        Call::Answer(202),
+        "Platform::answer of none, without memory",
+    ),
+    (Call::Timeout, "Platform::timeout of none, without memory"),
+    (Call::Expire, "Platform::expire of none, without memory"),
+    (Call::Remove, "Platform::remove of none, without memory"),
+    (Call::Create, "Platform::create"),
+    (Call::Send, "Platform::send while busy, without memory"),
+    (Call::Expire, "Platform::expire while busy, without memory"),
+    (Call::Remove, "Platform::remove while busy, without memory"),
+    (Call::Answer(202), "Platform::answer, without memory"),
+    (Call::Send, "Platform::send, without memory"),
+    (Call::Timeout, "Platform::timeout, without memory"),
+    (Call::Expire, "Platform::expire, without memory"),
+    (Call::Send, "Platform::send of a deletion, without memory"),
+    (
+        Call::Answer(200),
+        "Platform::answer to a deletion, without memory",
+    ),
+    (
+        Call::Remove,
+        "Platform::remove of a gone instance, without memory",
+    ),
+];
+
+// An instance that is ready is removed.
+const REMOVAL: [(Call, &str); 3] = [
+    (Call::Create, "Platform::create before a removal"),
+    (Call::Answer(201), "Platform::answer, without memory"),
+    (Call::Remove, "Platform::remove, without memory"),
+];
+
+fn tell_calls(rt: &impl Print, alloc: Global, calls: &[(Call, &str)]) -> Result<()> {
+    let mut case = case_of(alloc, Call::Ids);
+    for &(call, name) in calls {
+        case.call = call;
+        tell(rt, alloc, name, &mut case)?;
+    }
+    Ok(())
+}
+
+pub fn requests(rt: &impl Print, alloc: Global) -> Result<()> {
+    tell_calls(rt, alloc, &LIFE)?;
+    tell_calls(rt, alloc, &REMOVAL)
 }
 
 pub fn ids(rt: &impl Print, alloc: Global) -> Result<()> {

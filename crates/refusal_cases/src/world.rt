@@ -1,7 +1,10 @@
 //! A world is stepped, restarted, listed, saved, and made by a run.
-use crate::instances::{catalogue, create, deliver, first, made, second};
+use crate::instances::{
+    catalogue, create, create_asynchronous, deliver, first, made, second, third,
+};
 use crate::telling::{Case, Returned, listed, saved, tell};
 use anyhow::Result;
+use osb_broker::Outcome;
 use osb_message::{Catalogue, InstanceId, Memory};
 use osb_world::{Event, Step, World, run};
 use std::alloc::Global;
@@ -9,6 +12,9 @@ use std::alloc::Global;
 #[derive(Clone, Copy)]
 enum Call {
     Step(Event),
+    SettleFirst,
+    SettleSecond,
+    SettleThird,
     Ids,
     Save,
     Run,
@@ -43,6 +49,11 @@ fn stepped(returned: Result<Step, Memory>) -> Returned {
 }
 
 impl WorldCase {
+    fn settle(&mut self, id: InstanceId) -> Returned {
+        self.world.settle(id);
+        Returned::Word("nothing")
+    }
+
     fn run(&mut self) -> Returned {
         let Some(catalogue) = self.catalogues.pop() else {
             return Returned::Word("no catalogue is left");
@@ -67,6 +78,9 @@ impl Case for WorldCase {
     fn call(&mut self) -> Returned {
         match self.call {
             Call::Step(event) => stepped(self.world.step(self.alloc, event)),
+            Call::SettleFirst => self.settle(first()),
+            Call::SettleSecond => self.settle(second()),
+            Call::SettleThird => self.settle(third()),
             Call::Ids => listed(self.world.ids(self.alloc)),
             Call::Save => saved(self.world.save(self.alloc)),
             Call::Run => self.run(),
@@ -126,6 +140,124 @@ pub fn steps(rt: &impl Print, alloc: Global) -> Result<()> {
         tell(rt, alloc, name, &mut case)?;
     }
     Ok(())
+}
+
+// Makes each of the calls, under its name.
+fn tell_calls(
+    rt: &impl Print,
+    alloc: Global,
+    case: &mut WorldCase,
+    calls: &[(Call, &str)],
+) -> Result<()> {
+    for &(call, name) in calls {
+        case.call = call;
+        tell(rt, alloc, name, case)?;
+    }
+    Ok(())
+}
+
+// Of an instance that was never recorded, no event applies but its Create, and none makes room for it.
+pub fn unrecorded(rt: &impl Print, alloc: Global) -> Result<()> {
+    let id = third();
+    let outcome = Outcome::Done;
+    let mut case = case_after(alloc, &made(), Call::Ids)?;
+    let calls = [
+        (Event::Remove { id }, "World::step, Remove, without memory"),
+        (Event::Send { id }, "World::step, Send, without memory"),
+        (deliver(id), "World::step, Deliver, without memory"),
+        (
+            Event::Repeat { id, outcome },
+            "World::step, Repeat, without memory",
+        ),
+        (Event::Lose { id }, "World::step, Lose, without memory"),
+        (Event::Garble { id }, "World::step, Garble, without memory"),
+        (
+            Event::Gateway { id, status: 502 },
+            "World::step, Gateway, without memory",
+        ),
+        (Event::Answer { id }, "World::step, Answer, without memory"),
+        (
+            Event::Timeout { id },
+            "World::step, Timeout, without memory",
+        ),
+        (Event::Expire { id }, "World::step, Expire, without memory"),
+        (
+            Event::Finish { id, ok: true },
+            "World::step, Finish, without memory",
+        ),
+    ];
+    for &(event, name) in &calls {
+        case.call = Call::Step(event);
+        tell(rt, alloc, name, &mut case)?;
+    }
+    case.call = Call::SettleThird;
+    tell(rt, alloc, "World::settle, without memory", &mut case)
+}
+
+// A Provision is repeated, its answer lost and replaced, and the instance is removed and settled.
+pub fn cleaned_up(rt: &impl Print, alloc: Global) -> Result<()> {
+    let id = first();
+    let outcome = Outcome::Done;
+    let mut case = case_after(alloc, &[create(id), deliver(id)], Call::Ids)?;
+    let calls = [
+        (
+            Call::Step(create(id)),
+            "World::step, Create of a used id, without memory",
+        ),
+        (
+            Call::Step(Event::Repeat { id, outcome }),
+            "World::step, Repeat, without memory",
+        ),
+        (
+            Call::Step(Event::Lose { id }),
+            "World::step, Lose, without memory",
+        ),
+        (
+            Call::Step(Event::Gateway { id, status: 502 }),
+            "World::step, Gateway, without memory",
+        ),
+        (
+            Call::Step(deliver(id)),
+            "World::step, Deliver again, without memory",
+        ),
+        (
+            Call::Step(Event::Answer { id }),
+            "World::step, Answer, without memory",
+        ),
+        (
+            Call::Step(Event::Remove { id }),
+            "World::step, Remove, without memory",
+        ),
+        (
+            Call::Step(Event::Send { id }),
+            "World::step, Send, without memory",
+        ),
+        (
+            Call::Step(Event::Timeout { id }),
+            "World::step, Timeout, without memory",
+        ),
+        (Call::SettleFirst, "World::settle, without memory"),
+    ];
+    tell_calls(rt, alloc, &mut case, &calls)
+}
+
+// An instance is polled for too long while it is made, and is settled.
+pub fn expired(rt: &impl Print, alloc: Global) -> Result<()> {
+    let id = second();
+    let events = [create_asynchronous(id), deliver(id), Event::Answer { id }];
+    let mut case = case_after(alloc, &events, Call::Ids)?;
+    let calls = [
+        (
+            Call::Step(Event::Expire { id }),
+            "World::step, Expire, without memory",
+        ),
+        (
+            Call::Step(Event::Finish { id, ok: false }),
+            "World::step, Finish, without memory",
+        ),
+        (Call::SettleSecond, "World::settle, without memory"),
+    ];
+    tell_calls(rt, alloc, &mut case, &calls)
 }
 
 // The platform restarts while the answer to a Provision travels.
