@@ -125,12 +125,12 @@ static void life(void)
     NONE(OSB_NOTHING_DUE, osb_platform_send(&platform, first, &request));
 }
 
-/* An instance that is ready is removed. */
+/* An instance that is ready is removed. Its record may find room where the first one is. */
 static void removal(void)
 {
     struct osb_id third = {0, 3};
     struct osb_answer made = {201, OSB_EMPTY};
-    SOME(osb_platform_create(&platform, third, service, plan, true, &request));
+    wrong |= osb_platform_create(&platform, third, service, plan, true, &request) != OSB_DONE;
     NONE(OSB_DONE, osb_platform_answer(&platform, third, made));
     NONE(OSB_DONE, osb_platform_remove(&platform, third));
 }
