@@ -216,6 +216,34 @@ fn readers_that_never_end(rt: HostRuntime) {
     }
 }
 
+/// A reader that gives comments of 512 bytes without end, each with its line feed, and counts what was taken. It
+/// claims nothing of its bytes.
+#[derive(Drop)]
+struct LongestLines {
+    taken: usize,
+}
+
+impl Read for LongestLines {
+    fn read(&mut self, buffer: &mut [u8]) -> io::Result<usize> {
+        for byte in buffer.iter_mut() {
+            *byte = if self.taken % 513 == 512 { b'\n' } else { b'#' };
+            self.taken = self.taken.saturating_add(1);
+        }
+        Ok(buffer.len())
+    }
+}
+
+#[test]
+fn a_reader_that_goes_on_after_the_longest_schedule(rt: HostRuntime) {
+    let mut reader = Input::new(LongestLines { taken: 0 });
+    let mut writer = Output::new(Vec::new(rt.alloc()));
+    let result = replay(rt.alloc(), &mut reader, &mut writer, PLAIN);
+    let (line, fault) = (100_001, LineFault::TooManyLines);
+    assert!(rt; result == Err(ReplayFault::Schedule { line, fault }));
+    assert!(rt; writer.into_inner().is_empty());
+    assert!(rt; reader.into_inner().taken == 51_300_001);
+}
+
 /// A reader that is interrupted at its first call and never again. It claims nothing of its bytes.
 #[derive(Drop)]
 struct Interrupted {
