@@ -1,4 +1,4 @@
-/* Every call of the library that takes no memory, where it is done and where it is refused: none of them may allocate.
+/* Calls of the library that take no memory, where they are done and where they are refused: none of them may allocate.
  * The linker puts the functions below in the place of the C library's (--wrap), so it needs GNU ld's or LLVM's. It ends
  * with status 1, and says why on standard error, where a call allocated, or returned another status than it should. */
 #include "osb.h"
