@@ -13,7 +13,8 @@ use Rattle.osb_broker.specs.declared.outcome.Outcome.{Outcome}
 use Rattle.osb_broker.specs.declared.outcome.Outcome.TheVariants.{Done, Before, After}
 use Rattle.osb_broker.specs.declared.row.BrokerRow.{BrokerRow}
 use Rattle.osb_broker.specs.declared.row.Phase.{Phase}
-use Rattle.osb_broker.specs.Answers.{Catalogue, Handled, mode_of, same_plan}
+use Rattle.osb_message.specs.Plans.{Catalogue}
+use Rattle.osb_broker.specs.Answers.{Handled, mode_of, same_plan}
 use Rattle.osb_broker.specs.Provision.{provision_at, accepted_provision, first_provision, new_row}
 use Rattle.osb_broker.specs.Deprovision.{deprovision_at, own_deprovision, accepted_deprovision, first_deprovision}
 use Rattle.osb_broker.specs.Deprovision.{row_after_deletion}

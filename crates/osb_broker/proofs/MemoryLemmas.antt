@@ -6,7 +6,7 @@ use Rattle.osb_message.specs.declared.messages.Kind.TheVariants.{Provision, Poll
 use Rattle.osb_message.specs.declared.messages.Request.{Request}
 use Rattle.osb_broker.specs.declared.outcome.Outcome.{Outcome}
 use Rattle.osb_broker.specs.declared.row.BrokerRow.{BrokerRow}
-use Rattle.osb_broker.specs.Answers.{Catalogue}
+use Rattle.osb_message.specs.Plans.{Catalogue}
 use Rattle.osb_broker.specs.Handled.{handled_as, makes_row}
 
 makes_no_row : (cat : Catalogue) (k : Kind) (b : Option BrokerRow) (r : Request) (o : Outcome)

@@ -3,7 +3,7 @@
 -- keeps of its plans and its instances is this project's choice.
 use Rattle.std.specs.Prelude.{ℕ, Bool, ◌&&◌, ◌==◌, Option}
 use Rattle.std.specs.FinMap as map
-use Rattle.osb_message.specs.Catalogue.{pair_cmp}
+use Rattle.osb_message.specs.Plans.{Catalogue}
 use Rattle.osb_message.specs.declared.catalogue.Mode.{Mode}
 use Rattle.osb_message.specs.declared.messages.Answer.{Answer}
 use Rattle.osb_message.specs.declared.messages.Body.{Body}
@@ -11,10 +11,6 @@ use Rattle.osb_message.specs.declared.messages.ErrorCode.{ErrorCode}
 use Rattle.osb_message.specs.declared.messages.LastState.{LastState}
 use Rattle.osb_message.specs.declared.messages.Request.{Request}
 use Rattle.osb_broker.specs.declared.row.BrokerRow.{BrokerRow}
-
--- the plans on sale, by pairs of service and plan
-abbrev pub Catalogue : Type 0
-Catalogue = map.FinMap pair_cmp Mode
 
 -- the instance's row after a request, or none, and the answer
 pub record Handled : Type 0 where

@@ -10,7 +10,8 @@ use Rattle.osb_broker.specs.declared.outcome.Outcome.{Outcome}
 use Rattle.osb_broker.specs.declared.outcome.Outcome.TheVariants.{Done, Before, After}
 use Rattle.osb_broker.specs.declared.row.BrokerRow.{BrokerRow}
 use Rattle.osb_broker.specs.declared.row.Phase.{Phase}
-use Rattle.osb_broker.specs.Answers.{Catalogue, Handled, row_and_answer, empty, error, mode_of, same_plan}
+use Rattle.osb_message.specs.Plans.{Catalogue}
+use Rattle.osb_broker.specs.Answers.{Handled, row_and_answer, empty, error, mode_of, same_plan}
 use Rattle.osb_broker.specs.Finished.{in_phase}
 
 -- the change: a synchronous plan's row goes at once, an asynchronous plan's is deleting

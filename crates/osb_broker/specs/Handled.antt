@@ -6,7 +6,8 @@ use Rattle.osb_message.specs.declared.messages.Kind.TheVariants.{Provision, Poll
 use Rattle.osb_message.specs.declared.messages.Request.{Request}
 use Rattle.osb_broker.specs.declared.outcome.Outcome.{Outcome}
 use Rattle.osb_broker.specs.declared.row.BrokerRow.{BrokerRow}
-use Rattle.osb_broker.specs.Answers.{Catalogue, Handled}
+use Rattle.osb_message.specs.Plans.{Catalogue}
+use Rattle.osb_broker.specs.Answers.{Handled}
 use Rattle.osb_broker.specs.Holding.{Holding}
 use Rattle.osb_broker.specs.Provision.{provision_answer}
 use Rattle.osb_broker.specs.Deprovision.{deprovision_answer}

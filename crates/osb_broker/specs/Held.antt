@@ -6,7 +6,7 @@ use Rattle.std.specs.FinMap as map
 use Rattle.osb_message.specs.declared.catalogue.Mode.{Mode}
 use Rattle.osb_broker.specs.declared.row.BrokerRow.{BrokerRow}
 use Rattle.osb_broker.specs.declared.row.Phase.{Phase}
-use Rattle.osb_broker.specs.Answers.{Catalogue}
+use Rattle.osb_message.specs.Plans.{Catalogue}
 
 -- its pair is on sale, and the row of a synchronous plan is ready
 pub record IsHeld (catalogue : Catalogue) (row : BrokerRow) : Type 0 where

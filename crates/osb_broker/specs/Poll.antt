@@ -11,7 +11,8 @@ use Rattle.osb_broker.specs.declared.outcome.Outcome.{Outcome}
 use Rattle.osb_broker.specs.declared.outcome.Outcome.TheVariants.{Done, Before, After}
 use Rattle.osb_broker.specs.declared.row.BrokerRow.{BrokerRow}
 use Rattle.osb_broker.specs.declared.row.Phase.{Phase}
-use Rattle.osb_broker.specs.Answers.{Catalogue, Handled, row_and_answer, error, last_operation, same_plan}
+use Rattle.osb_message.specs.Plans.{Catalogue}
+use Rattle.osb_broker.specs.Answers.{Handled, row_and_answer, error, last_operation, same_plan}
 
 -- how the last operation goes, by the phase of the row
 abbrev pub last_state : Phase → LastState

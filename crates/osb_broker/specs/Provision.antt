@@ -11,7 +11,8 @@ use Rattle.osb_broker.specs.declared.outcome.Outcome.{Outcome}
 use Rattle.osb_broker.specs.declared.outcome.Outcome.TheVariants.{Done, Before, After}
 use Rattle.osb_broker.specs.declared.row.BrokerRow.{BrokerRow}
 use Rattle.osb_broker.specs.declared.row.Phase.{Phase}
-use Rattle.osb_broker.specs.Answers.{Catalogue, Handled, row_and_answer, empty, error, mode_of, same_plan}
+use Rattle.osb_message.specs.Plans.{Catalogue}
+use Rattle.osb_broker.specs.Answers.{Handled, row_and_answer, empty, error, mode_of, same_plan}
 
 -- the row of a new instance: a synchronous plan's is ready, an asynchronous plan's is making
 abbrev pub new_row : Mode → Request → BrokerRow

@@ -2,7 +2,7 @@
 use Rattle.std.specs.Prelude.{ℕ, Bool, true, false, if◌then◌else◌, is_some, List, [], ◌∷◌, Option, Some, None}
 use Rattle.std.specs.FinMap as map
 use Rattle.osb_message.specs.declared.catalogue.Mode.{Mode}
-use Rattle.osb_broker.specs.Answers.{Catalogue}
+use Rattle.osb_message.specs.Plans.{Catalogue}
 use Rattle.osb_c.specs.Ids.{number_of}
 use Rattle.osb_c.specs.declared.plans.OsbPlan.{OsbPlan}
 

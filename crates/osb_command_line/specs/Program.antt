@@ -1,16 +1,15 @@
 -- What the program does of what it is asked for (this project's choice).
 use Rattle.std.specs.Prelude.{◌≡◌, Bool, false, Err, IsTrue, List, ℕ, Ok, Option, Result, ⊤}
 use Rattle.std.specs.Io.KnownBytes.{Appends}
-use Rattle.osb_schedule.specs.Conversions.{exit_status}
-use Rattle.osb_schedule.specs.MitigationTable.{table_text}
-use Rattle.osb_schedule.specs.Replay as replay
-use Rattle.osb_schedule.specs.Replay.{ReadsWhole, WritesReport}
-use Rattle.osb_schedule.specs.declared.faults.ReplayFault.{ReplayFault}
-use Rattle.osb_schedule.specs.declared.faults.ReplayFault.TheVariants.{Write}
-use Rattle.osb_command_line.specs.declared.command_line.Asked.{Asked}
-use Rattle.osb_command_line.specs.declared.command_line.Asked.TheVariants.{Replay, Table}
-use Rattle.osb_command_line.specs.declared.command_line.WordsFault.{WordsFault}
-use Rattle.osb_command_line.specs.declared.command_line.WordsFault.TheVariants.{Help, Refused, Memory}
+use Rattle.osb_language.specs.Conversions.{exit_status}
+use Rattle.osb_table.specs.MitigationTable.{table_text}
+use Rattle.osb_lines.specs.Reads as reads
+use Rattle.osb_lines.specs.Reads.{ReadsWhole}
+use Rattle.osb_schedule.specs.Replay.{WritesReport}
+use Rattle.osb_language.specs.declared.replay_fault.ReplayFault.{ReplayFault}
+use Rattle.osb_language.specs.declared.replay_fault.ReplayFault.TheVariants.{Write}
+use Rattle.osb_words.specs.declared.command_line.Asked.{Asked}
+use Rattle.osb_words.specs.declared.command_line.Asked.TheVariants.{Replay, Table}
 
 -- what was asked for is done: the reader had these bytes left, before and after, and the writer held those
 abbrev pub IsDone : Asked → Option (List ℕ) → Option (List ℕ) → Option (List ℕ) → Option (List ℕ) → Type 0
@@ -24,18 +23,12 @@ IsAnswered (Replay options) input_refused output_refused = (input_refused ≡ fa
 IsAnswered Table input_refused output_refused = output_refused ≡ false
 
 -- what a fault says of what was read, and of which device refused
-abbrev pub Explains : Asked → Option (List ℕ) → Option (List ℕ) → Bool → Bool → ReplayFault → Type 0
-Explains (Replay options) left left_after input_refused output_refused fault =
-    replay.Explains left left_after input_refused output_refused fault
-Explains Table left left_after input_refused output_refused fault = (fault ≡ Write) × IsTrue output_refused
+abbrev pub IsWhyUndone : Asked → Option (List ℕ) → Option (List ℕ) → Bool → Bool → ReplayFault → Type 0
+IsWhyUndone (Replay options) left left_after input_refused output_refused fault =
+    reads.IsWhyUnread left left_after input_refused output_refused fault
+IsWhyUndone Table left left_after input_refused output_refused fault = (fault ≡ Write) × IsTrue output_refused
 
 -- the status that the program ends with: 0 where what was asked for is done
 abbrev pub ending : Result ⊤ ReplayFault → ℕ
 ending (Ok done) = 0
 ending (Err fault) = exit_status fault
-
--- a fault that is no call for help
-abbrev pub IsNoHelp : WordsFault → Type 0
-IsNoHelp (Help text) = ⊥
-IsNoHelp (Refused text) = ⊤
-IsNoHelp Memory = ⊤

@@ -2,62 +2,22 @@
 ghost use Rattle.std.specs.Prelude.{◌≡◌, ◌≢◌, IfErr, IsOkUnless, OnOk};
 ghost use Rattle.std.specs.Io.KnownBytes.{Appends};
 ghost use Rattle.std.specs.Process.{exit_status};
-ghost use Rattle.osb_schedule.specs.Replay.{ReadsFew};
-ghost use Rattle.osb_schedule.specs.declared.faults.ReplayFault.TheVariants.{Write as WriteFault};
-ghost use Rattle.osb_command_line.specs.Program.{ending, Explains, IsAnswered, IsDone, IsNoHelp};
-ghost use Rattle.osb_command_line.specs.declared.command_line.Asked.TheVariants.{Table};
+ghost use Rattle.osb_lines.specs.Reads.{ReadsFew};
+ghost use Rattle.osb_language.specs.declared.replay_fault.ReplayFault.TheVariants.{Write as WriteFault};
+ghost use Rattle.osb_command_line.specs.Program.{ending, IsAnswered, IsDone, IsWhyUndone};
+ghost use Rattle.osb_words.specs.declared.command_line.Asked.TheVariants.{Table};
 
-use crate::command_line::{Asked, WordsFault};
-use osb_schedule::{Input, Output, ReplayFault, replay, status_of, write_table};
+use osb_device::{Input, Output};
+use osb_language::{ReplayFault, status_of};
+use osb_schedule::replay;
+use osb_table::write_table;
+use osb_words::Asked;
 use std::alloc::Global;
-use std::env;
-use std::env::Env;
-use std::io::{ErrorKind, Read, Write};
+use std::io::{Read, Write};
 use std::process::ExitCode;
 
 // The status of a command line that is refused (this project's choice).
 const REFUSED: u8 = 2;
-
-// What is said of a word that isn't UTF-8: `clap` takes texts alone.
-const NOT_UTF_8: &str = "\
-error: a word of the command line isn't UTF-8
-
-For more information, try 'osb-replay --help'.
-";
-
-// The fault of a command line with a word that isn't UTF-8.
-fn not_utf_8(alloc: Global) -> WordsFault
-    ensures no_help { IsNoHelp result }
-{
-    match String::from_str(alloc, NOT_UTF_8) {
-        Ok(text) => WordsFault::Refused(text),
-        Err(_) => WordsFault::Memory,
-    }
-}
-
-/// The words of the command line, the program's name first. No contract can say which they are.
-///
-/// # Errors
-///
-/// [`WordsFault::Refused`] where a word isn't UTF-8, and [`WordsFault::Memory`] where an allocation
-/// failed.
-pub fn words_of<R: Env + AllocGlobal>(rt: &R) -> Result<Vec<String>, WordsFault>
-    ensures fault { IfErr result IsNoHelp }
-{
-    let words = match env::args(rt) {
-        Ok(words) => words,
-        Err(error) if error.kind() == ErrorKind::InvalidData => return Err(not_utf_8(rt.alloc())),
-        Err(_) => return Err(WordsFault::Memory),
-    };
-    // `collect` would go on where its first allocation fails.
-    let mut texts = Vec::new(rt.alloc());
-    for word in words {
-        let Ok(()) = texts.push(word) else {
-            return Err(WordsFault::Memory);
-        };
-    }
-    Ok(texts)
-}
 
 /// Does what was asked for, from the reader to the writer. It takes memory for a replay alone.
 ///
@@ -73,7 +33,7 @@ pub fn carry_out<R: Read, W: Write>(
     ensures done { OnOk result (IsDone asked (R.remaining reader.old.device)
         (R.remaining reader.new.device) (W.contents writer.old.device)
         (W.contents writer.new.device)) }
-    ensures fault { IfErr result (λ fault. Explains asked (R.remaining reader.old.device)
+    ensures fault { IfErr result (λ fault. IsWhyUndone asked (R.remaining reader.old.device)
         (R.remaining reader.new.device) reader.new.refused writer.new.refused fault) }
     ensures answered { OnOk result (IsAnswered asked reader.new.refused writer.new.refused) }
     ensures bound { asked ≢ Table → ReadsFew (R.remaining reader.old.device) (R.remaining reader.new.device) }

@@ -14,8 +14,8 @@ use Rattle.osb_message.specs.declared.catalogue.Mode.{Mode}
 use Rattle.osb_message.specs.declared.catalogue.Mode.TheVariants.{Sync, Async}
 use Rattle.osb_broker.specs.declared.outcome.Outcome.{Outcome}
 use Rattle.osb_broker.specs.declared.outcome.Outcome.TheVariants.{Done, Before, After}
-use Rattle.osb_world.specs.declared.event.Event.{Event}
-use Rattle.osb_world.specs.declared.event.Event.TheVariants as Happens
+use Rattle.osb_event.specs.declared.event.Event.{Event}
+use Rattle.osb_event.specs.declared.event.Event.TheVariants as Happens
 use Rattle.osb_language.specs.declared.fault.LineFault.{LineFault}
 use Rattle.osb_language.specs.declared.fault.LineFault.TheVariants.{BadChoice, BadId}
 use Rattle.osb_language.specs.declared.fields.Accepts.{Accepts}
@@ -27,7 +27,7 @@ use Rattle.osb_language.specs.Fields.{one_field, outcomes, status_field, three_f
 use Rattle.osb_language.specs.Language.{begins_comment, event_as, is_ascii, line_of, spelled, spelled_as}
 use Rattle.osb_language.specs.Spelling.{a_status, accepts_word, an_id, ending_word, event_row, mode_word, outcome_word}
 use Rattle.osb_language.specs.Spelling.{the_word, AreFields, Field, IsField, IsRow, Says, Spells}
-use Rattle.osb_language.specs.Words.{words_of}
+use Rattle.osb_language.specs.Words.{words_in}
 use Rattle.osb_language.specs.declared.limits.TheConstants.{LONGEST_LINE}
 use Rattle.osb_language.proofs.Splitting.{spaced-words, words-only}
 
@@ -501,9 +501,9 @@ line-says bytes said e =
     (λ plain e2. record {
       short = grind (arith, nat_tests);
       ascii = plain;
-      words = words_of (strip_carriage_return bytes);
+      words = words_in (strip_carriage_return bytes);
       spaced = spaced-words (strip_carriage_return bytes);
-      spelled = reads-spells (words_of (strip_carriage_return bytes)) said e2;
+      spelled = reads-spells (words_in (strip_carriage_return bytes)) said e2;
     }) (λ other no. absurd (cc)))
 
 says-line : (bytes : List ℕ) (said : Line) → Says bytes said → line_of bytes ≡ Ok said
@@ -512,12 +512,12 @@ says-line bytes said says =
     let short : length bytes ≤ LONGEST_LINE = says.short in
     let within : nat_lt LONGEST_LINE (length bytes) ≡ false = grind (arith, nat_tests) in
     let ascii : is_ascii bytes ≡ true = says.ascii in
-    let cut : words_of (strip_carriage_return bytes) ≡ says.words =
+    let cut : words_in (strip_carriage_return bytes) ≡ says.words =
     words-only says.words (strip_carriage_return bytes) says.spaced in
     rw (within, ascii, cut) (spells-reads says.words said says.spelled)
 
 pub line_of-words : (bytes : List ℕ) → length bytes ≤ LONGEST_LINE → is_ascii bytes ≡ true
-    → line_of bytes ≡ spelled (words_of (strip_carriage_return bytes))
+    → line_of bytes ≡ spelled (words_in (strip_carriage_return bytes))
 unfolding line_of
 line_of-words bytes short ascii =
     let within : nat_lt LONGEST_LINE (length bytes) ≡ false = grind (arith, nat_tests) in

@@ -14,29 +14,29 @@ use Rattle.osb_language.specs.Language.{begins_comment, is_ascii, spelled, spell
 use Rattle.std.specs.Prelude.{filter, slice_index}
 use Rattle.std.specs.List.{All}
 use Rattle.std.proofs.lemmas.List.Splits.{slice_split-cons_yes, slice_split_none, slice_split_at}
-use Rattle.osb_language.specs.Words.{is_blank, is_word, words_of, EndsWord, IsGap, IsSpacedOut, IsWord}
+use Rattle.osb_language.specs.Words.{is_blank, is_word, words_in, EndsWord, IsGap, IsSpacedOut, IsWord}
 
 -- a blank before a line makes no word
-pub words-blank : (byte : ℕ) (rest : List ℕ) → is_blank byte ≡ true → words_of (byte ∷ rest) ≡ words_of rest
-unfolding words_of
+pub words-blank : (byte : ℕ) (rest : List ℕ) → is_blank byte ≡ true → words_in (byte ∷ rest) ≡ words_in rest
+unfolding words_in
 words-blank byte rest blank = ap (filter is_word) (slice_split-cons_yes is_blank byte rest blank)
 
-pub words-none : words_of [] ≡ []
-unfolding words_of
+pub words-none : words_in [] ≡ []
+unfolding words_in
 words-none = refl
 
 pub words-drop : (line : List ℕ) → 0 < length line → is_blank (slice_index line 0) ≡ true
-    → words_of (drop 1 line) ≡ words_of line
+    → words_in (drop 1 line) ≡ words_in line
 words-drop [] some blank = absurd (omega arith)
 words-drop (byte ∷ rest) some blank = sym (words-blank byte rest blank)
 
 -- a run of other bytes before a blank, or at the end, is a word
 pub words-run : (byte : ℕ) (word rest : List ℕ) → All (λ b. is_blank b ≡ false) (byte ∷ word)
     → (0 < length rest → is_blank (slice_index rest 0) ≡ true)
-    → words_of ((byte ∷ word) ++ rest) ≡ (byte ∷ word) ∷ words_of rest
-unfolding words_of
+    → words_in ((byte ∷ word) ++ rest) ≡ (byte ∷ word) ∷ words_in rest
+unfolding words_in
 words-run byte word [] run stop =
-    ap words_of (append-nil (byte ∷ word)) ∙ ap (filter is_word) (slice_split_none is_blank (byte ∷ word) run)
+    ap words_in (append-nil (byte ∷ word)) ∙ ap (filter is_word) (slice_split_none is_blank (byte ∷ word) run)
 words-run byte word (blank ∷ rest) run stop =
     ap (filter is_word) (slice_split_at is_blank (byte ∷ word) blank rest run (stop (omega arith)))
     ∙ ap (λ parts. (byte ∷ word) ∷ parts)
@@ -60,12 +60,12 @@ next_part line n stop some =
 pub words-cut : (line : List ℕ) (n : ℕ) → 0 < length line → is_blank (slice_index line 0) ≡ false → n ≤ length line
     → ((k : ℕ) → k < n → is_blank (slice_index line k) ≡ false)
     → (n < length line → is_blank (slice_index line n) ≡ true)
-    → words_of line ≡ take n line ∷ words_of (drop n line)
+    → words_in line ≡ take n line ∷ words_in (drop n line)
 words-cut [] n some begins within run stop = absurd (omega arith)
 words-cut (byte ∷ line) zero some begins within run stop = absurd (true≢false (sym (stop (omega arith)) ∙ begins))
 words-cut (byte ∷ line) (suc n) some begins within run stop =
     let all : All (λ b. is_blank b ≡ false) (byte ∷ take n line) = first_part (byte ∷ line) (suc n) within run in
-    ap words_of (sym (take-append-drop (suc n) (byte ∷ line)))
+    ap words_in (sym (take-append-drop (suc n) (byte ∷ line)))
     ∙ words-run byte (take n line) (drop n line) all (λ more. next_part (byte ∷ line) (suc n) stop more)
 
 -- how long the first word is, of a line that begins with no blank
@@ -94,33 +94,33 @@ first_run line some begins =
 
 -- the first word begins as the line does, if the line begins with no blank
 words-first : (line : List ℕ) → 0 < length line → is_blank (slice_index line 0) ≡ false
-    → (first : List ℕ) × (words : List (List ℕ)) × (words_of line ≡ first ∷ words)
+    → (first : List ℕ) × (words : List (List ℕ)) × (words_in line ≡ first ∷ words)
     × (slice_index first 0 ≡ slice_index line 0)
 words-first line some begins =
     let n = position_or_len is_blank line in
     let r = first_run line some begins in (
       take n line,
-      words_of (drop n line),
+      words_in (drop n line),
       words-cut line n some begins r.within r.run r.stop,
       get_or-take n line 0 0 r.some,
     )
 
 -- ---- a line is spaced out as its words, and as no others
 
-words-gap : (gap rest : List ℕ) → IsGap gap → words_of (gap ++ rest) ≡ words_of rest
+words-gap : (gap rest : List ℕ) → IsGap gap → words_in (gap ++ rest) ≡ words_in rest
 words-gap [] rest all = refl
 words-gap (blank ∷ gap) rest all =
     words-blank blank (gap ++ rest) (all 0 0 (omega arith))
     ∙ words-gap gap rest (λ k d below. all (suc k) d (omega arith))
 
-words-word : (word rest : List ℕ) → IsWord word → EndsWord rest → words_of (word ++ rest) ≡ word ∷ words_of rest
+words-word : (word rest : List ℕ) → IsWord word → EndsWord rest → words_in (word ++ rest) ≡ word ∷ words_in rest
 words-word [] rest (some, all) stop = absurd (omega arith)
 words-word (byte ∷ word) rest (some, all) stop = words-run byte word rest all stop
 
-pub words-only : (words : List (List ℕ)) (bytes : List ℕ) → IsSpacedOut bytes words → words_of bytes ≡ words
-words-only [] bytes gap = ap words_of (sym (append-nil bytes)) ∙ words-gap bytes [] gap ∙ words-none
+pub words-only : (words : List (List ℕ)) (bytes : List ℕ) → IsSpacedOut bytes words → words_in bytes ≡ words
+words-only [] bytes gap = ap words_in (sym (append-nil bytes)) ∙ words-gap bytes [] gap ∙ words-none
 words-only (word ∷ words) bytes (gap, rest, cut, blank, is_word, stop, later) =
-    ap words_of cut ∙ words-gap gap (word ++ rest) blank ∙ words-word word rest is_word stop
+    ap words_in cut ∙ words-gap gap (word ++ rest) blank ∙ words-word word rest is_word stop
     ∙ ap (λ more. word ∷ more) (words-only words rest later)
 
 gap-cons : (byte : ℕ) (gap : List ℕ) → is_blank byte ≡ true → IsGap gap → (k d : ℕ) → k < length (byte ∷ gap)
@@ -135,8 +135,8 @@ spaced-blank byte bytes (word ∷ words) blank (gap, rest, cut, all, is_word, st
     (byte ∷ gap, rest, ap (λ more. byte ∷ more) cut, gap-cons byte gap blank all, is_word, stop, later)
 
 spaced-word : (line : List ℕ) → 0 < length line → is_blank (slice_index line 0) ≡ false
-    → ((rest : List ℕ) → length rest < length line → IsSpacedOut rest (words_of rest))
-    → IsSpacedOut line (words_of line)
+    → ((rest : List ℕ) → length rest < length line → IsSpacedOut rest (words_in rest))
+    → IsSpacedOut line (words_in line)
 spaced-word line some begins later =
     let n = position_or_len is_blank line in
     let r = first_run line some begins in
@@ -154,21 +154,21 @@ spaced-word line some begins later =
       later (drop n line) shorter,
     )
 
-spaced-within : (m : ℕ) (bytes : List ℕ) → length bytes ≤ m → IsSpacedOut bytes (words_of bytes)
+spaced-within : (m : ℕ) (bytes : List ℕ) → length bytes ≤ m → IsSpacedOut bytes (words_in bytes)
 spaced-within m [] within = subst (IsSpacedOut []) (sym words-none) (λ k d below. absurd (omega arith))
 spaced-within zero (byte ∷ bytes) within = absurd (omega arith)
 spaced-within (suc m) (byte ∷ bytes) within =
     elim (cases_Bool (is_blank byte)) [
       | inl blank ↦ subst (IsSpacedOut (byte ∷ bytes)) (sym (words-blank byte bytes blank))
-          (spaced-blank byte bytes (words_of bytes) blank (spaced-within m bytes (omega arith)))
+          (spaced-blank byte bytes (words_in bytes) blank (spaced-within m bytes (omega arith)))
       | inr other ↦ spaced-word (byte ∷ bytes) (omega arith) other (λ rest shorter. spaced-within m rest (omega arith))
     ]
 
-pub spaced-words : (bytes : List ℕ) → IsSpacedOut bytes (words_of bytes)
+pub spaced-words : (bytes : List ℕ) → IsSpacedOut bytes (words_in bytes)
 spaced-words bytes = spaced-within (length bytes) bytes (omega arith)
 
 pub spelled_comment : (line : List ℕ) → (0 < length line → is_blank (slice_index line 0) ≡ false)
-    → begins_comment line ≡ true → spelled (words_of line) ≡ Ok Nothing
+    → begins_comment line ≡ true → spelled (words_in line) ≡ Ok Nothing
 spelled_comment [] begins marked = absurd (true≢false (sym marked))
 spelled_comment (byte ∷ line) begins marked =
     let (first, words, cut, same) = words-first (byte ∷ line) (omega arith) (begins (omega arith)) in
@@ -177,7 +177,7 @@ spelled_comment (byte ∷ line) begins marked =
 
 pub spelled_plain : (line first : List ℕ) (words : List (List ℕ))
     → (0 < length line → is_blank (slice_index line 0) ≡ false) → begins_comment line ≡ false
-    → words_of line ≡ first ∷ words → spelled (words_of line) ≡ spelled_as first words
+    → words_in line ≡ first ∷ words → spelled (words_in line) ≡ spelled_as first words
 spelled_plain [] first words begins other cut =
     let long : 0 ≡ suc (length words) = ap length (sym words-none ∙ cut) in
     absurd (omega arith)

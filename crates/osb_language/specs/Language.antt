@@ -5,8 +5,8 @@ use Rattle.std.specs.List.{list_all}
 use Rattle.std.specs.Str.{bytes_eq}
 use Rattle.std.specs.Str.Lines.{strip_carriage_return}
 use Rattle.osb_broker.specs.declared.outcome.Outcome.{Outcome}
-use Rattle.osb_world.specs.declared.event.Event.{Event}
-use Rattle.osb_world.specs.declared.event.Event.TheVariants as Happens
+use Rattle.osb_event.specs.declared.event.Event.{Event}
+use Rattle.osb_event.specs.declared.event.Event.TheVariants as Happens
 use Rattle.osb_language.specs.declared.fault.LineFault.{LineFault}
 use Rattle.osb_language.specs.declared.fault.LineFault.TheVariants.{LineTooLong, NotAscii, UnknownWord}
 use Rattle.osb_language.specs.declared.line.Line.{Line}
@@ -14,7 +14,7 @@ use Rattle.osb_language.specs.Limits.{longest_line}
 use Rattle.osb_language.specs.Fields.{and_then, choice, consents, endings, four_fields, id_field, modes, no_fields}
 use Rattle.osb_language.specs.Fields.{one_field}
 use Rattle.osb_language.specs.Fields.{outcomes, status_field, three_fields, two_fields}
-use Rattle.osb_language.specs.Words.{words_of}
+use Rattle.osb_language.specs.Words.{words_in}
 
 -- an event of an instance alone
 abbrev pub of_id : (ℕ → Event) → List (List ℕ) → Result Event LineFault
@@ -78,4 +78,4 @@ is_ascii bytes = list_all (λ byte. nat_le byte 127) bytes
 unfoldable pub line_of : List ℕ → Result Line LineFault
 line_of bytes =
     if nat_lt longest_line (length bytes) then Err LineTooLong else
-    (if is_ascii bytes then spelled (words_of (strip_carriage_return bytes)) else Err NotAscii)
+    (if is_ascii bytes then spelled (words_in (strip_carriage_return bytes)) else Err NotAscii)

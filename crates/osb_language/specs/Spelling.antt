@@ -7,8 +7,8 @@ use Rattle.osb_message.specs.declared.catalogue.Mode.{Mode}
 use Rattle.osb_message.specs.declared.catalogue.Mode.TheVariants.{Sync, Async}
 use Rattle.osb_broker.specs.declared.outcome.Outcome.{Outcome}
 use Rattle.osb_broker.specs.declared.outcome.Outcome.TheVariants.{Done, Before, After}
-use Rattle.osb_world.specs.declared.event.Event.{Event}
-use Rattle.osb_world.specs.declared.event.Event.TheVariants as Happens
+use Rattle.osb_event.specs.declared.event.Event.{Event}
+use Rattle.osb_event.specs.declared.event.Event.TheVariants as Happens
 use Rattle.osb_language.specs.declared.line.Line.{Line}
 use Rattle.osb_language.specs.Limits.{longest_line}
 use Rattle.osb_language.specs.Language.{begins_comment, is_ascii}

@@ -13,8 +13,8 @@ is_word [] = false
 is_word (byte ∷ bytes) = true
 
 -- the maximal runs of other bytes, in their order
-unfoldable pub words_of : List ℕ → List (List ℕ)
-words_of line = filter is_word (slice_split is_blank line)
+unfoldable pub words_in : List ℕ → List (List ℕ)
+words_in line = filter is_word (slice_split is_blank line)
 
 -- a gap has blanks alone
 abbrev pub IsGap : List ℕ → Type 0

@@ -3,7 +3,7 @@ use thiserror::Error;
 
 /// What is wrong with a line of a schedule (this project's choice, as is the whole language).
 ///
-/// The last three depend on the lines before it: `osb_schedule`, which reads them all, returns them, and
+/// The last three depend on the lines before it: `osb_lines`, which reads them all, returns them, and
 /// [`read_line`](crate::read_line) never does.
 #[derive(Clone, Copy, Debug, PartialEq, Eq, Error)]
 pub enum LineFault {

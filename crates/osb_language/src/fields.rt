@@ -2,7 +2,7 @@
 ghost use Rattle.std.specs.Prelude.{◌≡◌, ℕ, List, Result};
 ghost use Rattle.osb_language.specs.Fields.{choice, consents, endings, four_fields, id_field, modes, no_fields};
 ghost use Rattle.osb_language.specs.Fields.{one_field, outcomes, status_field, three_fields, two_fields};
-ghost use Rattle.osb_language.specs.Words.{words_of};
+ghost use Rattle.osb_language.specs.Words.{words_in};
 ghost use Rattle.osb_language.specs.declared.fault.LineFault.{LineFault as Fault};
 
 use crate::fault::LineFault;
@@ -109,7 +109,7 @@ impl Field for GatewayStatus {
 
 // No word after the first.
 pub fn read_none(words: &[u8]) -> Result<(), LineFault>
-    ensures fields { result ≡ no_fields (words_of words.now) }
+    ensures fields { result ≡ no_fields (words_in words.now) }
 {
     match split_word(words) {
         None => Ok(()),
@@ -119,7 +119,7 @@ pub fn read_none(words: &[u8]) -> Result<(), LineFault>
 
 // The one word after the first.
 pub fn read_one<A: Field>(words: &[u8]) -> Result<A, LineFault>
-    ensures fields { result ≡ one_field A.field (words_of words.now) }
+    ensures fields { result ≡ one_field A.field (words_in words.now) }
 {
     let Some(word) = one_word(words) else {
         return Err(LineFault::WordCount);
@@ -129,7 +129,7 @@ pub fn read_one<A: Field>(words: &[u8]) -> Result<A, LineFault>
 
 // The two words after the first.
 pub fn read_two<A: Field, B: Field>(words: &[u8]) -> Result<(A, B), LineFault>
-    ensures fields { result ≡ two_fields A.field B.field (words_of words.now) }
+    ensures fields { result ≡ two_fields A.field B.field (words_in words.now) }
 {
     let Some((first, second)) = two_words(words) else {
         return Err(LineFault::WordCount);
@@ -139,7 +139,7 @@ pub fn read_two<A: Field, B: Field>(words: &[u8]) -> Result<(A, B), LineFault>
 
 // The three words after the first.
 pub fn read_three<A: Field, B: Field, C: Field>(words: &[u8]) -> Result<(A, B, C), LineFault>
-    ensures fields { result ≡ three_fields A.field B.field C.field (words_of words.now) }
+    ensures fields { result ≡ three_fields A.field B.field C.field (words_in words.now) }
 {
     let Some((first, second, third)) = three_words(words) else {
         return Err(LineFault::WordCount);
@@ -151,7 +151,7 @@ pub fn read_three<A: Field, B: Field, C: Field>(words: &[u8]) -> Result<(A, B, C
 pub fn read_four<A: Field, B: Field, C: Field, D: Field>(
     words: &[u8],
 ) -> Result<(A, B, C, D), LineFault>
-    ensures fields { result ≡ four_fields A.field B.field C.field D.field (words_of words.now) }
+    ensures fields { result ≡ four_fields A.field B.field C.field D.field (words_in words.now) }
 {
     let Some((first, second, third, fourth)) = four_words(words) else {
         return Err(LineFault::WordCount);

@@ -1,8 +1,9 @@
-//! The language of schedules: what a line says.
+//! The language of schedules: what a line says, and why a schedule or a replay of it is refused.
 //!
 //! [`read_line`] reads one line, and [`Line`] is what it says: nothing, a plan that the broker sells, or an
-//! event of the world of `osb_world`. [`LineFault`] is why a line is refused. Which plan lines a schedule may
-//! have, and how many lines, is `osb_schedule`'s to say, and so are the three faults of those.
+//! event. [`LineFault`] is why a line is refused. Which plan lines a schedule may have, and how many lines, is
+//! `osb_lines`'s to say, and so are the three faults of those. [`ScheduleFault`] is why a schedule isn't taken,
+//! [`ReplayFault`] why no report is written, and [`status_of`] the status that the program ends with then.
 //!
 //! ```
 //! // One carriage return at the end is dropped.
@@ -17,11 +18,13 @@ mod fault;
 mod fields;
 mod limits;
 mod line;
+mod replay_fault;
 mod words;
 
 pub use fault::LineFault;
 pub use limits::LONGEST_LINE;
 pub use line::{Line, read_line};
+pub use replay_fault::{ReplayFault, ScheduleFault, status_of};
 
 #[cfg(test)]
 mod tests;

@@ -2,7 +2,7 @@
 ghost use Rattle.std.specs.Prelude.{◌≡◌, ◌↔◌, Ok};
 ghost use Rattle.osb_language.specs.Language.{begins_comment, event_as, is_ascii, line_of, spelled, spelled_as};
 ghost use Rattle.osb_language.specs.Spelling.{Says};
-ghost use Rattle.osb_language.specs.Words.{words_of};
+ghost use Rattle.osb_language.specs.Words.{words_in};
 ghost use Rattle.osb_language.specs.declared.line.Line.{Line as Said};
 ghost use Rattle.std.specs.Str.Lines.{strip_carriage_return};
 
@@ -12,8 +12,8 @@ use crate::fields::{
 };
 use crate::limits::LONGEST_LINE;
 use crate::words::{skip_blanks, split_word};
+use osb_event::Event;
 use osb_message::{Mode, PlanId, ServiceId};
-use osb_world::Event;
 
 /// What a line of a schedule says (this project's choice).
 #[derive(Clone, Copy, Debug, PartialEq, Eq)]
@@ -51,7 +51,7 @@ fn without_carriage_return(line: &[u8]) -> &[u8]
 
 // The rows of the events.
 fn read_event(first: &[u8], words: &[u8]) -> Result<Event, LineFault>
-    ensures event { result ≡ event_as first.now (words_of words.now) }
+    ensures event { result ≡ event_as first.now (words_in words.now) }
 {
     if first == b"create".as_slice() {
         read_four(words).map(|(id, service, plan, Accepts(accepts))| Event::Create {
@@ -92,7 +92,7 @@ fn read_event(first: &[u8], words: &[u8]) -> Result<Event, LineFault>
 // The table of lines: the first word of each, what follows it, and what it says. `plan` is the one line
 // that is no event.
 fn read_spelled(first: &[u8], words: &[u8]) -> Result<Line, LineFault>
-    ensures line { result ≡ spelled_as first.now (words_of words.now) }
+    ensures line { result ≡ spelled_as first.now (words_in words.now) }
 {
     if first == b"plan".as_slice() {
         read_three(words).map(|(service, plan, mode)| Line::Plan {
@@ -115,7 +115,7 @@ fn begins_comment(word: &[u8]) -> bool
 }
 
 fn read_words(line: &[u8]) -> Result<Line, LineFault>
-    ensures line { result ≡ spelled (words_of line.now) }
+    ensures line { result ≡ spelled (words_in line.now) }
 {
     let rest = skip_blanks(line);
     if begins_comment(rest) {

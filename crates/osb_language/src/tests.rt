@@ -2,8 +2,8 @@
 use crate::fields::{Field, GatewayStatus};
 use crate::{Line, LineFault, read_line};
 use osb_broker::Outcome;
+use osb_event::Event;
 use osb_message::{InstanceId, Mode, PlanId, ServiceId};
-use osb_world::Event;
 use std::alloc::Global;
 use std::process::Abort;
 use std::test::Fail;

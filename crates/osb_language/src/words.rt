@@ -1,6 +1,6 @@
 //! The words of a line: maximal runs of bytes other than space and tab.
 ghost use Rattle.std.specs.Prelude.{◌≡◌, ◌≢◌, ◌≤◌, ◌<◌, ℕ, true, false, [], ◌∷◌, length, slice_index, MatchOption};
-ghost use Rattle.osb_language.specs.Words.{is_blank, words_of};
+ghost use Rattle.osb_language.specs.Words.{is_blank, words_in};
 
 use memchr::memchr2;
 
@@ -12,7 +12,7 @@ fn is_blank(byte: u8) -> bool
 
 // The line from its first word on.
 pub fn skip_blanks(line: &[u8]) -> &[u8]
-    ensures same { words_of result.now ≡ words_of line.now }
+    ensures same { words_in result.now ≡ words_in line.now }
     ensures begins { 0 < length result.now → is_blank (slice_index result.now 0) ≡ false }
 {
     let mut rest = line;
@@ -33,8 +33,8 @@ fn word_length(line: &[u8]) -> usize
 
 // The first word of a line and what follows it, or none where the line has no word.
 pub fn split_word(line: &[u8]) -> Option<(&[u8], &[u8])>
-    ensures words { MatchOption result (words_of line.now ≡ [])
-        (λ parts. words_of line.now ≡ parts.0.now ∷ words_of parts.1.now) }
+    ensures words { MatchOption result (words_in line.now ≡ [])
+        (λ parts. words_in line.now ≡ parts.0.now ∷ words_in parts.1.now) }
 {
     let rest = skip_blanks(line);
     if rest.is_empty() {
@@ -45,8 +45,8 @@ pub fn split_word(line: &[u8]) -> Option<(&[u8], &[u8])>
 
 // The one word of a line, or none where it has more or fewer.
 pub fn one_word(line: &[u8]) -> Option<&[u8]>
-    ensures words { MatchOption result (length (words_of line.now) ≢ 1)
-        (λ word. words_of line.now ≡ word.now ∷ []) }
+    ensures words { MatchOption result (length (words_in line.now) ≢ 1)
+        (λ word. words_in line.now ≡ word.now ∷ []) }
 {
     let (word, rest) = split_word(line)?;
     match split_word(rest) {
@@ -57,8 +57,8 @@ pub fn one_word(line: &[u8]) -> Option<&[u8]>
 
 // The two words of a line, or none where it has more or fewer.
 pub fn two_words(line: &[u8]) -> Option<(&[u8], &[u8])>
-    ensures words { MatchOption result (length (words_of line.now) ≢ 2)
-        (λ words. words_of line.now ≡ words.0.now ∷ words.1.now ∷ []) }
+    ensures words { MatchOption result (length (words_in line.now) ≢ 2)
+        (λ words. words_in line.now ≡ words.0.now ∷ words.1.now ∷ []) }
 {
     let (first, rest) = split_word(line)?;
     let second = one_word(rest)?;
@@ -67,8 +67,8 @@ pub fn two_words(line: &[u8]) -> Option<(&[u8], &[u8])>
 
 // The three words of a line, or none where it has more or fewer.
 pub fn three_words(line: &[u8]) -> Option<(&[u8], &[u8], &[u8])>
-    ensures words { MatchOption result (length (words_of line.now) ≢ 3)
-        (λ words. words_of line.now ≡ words.0.now ∷ words.1.now ∷ words.2.now ∷ []) }
+    ensures words { MatchOption result (length (words_in line.now) ≢ 3)
+        (λ words. words_in line.now ≡ words.0.now ∷ words.1.now ∷ words.2.now ∷ []) }
 {
     let (first, rest) = split_word(line)?;
     let (second, third) = two_words(rest)?;
@@ -77,8 +77,8 @@ pub fn three_words(line: &[u8]) -> Option<(&[u8], &[u8], &[u8])>
 
 // The four words of a line, or none where it has more or fewer.
 pub fn four_words(line: &[u8]) -> Option<(&[u8], &[u8], &[u8], &[u8])>
-    ensures words { MatchOption result (length (words_of line.now) ≢ 4)
-        (λ words. words_of line.now ≡ words.0.now ∷ words.1.now ∷ words.2.now ∷ words.3.now ∷ []) }
+    ensures words { MatchOption result (length (words_in line.now) ≢ 4)
+        (λ words. words_in line.now ≡ words.0.now ∷ words.1.now ∷ words.2.now ∷ words.3.now ∷ []) }
 {
     let (first, rest) = split_word(line)?;
     let (second, third, fourth) = three_words(rest)?;

@@ -1,3 +1,4 @@
 pub mod Catalogue
 pub mod IdText
 pub mod Messages
+pub mod Plans

@@ -16,19 +16,19 @@ use Rattle.std.proofs.lemmas.Bool.Decides.{nat_tests}
 use Rattle.osb_platform.proofs.Ascending.{keys_ascend, keys_recorded}
 use Rattle.osb_platform.specs.declared.row.PlatformRow.{PlatformRow}
 use Rattle.osb_platform.specs.State.{state_word}
-use Rattle.osb_broker.specs.Answers.{Catalogue}
+use Rattle.osb_message.specs.Plans.{Catalogue}
 use Rattle.osb_world.specs.declared.cell.Cell.{Cell}
-use Rattle.osb_world.specs.declared.event.Event.{Event}
+use Rattle.osb_event.specs.declared.event.Event.{Event}
 use Rattle.osb_world.specs.Settling.{settled_cell}
 use Rattle.osb_world.specs.Views.{WorldState, catalogue_of, cell_at, records_of}
-use Rattle.osb_schedule.specs.declared.options.Options.{Options}
+use Rattle.osb_event.specs.declared.options.Options.{Options}
 use Rattle.osb_schedule.specs.declared.run.Ended.{Ended}
-use Rattle.osb_schedule.specs.Lines.{lines}
+use Rattle.osb_lines.specs.Lines.{lines}
 use Rattle.osb_schedule.specs.Report.{applied_count, broker_word, count_line, creates, id_line, instance_line}
 use Rattle.osb_schedule.specs.Report.{record_word, reported_cell, saved_line, settled_as, AreSettled, IsReport}
 use Rattle.osb_schedule.specs.Report.{IsSettledAs}
 use Rattle.osb_schedule.specs.Run.{IsEndOf, IsWorldAfter}
-use Rattle.osb_schedule.specs.Schedule.{catalogue_in, events_in}
+use Rattle.osb_lines.specs.Schedule.{catalogue_in, events_in}
 use Rattle.osb_schedule.proofs.Runs.{recorded, settled_records}
 
 -- the cell of an id that is recorded, or isn't, after settling where that is asked for

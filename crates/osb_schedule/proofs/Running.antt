@@ -2,18 +2,16 @@
 use Rattle.std.proofs.Common.{◌≡◌, ℕ, ◌+◌, Bool, true, false, cond, List, [], ◌∷◌, ◌++◌, length, refl, sym, ap, ◌∙◌}
 use Rattle.std.proofs.Common.{subst, arith, append_assoc, append-nil}
 use Rattle.std.proofs.lemmas.List.{length-append}
-use Rattle.std.proofs.lemmas.List.Concat.{flat_map-append}
-use Rattle.std.proofs.lemmas.List.Sums.{fold-append}
 use Rattle.std.specs.Prelude.{Result}
-use Rattle.std.specs.FinMap as map
-use Rattle.osb_world.specs.declared.event.Event.{Event}
+use Rattle.osb_event.specs.declared.event.Event.{Event}
 use Rattle.osb_language.specs.declared.fault.LineFault.{LineFault}
 use Rattle.osb_language.specs.declared.line.Line.{Line}
-use Rattle.osb_broker.specs.Answers.{Catalogue}
+use Rattle.osb_message.specs.Plans.{Catalogue}
 use Rattle.osb_world.specs.Events.{applies_at, cell_after, next_cell}
 use Rattle.osb_language.specs.Language.{line_of}
 use Rattle.osb_schedule.specs.Report.{applied_after, applied_count}
-use Rattle.osb_schedule.specs.Schedule.{catalogue_in, event_in, events_in, fault_after, said_fault, with_plan}
+use Rattle.osb_lines.specs.Schedule.{catalogue_in, event_in, events_in, with_plan}
+use Rattle.osb_lines.proofs.Adding.{catalogue-more, events-more}
 use Rattle.osb_schedule.specs.Run.{IsRunOf, IsWorldAfter, HasRun}
 use Rattle.osb_schedule.specs.declared.run.Run.{Run}
 use Rattle.osb_world.specs.declared.step.Step.TheVariants.{Applied, Skipped}
@@ -52,17 +50,6 @@ applied-more cat events event = applied_after-more cat [] events event
 pub length-more : (events : List Event) (event : Event) → length (events ++ event ∷ []) ≡ length events + 1
 length-more events event = length-append events (event ∷ [])
 
--- one line more
-pub catalogue-more : (earlier : List (List ℕ)) (line : List ℕ)
-    → catalogue_in (earlier ++ line ∷ []) ≡ with_plan (catalogue_in earlier) (line_of line)
-catalogue-more earlier line = fold-append (λ cat line. with_plan cat (line_of line)) map.empty earlier (line ∷ [])
-
-pub events-more : (earlier : List (List ℕ)) (line : List ℕ)
-    → events_in (earlier ++ line ∷ []) ≡ events_in earlier ++ event_in (line_of line)
-events-more earlier line =
-    flat_map-append (λ line. event_in (line_of line)) earlier (line ∷ [])
-    ∙ ap (λ events. events_in earlier ++ events) (append-nil (event_in (line_of line)))
-
 -- an event that applied is counted as that, and one that was skipped isn't
 is_applied : (b : Bool) → Applied ≡ step_of b → b ≡ true
 is_applied true e = refl
@@ -96,11 +83,6 @@ counts-skipped cat events event world after told =
     ∙ is_skipped _ told in
     let same : applied_count cat events + 0 ≡ applied_count cat events = omega arith in
     applied-more cat events event ∙ ap (λ b. applied_count cat events + cond b 1 0) no ∙ same
-
-pub said-as : (earlier : List (List ℕ)) (line : List ℕ) (said : Result Line LineFault) → line_of line ≡ said
-    → said_fault earlier line ≡ fault_after (catalogue_in earlier) (events_in earlier) said
-unfolding said_fault
-said-as earlier line said e = ap (fault_after (catalogue_in earlier) (events_in earlier)) e
 
 pub run-more : (earlier : List (List ℕ)) (line : List ℕ) (said : Result Line LineFault) (run : Run)
     → line_of line ≡ said

@@ -9,10 +9,10 @@ use Rattle.osb_message.specs.declared.messages.Answer.{Answer}
 use Rattle.osb_message.specs.declared.messages.Request.{Request}
 use Rattle.osb_broker.specs.declared.outcome.Outcome.{Outcome}
 use Rattle.osb_broker.specs.declared.outcome.Outcome.TheVariants.{Done}
-use Rattle.osb_broker.specs.Answers.{Catalogue}
+use Rattle.osb_message.specs.Plans.{Catalogue}
 use Rattle.osb_platform.specs.declared.row.PlatformRow.{PlatformRow}
 use Rattle.osb_world.specs.declared.cell.Cell.{Cell}
-use Rattle.osb_world.specs.declared.event.Event.{Event}
+use Rattle.osb_event.specs.declared.event.Event.{Event}
 use Rattle.osb_world.specs.Cell.{empty_cell}
 use Rattle.osb_world.specs.Events.{cell_after, cell_steps, events_of, is_of, next_cell}
 use Rattle.osb_world.specs.Steps.{applies, cell_step, changed_cell, delivered, repeated, taken}

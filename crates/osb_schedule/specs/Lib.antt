@@ -1,11 +1,3 @@
-pub mod Conversions
-pub mod Device
-pub mod Faults
-pub mod Limits
-pub mod Lines
-pub mod MitigationTable
-pub mod Reading
 pub mod Replay
 pub mod Report
 pub mod Run
-pub mod Schedule

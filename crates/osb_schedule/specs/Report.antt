@@ -9,19 +9,19 @@ use Rattle.std.specs.List.Sorted.{IsStrictlySortedBy}
 use Rattle.std.specs.Ordering.{nat_cmp}
 use Rattle.osb_message.specs.IdText.{id_text}
 use Rattle.osb_broker.specs.declared.row.BrokerRow.{BrokerRow}
-use Rattle.osb_broker.specs.Answers.{Catalogue}
+use Rattle.osb_message.specs.Plans.{Catalogue}
 use Rattle.osb_broker.specs.Words.{phase_word}
 use Rattle.osb_platform.specs.declared.row.PlatformRow.{PlatformRow}
 use Rattle.osb_platform.specs.SavedRecord.{saved_text}
 use Rattle.osb_platform.specs.State.{state_word}
 use Rattle.osb_world.specs.declared.cell.Cell.{Cell}
-use Rattle.osb_world.specs.declared.event.Event.{Event}
+use Rattle.osb_event.specs.declared.event.Event.{Event}
 use Rattle.osb_world.specs.Events.{applies_at, cell_after}
 use Rattle.osb_world.specs.Settling.{settled_cell}
 use Rattle.osb_world.specs.Views.{WorldState, catalogue_of, cell_at}
-use Rattle.osb_schedule.specs.declared.options.Options.{Options}
-use Rattle.osb_schedule.specs.Lines.{lines}
-use Rattle.osb_schedule.specs.Schedule.{catalogue_in, events_in}
+use Rattle.osb_event.specs.declared.options.Options.{Options}
+use Rattle.osb_lines.specs.Lines.{lines}
+use Rattle.osb_lines.specs.Schedule.{catalogue_in, events_in}
 
 -- what the platform records, in a word
 abbrev pub record_word : Option PlatformRow → List ℕ

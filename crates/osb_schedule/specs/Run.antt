@@ -1,16 +1,13 @@
 -- What the lines so far have done.
-use Rattle.std.specs.Prelude.{◌≡◌, ℕ, ◌+◌, ◌<◌, List, [], Option, Some, None, length, ⊤}
-use Rattle.osb_broker.specs.Answers.{Catalogue}
-use Rattle.osb_world.specs.declared.event.Event.{Event}
+use Rattle.std.specs.Prelude.{◌≡◌, ℕ, ◌+◌, ◌<◌, List, [], Option, Some, None, length}
+use Rattle.osb_message.specs.Plans.{Catalogue}
+use Rattle.osb_event.specs.declared.event.Event.{Event}
 use Rattle.osb_world.specs.Events.{cell_after}
 use Rattle.osb_world.specs.Views.{WorldState, catalogue_of, cell_at}
-use Rattle.osb_language.specs.declared.fault.LineFault.{LineFault}
-use Rattle.osb_schedule.specs.declared.faults.ScheduleFault.{ScheduleFault}
-use Rattle.osb_schedule.specs.declared.faults.ScheduleFault.TheVariants.{At, Memory}
 use Rattle.osb_schedule.specs.declared.run.Ended.{Ended}
 use Rattle.osb_schedule.specs.declared.run.Run.{Run}
 use Rattle.osb_schedule.specs.Report.{applied_count}
-use Rattle.osb_schedule.specs.Schedule.{catalogue_in, events_in}
+use Rattle.osb_lines.specs.Schedule.{catalogue_in, events_in}
 
 -- a world with this catalogue, after these events
 abbrev pub IsWorldAfter : Catalogue → List Event → WorldState → Type 0
@@ -39,8 +36,3 @@ HasRun lines run = IsRunOf (catalogue_in lines) (events_in lines) run
 pub record IsEndOf (lines : List (List ℕ)) (ended : Ended) : Type 0 where
   pub world : IsWorldAfter (catalogue_in lines) (events_in lines) ended.world
   pub counts : AreCounts (catalogue_in lines) (events_in lines) ended.applied ended.skipped
-
--- the own fault of the line of this number, or want of memory
-abbrev pub IsLineFault : ℕ → Option LineFault → ScheduleFault → Type 0
-IsLineFault number own (At line fault) = (line ≡ number) × (own ≡ Some fault)
-IsLineFault number own Memory = ⊤

@@ -32,28 +32,16 @@
 //! [`replay`] and [`read_schedule`] take memory, and nothing else does.
 #![tactic(auto)]
 
-mod faults;
-mod input;
-mod limits;
-mod line_reader;
-mod options;
-mod output;
-mod plans;
 mod replaying;
 mod report;
 mod run;
-mod schedule;
-mod table;
-mod writing;
 
-pub use faults::{DeviceFault, ReplayFault, ScheduleFault, status_of};
-pub use input::Input;
-pub use options::Options;
-pub use osb_language::{Line, LineFault, read_line};
-pub use output::Output;
+pub use osb_device::{DeviceFault, Input, Output};
+pub use osb_event::Options;
+pub use osb_language::{Line, LineFault, ReplayFault, ScheduleFault, read_line, status_of};
+pub use osb_lines::{Schedule, read_schedule};
+pub use osb_table::write_table;
 pub use replaying::replay;
-pub use schedule::{Schedule, read_schedule};
-pub use table::write_table;
 
 #[cfg(test)]
 mod tests;

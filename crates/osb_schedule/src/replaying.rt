@@ -1,66 +1,19 @@
-//! A schedule is read in pieces and run line by line, and its report is written.
-ghost use Rattle.std.specs.Prelude.{◌≡◌, ◌≢◌, ◌≤◌, ℕ, [], List, false, is_err, length, IfErr, IfOk, OnOk};
-ghost use Rattle.std.specs.Io.KnownBytes.{Appends, Consumes, IsAtEnd};
-ghost use Rattle.osb_schedule.specs.Lines.{lines};
-ghost use Rattle.osb_schedule.specs.Reading.{HasRead};
+//! A schedule is read and run line by line, and its report is written.
+ghost use Rattle.std.specs.Prelude.{◌≡◌, ◌≢◌, ℕ, List, false, IfErr, IfOk, OnOk};
+ghost use Rattle.osb_lines.specs.Reads.{IsWhyUnread, ReadsFew, ReadsWhole};
 ghost use Rattle.osb_schedule.specs.Report.{IsReport};
-ghost use Rattle.osb_schedule.specs.Replay.{Explains, ReadsFew, ReadsWhole, WritesReport};
-ghost use Rattle.osb_schedule.specs.Run.{IsEndOf};
-ghost use Rattle.osb_schedule.specs.declared.faults.ReplayFault.TheVariants.{Write};
+ghost use Rattle.osb_schedule.specs.Replay.{WritesReport};
+ghost use Rattle.osb_language.specs.declared.replay_fault.ReplayFault.TheVariants.{Write};
 
-use crate::faults::{DeviceFault, ReplayFault};
-use crate::input::Input;
-use crate::limits::{LARGEST_READ, MOST_BYTES};
-use crate::line_reader::LineReader;
-use crate::options::Options;
-use crate::output::Output;
 use crate::report::report;
-use crate::run::Ended;
-use crate::writing::write_out;
+use crate::run::Run;
+use osb_device::{DeviceFault, Input, Output};
+use osb_event::Options;
+use osb_language::ReplayFault;
+use osb_lines::read_lines;
 use osb_message::Memory;
 use std::alloc::Global;
 use std::io::{Read, Write};
-
-// Reads the input to its end, piece by piece, and takes its lines.
-fn take_input<R: Read>(lines: &mut LineReader, input: &mut Input<R>) -> Result<(), ReplayFault>
-    requires nothing { HasRead [] lines.old }
-    ensures ok { OnOk result ((bytes : List ℕ)
-        × Consumes (R.remaining input.old.device) (R.remaining input.new.device) bytes
-        × IsAtEnd (R.remaining input.new.device) × HasRead bytes lines.new × (input.new.refused ≡ false)) }
-    ensures fault { IfErr result (λ fault. Explains (R.remaining input.old.device)
-        (R.remaining input.new.device) input.new.refused false fault) }
-    ensures bound { ReadsFew (R.remaining input.old.device) (R.remaining input.new.device) }
-{
-    let mut piece = [0u8; LARGEST_READ];
-    let mut left = MOST_BYTES;
-    'pieces: while left > 0 {
-        let room = &mut piece[..LARGEST_READ.min(left)];
-        let Ok(count) = input.read(room) else {
-            return Err(ReplayFault::Read);
-        };
-        if count == 0 {
-            return Ok(());
-        }
-        left -= count;
-        lines.take_piece(&room[..count])?;
-    }
-    // Some line of so many bytes has a fault.
-    unreachable!()
-}
-
-// What the lines of the input leave, once it is read to its end, or why it is refused.
-fn run_input<R: Read>(alloc: Global, input: &mut Input<R>) -> Result<Ended, ReplayFault>
-    ensures ok { IfOk result (λ ended. (bytes : List ℕ)
-        × ReadsWhole (R.remaining input.old.device) (R.remaining input.new.device) bytes
-        × IsEndOf (lines bytes) ended × (input.new.refused ≡ false)) }
-    ensures fault { IfErr result (λ fault. Explains (R.remaining input.old.device)
-        (R.remaining input.new.device) input.new.refused false fault) }
-    ensures bound { ReadsFew (R.remaining input.old.device) (R.remaining input.new.device) }
-{
-    let mut lines = LineReader::new(alloc);
-    take_input(&mut lines, input)?;
-    Ok(lines.end()?)
-}
 
 // The report of the input, once it is read to its end.
 fn report_input<R: Read>(
@@ -71,12 +24,12 @@ fn report_input<R: Read>(
     ensures ok { IfOk result (λ text. (bytes : List ℕ)
         × ReadsWhole (R.remaining reader.old.device) (R.remaining reader.new.device) bytes
         × IsReport options bytes text.items × (reader.new.refused ≡ false)) }
-    ensures fault { IfErr result (λ fault. Explains (R.remaining reader.old.device)
+    ensures fault { IfErr result (λ fault. IsWhyUnread (R.remaining reader.old.device)
         (R.remaining reader.new.device) reader.new.refused false fault) }
     ensures bound { ReadsFew (R.remaining reader.old.device) (R.remaining reader.new.device) }
 {
-    let ended = run_input(alloc, reader)?;
-    match report(alloc, ended, options) {
+    let run = read_lines(Run::new(alloc), reader)?;
+    match report(alloc, run.end(), options) {
         Ok(text) => Ok(text),
         Err(Memory) => Err(ReplayFault::Memory),
     }
@@ -111,13 +64,13 @@ pub fn replay<R: Read, W: Write>(
         × ReadsWhole (R.remaining reader.old.device) (R.remaining reader.new.device) bytes
         × WritesReport options (W.contents writer.old.device) (W.contents writer.new.device) bytes) }
     ensures answered { OnOk result ((reader.new.refused ≡ false) × (writer.new.refused ≡ false)) }
-    ensures fault { IfErr result (λ fault. Explains (R.remaining reader.old.device)
+    ensures fault { IfErr result (λ fault. IsWhyUnread (R.remaining reader.old.device)
         (R.remaining reader.new.device) reader.new.refused writer.new.refused fault) }
     ensures bound { ReadsFew (R.remaining reader.old.device) (R.remaining reader.new.device) }
     ensures unwritten { IfErr result (λ fault. fault ≢ Write → writer.new ≡ writer.old) }
 {
     let text = report_input(alloc, reader, options)?;
-    match write_out(writer, text.as_slice()) {
+    match writer.write_out(text.as_slice()) {
         Ok(()) => Ok(()),
         Err(DeviceFault) => Err(ReplayFault::Write),
     }

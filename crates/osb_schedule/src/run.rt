@@ -2,18 +2,18 @@
 ghost use Rattle.std.specs.Prelude.{◌≡◌, ◌+◌, ◌<◌, ◌≤◌, ℕ, List, [], ◌∷◌, ◌++◌, None, Ok, IfErr, IfSome, IsSome};
 ghost use Rattle.std.specs.Prelude.{OnErr, OnOk};
 ghost use Rattle.std.specs.FinMap as map;
-ghost use Rattle.osb_broker.specs.Answers.{Catalogue as Plans};
-ghost use Rattle.osb_schedule.specs.Schedule.{event_in, fault_after, has_begun, plan_fault, said_fault, with_plan};
-ghost use Rattle.osb_schedule.specs.Run.{IsEndOf, IsLineFault, IsRunOf, IsWorldAfter, HasRun};
-ghost use Rattle.osb_world.specs.declared.event.Event.{Event as Happening};
-ghost use Rattle.osb_schedule.specs.declared.faults.ScheduleFault.TheVariants as Why;
+ghost use Rattle.osb_message.specs.Plans.{Catalogue as Plans};
+ghost use Rattle.osb_lines.specs.Schedule.{event_in, fault_after, has_begun, plan_fault, with_plan};
+ghost use Rattle.osb_lines.specs.Sink.{IsLineFault};
+ghost use Rattle.osb_schedule.specs.Run.{IsEndOf, IsRunOf, IsWorldAfter, HasRun};
+ghost use Rattle.osb_event.specs.declared.event.Event.{Event as Happening};
+ghost use Rattle.osb_language.specs.declared.replay_fault.ScheduleFault.TheVariants as Why;
 
-use crate::faults::ScheduleFault;
-use crate::limits::MOST_LINES;
-use crate::plans::add_plan;
-use osb_language::{Line, read_line};
+use osb_event::Event;
+use osb_language::{Line, ScheduleFault, read_line};
+use osb_lines::{MOST_LINES, Sink, add_plan};
 use osb_message::{Catalogue, Memory, Mode, PlanId, ServiceId};
-use osb_world::{Event, Step, World};
+use osb_world::{Step, World};
 use std::alloc::Global;
 use std::mem;
 
@@ -40,6 +40,7 @@ impl Run {
     // The run of no lines.
     pub fn new(alloc: Global) -> Run
         ensures none { HasRun [] result }
+        ensures counted { result.applied + result.skipped ≡ 0 }
     {
         Run {
             alloc,
@@ -124,25 +125,6 @@ impl Run {
         }
     }
 
-    // Takes the line of this number, unless it has a fault or finds no memory.
-    pub fn take_line(&mut self, number: u32, line: &[u8]) -> Result<(), ScheduleFault>
-        requires room { self.old.applied + self.old.skipped < MOST_LINES }
-        ensures good { (earlier : List (List ℕ)) → HasRun earlier self.old
-            → OnOk result ((said_fault earlier line.now ≡ None) × HasRun (earlier ++ line.now ∷ []) self.new) }
-        ensures refused { (earlier : List (List ℕ)) → HasRun earlier self.old
-            → IfErr result (IsLineFault number (said_fault earlier line.now)) }
-        ensures counted { OnOk result (self.new.applied + self.new.skipped ≤ self.old.applied + self.old.skipped + 1) }
-        ensures uncounted { OnErr result (self.new.applied + self.new.skipped ≡ self.old.applied + self.old.skipped) }
-    {
-        match read_line(line) {
-            Ok(said) => self.take_said(number, said),
-            Err(fault) => Err(ScheduleFault::At {
-                line: number,
-                fault,
-            }),
-        }
-    }
-
     // What the lines have left, once there are no more.
     pub fn end(mut self) -> Ended
         ensures ended { (lines : List (List ℕ)) → HasRun lines self → IsEndOf lines result }
@@ -159,6 +141,25 @@ impl Run {
             world,
             applied,
             skipped,
+        }
+    }
+}
+
+impl Sink for Run {
+    ghost use Rattle.std.specs.Prelude.{◌+◌};
+    ghost use Rattle.osb_schedule.specs.Run.{HasRun};
+
+    ghost has_taken = { HasRun };
+
+    ghost happened = { λ run. run.applied + run.skipped };
+
+    fn take_line(&mut self, number: u32, line: &[u8]) -> Result<(), ScheduleFault> {
+        match read_line(line) {
+            Ok(said) => self.take_said(number, said),
+            Err(fault) => Err(ScheduleFault::At {
+                line: number,
+                fault,
+            }),
         }
     }
 }

@@ -1,5 +1,4 @@
 //! Worked schedules, replayed over memory, and readers and writers that fail.
-mod faults;
 mod large;
 mod readers;
 mod schedules;

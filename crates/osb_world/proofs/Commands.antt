@@ -6,14 +6,14 @@ use Rattle.osb_message.specs.declared.messages.Kind.{Kind}
 use Rattle.osb_message.specs.declared.messages.Request.{Request}
 use Rattle.osb_message.specs.declared.catalogue.Mode.{Mode}
 use Rattle.osb_broker.specs.declared.row.BrokerRow.{BrokerRow}
-use Rattle.osb_broker.specs.Answers.{Catalogue}
+use Rattle.osb_message.specs.Plans.{Catalogue}
 use Rattle.osb_platform.specs.declared.row.PlatformRow.{PlatformRow}
 use Rattle.osb_platform.specs.declared.state.State.{State}
 use Rattle.osb_platform.specs.declared.state.State.TheVariants.{Wanted, Cleaning}
 use Rattle.osb_platform.specs.PlatformRow.{request_for, is_idle_in, in_state, can_send, cleaned_up, timed_out}
 use Rattle.osb_platform.specs.PlatformRow.{restarted}
 use Rattle.osb_platform.specs.State.{due, after_timeout, after_restart}
-use Rattle.osb_world.specs.declared.event.Event.{Event}
+use Rattle.osb_event.specs.declared.event.Event.{Event}
 use Rattle.osb_world.specs.Possible.{IsPossible, IsPossibleParts, IsPossibleRow, IsRowOf, OutByState, HeldByState}
 use Rattle.osb_world.specs.Possible.{mode_at}
 use Rattle.osb_world.specs.Steps.{changed_cell, closed}

@@ -6,13 +6,13 @@ use Rattle.osb_message.specs.declared.messages.Kind.TheVariants.{Provision, Poll
 use Rattle.osb_message.specs.declared.messages.Request.{Request}
 use Rattle.osb_broker.specs.declared.outcome.Outcome.{Outcome}
 use Rattle.osb_broker.specs.declared.row.BrokerRow.{BrokerRow}
-use Rattle.osb_broker.specs.Answers.{Catalogue}
+use Rattle.osb_message.specs.Plans.{Catalogue}
 use Rattle.osb_broker.specs.Handled.{handled}
 use Rattle.osb_broker.specs.Poll.{polled}
 use Rattle.osb_platform.specs.declared.row.PlatformRow.{PlatformRow}
 use Rattle.osb_platform.specs.declared.state.State.{State}
 use Rattle.osb_platform.specs.declared.state.State.TheVariants.{Wanted, Polling, Cleaning, CleaningPolling}
-use Rattle.osb_world.specs.declared.event.Event.{Event}
+use Rattle.osb_event.specs.declared.event.Event.{Event}
 use Rattle.osb_world.specs.Possible.{IsPossible, IsPossibleParts, IsRequestOf, IsRowOf, OutByState, HeldByState}
 use Rattle.osb_world.specs.Possible.{TravelsByState, mode_at}
 use Rattle.osb_world.specs.Steps.{changed_cell}

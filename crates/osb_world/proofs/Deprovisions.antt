@@ -11,7 +11,8 @@ use Rattle.osb_broker.specs.declared.outcome.Outcome.{Outcome}
 use Rattle.osb_broker.specs.declared.outcome.Outcome.TheVariants.{Done, Before, After}
 use Rattle.osb_broker.specs.declared.row.BrokerRow.{BrokerRow}
 use Rattle.osb_broker.specs.declared.row.Phase.{Phase}
-use Rattle.osb_broker.specs.Answers.{Catalogue, Handled}
+use Rattle.osb_message.specs.Plans.{Catalogue}
+use Rattle.osb_broker.specs.Answers.{Handled}
 use Rattle.osb_broker.specs.Deprovision.{deprovision_at, own_deprovision, accepted_deprovision, first_deprovision}
 use Rattle.osb_world.specs.Possible.{IsRowOf, IsInDeletion, IsDeprovisioned}
 use Rattle.osb_world.proofs.Possibility.{request_of, is_same_plan, mode_is}

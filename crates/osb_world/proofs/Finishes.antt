@@ -6,14 +6,14 @@ use Rattle.osb_message.specs.declared.messages.Answer.{Answer}
 use Rattle.osb_message.specs.declared.messages.Request.{Request}
 use Rattle.osb_broker.specs.declared.row.BrokerRow.{BrokerRow}
 use Rattle.osb_broker.specs.declared.row.Phase.{Phase}
-use Rattle.osb_broker.specs.Answers.{Catalogue}
+use Rattle.osb_message.specs.Plans.{Catalogue}
 use Rattle.osb_broker.specs.Finished.{finished_in, is_running, is_running_in, in_phase}
 use Rattle.osb_broker.specs.Held.{IsHeld}
 use Rattle.osb_platform.specs.declared.row.PlatformRow.{PlatformRow}
 use Rattle.osb_platform.specs.declared.state.State.{State}
 use Rattle.osb_platform.specs.declared.state.State.TheVariants.{Wanted, Polling, Ready, Cleaning, CleaningPolling, Gone}
 use Rattle.osb_platform.specs.declared.state.State.TheVariants.{Unsettled}
-use Rattle.osb_world.specs.declared.event.Event.{Event}
+use Rattle.osb_event.specs.declared.event.Event.{Event}
 use Rattle.osb_world.specs.Possible.{IsPossible, IsPossibleParts, IsRowOf, IsBeforeDeletion, IsInDeletion, HeldByState}
 use Rattle.osb_world.specs.Possible.{TravelsByState, mode_at}
 use Rattle.osb_world.specs.Steps.{changed_cell}

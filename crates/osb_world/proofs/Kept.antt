@@ -1,9 +1,9 @@
 -- Whatever happens, a cell that can come about becomes one that can come about.
 use Rattle.std.proofs.Common.{◌≡◌, ℕ, true, refl}
-use Rattle.osb_broker.specs.Answers.{Catalogue}
+use Rattle.osb_message.specs.Plans.{Catalogue}
 use Rattle.osb_platform.specs.State.{is_polling, is_removable}
 use Rattle.osb_world.specs.declared.cell.Cell.{Cell}
-use Rattle.osb_world.specs.declared.event.Event.{Event}
+use Rattle.osb_event.specs.declared.event.Event.{Event}
 use Rattle.osb_world.specs.Cell.{empty_cell}
 use Rattle.osb_world.specs.Events.{is_of, next_cell}
 use Rattle.osb_world.specs.Possible.{IsPossible}

@@ -6,11 +6,11 @@ use Rattle.osb_message.specs.declared.catalogue.Mode.{Mode}
 use Rattle.osb_message.specs.declared.messages.Answer.{Answer}
 use Rattle.osb_message.specs.declared.messages.Request.{Request}
 use Rattle.osb_broker.specs.declared.row.BrokerRow.{BrokerRow}
-use Rattle.osb_broker.specs.Answers.{Catalogue}
+use Rattle.osb_message.specs.Plans.{Catalogue}
 use Rattle.osb_platform.specs.declared.row.PlatformRow.{PlatformRow}
 use Rattle.osb_platform.specs.declared.state.State.{State}
 use Rattle.osb_platform.specs.declared.state.State.TheVariants.{Wanted, Polling, Cleaning, CleaningPolling}
-use Rattle.osb_world.specs.declared.event.Event.{Event}
+use Rattle.osb_event.specs.declared.event.Event.{Event}
 use Rattle.osb_platform.specs.Statuses.{is_within}
 use Rattle.osb_world.specs.Possible.{IsPossible, IsPossibleParts, OutByState, TravelsByState}
 use Rattle.osb_world.specs.Steps.{changed_cell, unreadable}

@@ -8,7 +8,7 @@ use Rattle.osb_broker.specs.declared.outcome.Outcome.{Outcome}
 use Rattle.osb_broker.specs.declared.outcome.Outcome.TheVariants.{Done}
 use Rattle.osb_broker.specs.declared.row.BrokerRow.{BrokerRow}
 use Rattle.osb_broker.specs.declared.row.Phase.{Phase}
-use Rattle.osb_broker.specs.Answers.{Catalogue}
+use Rattle.osb_message.specs.Plans.{Catalogue}
 use Rattle.osb_broker.specs.Poll.{polled, own_poll}
 use Rattle.osb_platform.specs.declared.state.State.TheVariants.{Polling}
 use Rattle.osb_world.specs.Possible.{IsRowOf, IsInDeletion, TravelsByState, IsPolledInDeletion}

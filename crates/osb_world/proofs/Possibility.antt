@@ -8,7 +8,8 @@ use Rattle.osb_message.specs.declared.messages.Answer.{Answer}
 use Rattle.osb_message.specs.declared.messages.Kind.{Kind}
 use Rattle.osb_message.specs.declared.messages.Request.{Request}
 use Rattle.osb_broker.specs.declared.row.BrokerRow.{BrokerRow}
-use Rattle.osb_broker.specs.Answers.{Catalogue, same_plan}
+use Rattle.osb_message.specs.Plans.{Catalogue}
+use Rattle.osb_broker.specs.Answers.{same_plan}
 use Rattle.osb_platform.specs.declared.row.PlatformRow.{PlatformRow}
 use Rattle.osb_platform.specs.declared.state.State.{State}
 use Rattle.osb_world.specs.declared.cell.Cell.{Cell}

@@ -12,7 +12,8 @@ use Rattle.osb_broker.specs.declared.outcome.Outcome.{Outcome}
 use Rattle.osb_broker.specs.declared.outcome.Outcome.TheVariants.{Done, Before, After}
 use Rattle.osb_broker.specs.declared.row.BrokerRow.{BrokerRow}
 use Rattle.osb_broker.specs.declared.row.Phase.{Phase}
-use Rattle.osb_broker.specs.Answers.{Catalogue, Handled}
+use Rattle.osb_message.specs.Plans.{Catalogue}
+use Rattle.osb_broker.specs.Answers.{Handled}
 use Rattle.osb_broker.specs.Provision.{provision_at, accepted_provision, first_provision, repeated_provision, new_row}
 use Rattle.osb_platform.specs.declared.state.State.TheVariants.{Wanted}
 use Rattle.osb_world.specs.Possible.{IsRowOf, IsBeforeDeletion, HeldByState, HoldsReady, IsProvisioned, is_refused}

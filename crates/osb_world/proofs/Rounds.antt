@@ -10,7 +10,8 @@ use Rattle.osb_message.specs.declared.messages.Request.{Request}
 use Rattle.osb_broker.specs.declared.outcome.Outcome.TheVariants.{Done}
 use Rattle.osb_broker.specs.declared.row.BrokerRow.{BrokerRow}
 use Rattle.osb_broker.specs.declared.row.Phase.{Phase}
-use Rattle.osb_broker.specs.Answers.{Catalogue, same_plan}
+use Rattle.osb_message.specs.Plans.{Catalogue}
+use Rattle.osb_broker.specs.Answers.{same_plan}
 use Rattle.osb_broker.specs.Deprovision.{deprovision_at, accepted_deprovision}
 use Rattle.osb_broker.specs.Finished.{finished, finished_in, is_running_in}
 use Rattle.osb_broker.specs.Poll.{own_poll}
@@ -19,7 +20,7 @@ use Rattle.osb_platform.specs.declared.state.State.{State}
 use Rattle.osb_platform.specs.declared.state.State.TheVariants.{Wanted, Polling, Cleaning, CleaningPolling}
 use Rattle.osb_platform.specs.State.{after_timeout, state_after_poll, state_after_deprovision}
 use Rattle.osb_world.specs.declared.cell.Cell.{Cell}
-use Rattle.osb_world.specs.declared.event.Event.{Event}
+use Rattle.osb_event.specs.declared.event.Event.{Event}
 use Rattle.osb_world.specs.Events.{cell_steps}
 use Rattle.osb_world.specs.Possible.{IsPossible, IsPossibleRow, OutByState}
 use Rattle.osb_world.specs.Settling.{after_round, settled_cell, IsSettled, IsSettledIn, ThreeRoundsSettle}

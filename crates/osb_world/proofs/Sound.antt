@@ -5,11 +5,11 @@ use Rattle.std.specs.Prelude.{Result, Ok, Err, IsOk, IfOk, OnOk, OnErr, Option, 
 use Rattle.std.specs.Prelude.{if◌then◌else◌}
 use Rattle.osb_message.specs.declared.memory.Memory.{Memory}
 use Rattle.osb_message.specs.declared.messages.Request.{Request}
-use Rattle.osb_broker.specs.Answers.{Catalogue}
+use Rattle.osb_message.specs.Plans.{Catalogue}
 use Rattle.osb_broker.specs.declared.outcome.Outcome.{Outcome}
 use Rattle.osb_broker.specs.declared.row.BrokerRow.{BrokerRow}
 use Rattle.osb_world.specs.declared.cell.Cell.{Cell}
-use Rattle.osb_world.specs.declared.event.Event.{Event}
+use Rattle.osb_event.specs.declared.event.Event.{Event}
 use Rattle.osb_world.specs.declared.step.Step.{Step}
 use Rattle.osb_world.specs.Agreement.{Agrees}
 use Rattle.osb_world.specs.Cell.{empty_cell}

@@ -11,7 +11,7 @@ use Rattle.osb_message.specs.declared.messages.Request.{Request}
 use Rattle.osb_message.specs.Messages.{is_empty}
 use Rattle.osb_broker.specs.declared.row.BrokerRow.{BrokerRow}
 use Rattle.osb_broker.specs.declared.row.Phase.TheVariants as Phase
-use Rattle.osb_broker.specs.Answers.{Catalogue}
+use Rattle.osb_message.specs.Plans.{Catalogue}
 use Rattle.osb_platform.specs.declared.row.PlatformRow.{PlatformRow}
 use Rattle.osb_platform.specs.declared.state.State.{State}
 use Rattle.osb_platform.specs.declared.state.State.TheVariants.{Wanted, Polling, Ready, Cleaning, CleaningPolling, Gone}
@@ -20,8 +20,8 @@ use Rattle.osb_platform.specs.Statuses.{is_within}
 use Rattle.osb_platform.specs.State.{says_made, says_started, says_deleted, leaves_open, is_async_required}
 use Rattle.osb_platform.specs.State.{state_after, state_after_provision, state_after_poll, state_after_operation}
 use Rattle.osb_platform.specs.State.{state_after_deprovision}
-use Rattle.osb_world.specs.declared.event.Event.{Event}
-use Rattle.osb_world.specs.Possible.{IsPossible, IsPossibleParts, IsBeforeDeletion, IsTaken, OutByState, HeldByState}
+use Rattle.osb_event.specs.declared.event.Event.{Event}
+use Rattle.osb_world.specs.Possible.{IsPossible, IsPossibleParts, IsBeforeDeletion, IsAccepted, OutByState, HeldByState}
 use Rattle.osb_world.specs.Possible.{TravelsByState, HoldsReady, IsProvisioned, IsDeprovisioned, IsPolledInDeletion}
 use Rattle.osb_world.specs.Possible.{is_refused, mode_at}
 use Rattle.osb_world.specs.Steps.{changed_cell}
@@ -63,7 +63,7 @@ none_refused : (mode : Option Mode) (b : Option BrokerRow) (r : Request) → Hel
 none_refused mode None r holds refused = refl
 none_refused mode (Some row) r holds refused = let f = holds.1 in cc
 
-begun : (mode : Option Mode) (b : Option BrokerRow) (o : Option Request) → IsSome b → IfSome b (IsTaken mode o)
+begun : (mode : Option Mode) (b : Option BrokerRow) (o : Option Request) → IsSome b → IfSome b (IsAccepted mode o)
     → IsSomeAnd b (λ row. IsBeforeDeletion row.phase)
 begun mode None o e h = cc
 begun mode (Some row) o e h = h.0

@@ -1,27 +1,12 @@
 -- The cell of an instance after a list of events: its own events alone, one after the other.
-use Rattle.std.specs.Prelude.{true, ℕ, Bool, ◌==◌, if◌then◌else◌, Option, Some, None, List, [], ◌∷◌, filter}
+use Rattle.std.specs.Prelude.{true, ℕ, Bool, ◌==◌, if◌then◌else◌, List, [], ◌∷◌, filter}
 use Rattle.std.specs.Option.{option_map_or}
-use Rattle.osb_broker.specs.Answers.{Catalogue}
+use Rattle.osb_message.specs.Plans.{Catalogue}
 use Rattle.osb_world.specs.declared.cell.Cell.{Cell}
-use Rattle.osb_world.specs.declared.event.Event.{Event}
+use Rattle.osb_event.specs.declared.event.Event.{Event}
+use Rattle.osb_event.specs.Naming.{event_id}
 use Rattle.osb_world.specs.Cell.{empty_cell}
 use Rattle.osb_world.specs.Steps.{applies, cell_step, takes_memory}
-
--- the instance that an event names; a restart is of every instance, and names none
-abbrev pub event_id : Event → Option ℕ
-event_id (Event.Create id service plan accepts) = Some id
-event_id (Event.Remove id) = Some id
-event_id (Event.Send id) = Some id
-event_id (Event.Deliver id outcome) = Some id
-event_id (Event.Repeat id outcome) = Some id
-event_id (Event.Lose id) = Some id
-event_id (Event.Garble id) = Some id
-event_id (Event.Gateway id status) = Some id
-event_id (Event.Answer id) = Some id
-event_id (Event.Timeout id) = Some id
-event_id (Event.Expire id) = Some id
-event_id (Event.Finish id ok) = Some id
-event_id Event.Restart = None
 
 -- whether the instance that the event names passes a test; a restart does
 abbrev pub passes : (ℕ → Bool) → Event → Bool

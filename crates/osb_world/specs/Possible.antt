@@ -13,7 +13,7 @@ use Rattle.osb_message.specs.declared.messages.LastState.TheVariants.{Succeeded}
 use Rattle.osb_message.specs.declared.messages.Request.{Request}
 use Rattle.osb_broker.specs.declared.row.BrokerRow.{BrokerRow}
 use Rattle.osb_broker.specs.declared.row.Phase.{Phase}
-use Rattle.osb_broker.specs.Answers.{Catalogue}
+use Rattle.osb_message.specs.Plans.{Catalogue}
 use Rattle.osb_broker.specs.Held.{IsHeld}
 use Rattle.osb_platform.specs.declared.row.PlatformRow.{PlatformRow}
 use Rattle.osb_platform.specs.declared.state.State.{State}
@@ -69,12 +69,12 @@ abbrev pub HoldsReady : Option BrokerRow → Type 0
 HoldsReady broker = IsSomeAnd broker (λ row. row.phase ≡ Phase.Ready)
 
 -- in `wanted` there may be a row, before any deletion; then the broker didn't refuse the Provision
-abbrev pub IsTaken : Option Mode → Option Request → BrokerRow → Type 0
-IsTaken mode out row = IsBeforeDeletion row.phase × IsSomeAnd out (λ request. is_refused mode request ≡ false)
+abbrev pub IsAccepted : Option Mode → Option Request → BrokerRow → Type 0
+IsAccepted mode out row = IsBeforeDeletion row.phase × IsSomeAnd out (λ request. is_refused mode request ≡ false)
 
 -- the broker's row, by what the platform records; `mode` is how the recorded plan works
 abbrev pub HeldByState : Option Mode → State → Option BrokerRow → Option Request → Type 0
-HeldByState mode Wanted broker out = IfSome broker (IsTaken mode out)
+HeldByState mode Wanted broker out = IfSome broker (IsAccepted mode out)
 HeldByState mode Polling broker out = IsSomeAnd broker (λ row. IsBeforeDeletion row.phase) × (mode ≡ Some Async)
 HeldByState mode Ready broker out = HoldsReady broker
 HeldByState mode Cleaning broker out = ⊤

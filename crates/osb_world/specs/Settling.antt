@@ -3,11 +3,11 @@
 -- Mitigation, and not how long that takes).
 use Rattle.std.specs.Prelude.{true, ℕ, List, [], ◌∷◌, IfSome, ⊤}
 use Rattle.osb_broker.specs.declared.outcome.Outcome.TheVariants.{Done}
-use Rattle.osb_broker.specs.Answers.{Catalogue}
+use Rattle.osb_message.specs.Plans.{Catalogue}
 use Rattle.osb_platform.specs.declared.state.State.{State}
 use Rattle.osb_platform.specs.declared.state.State.TheVariants.{Ready, Gone, Unsettled}
 use Rattle.osb_world.specs.declared.cell.Cell.{Cell}
-use Rattle.osb_world.specs.declared.event.Event.{Event}
+use Rattle.osb_event.specs.declared.event.Event.{Event}
 use Rattle.osb_world.specs.Events.{cell_steps}
 use Rattle.osb_world.specs.Possible.{IsPossible}
 

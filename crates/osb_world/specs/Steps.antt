@@ -7,7 +7,7 @@ use Rattle.osb_message.specs.declared.messages.Body.TheVariants.{Malformed}
 use Rattle.osb_message.specs.declared.messages.Request.{Request}
 use Rattle.osb_broker.specs.declared.outcome.Outcome.{Outcome}
 use Rattle.osb_broker.specs.declared.row.BrokerRow.{BrokerRow}
-use Rattle.osb_broker.specs.Answers.{Catalogue}
+use Rattle.osb_message.specs.Plans.{Catalogue}
 use Rattle.osb_broker.specs.Finished.{finished, is_running}
 use Rattle.osb_broker.specs.Handled.{handled, makes_row}
 use Rattle.osb_platform.specs.declared.row.PlatformRow.{PlatformRow}
@@ -15,7 +15,7 @@ use Rattle.osb_platform.specs.PlatformRow.{wanted_row, first_request, next_reque
 use Rattle.osb_platform.specs.PlatformRow.{sent, answered, timed_out, restarted, cleaned_up}
 use Rattle.osb_platform.specs.Statuses.{is_within}
 use Rattle.osb_world.specs.declared.cell.Cell.{Cell}
-use Rattle.osb_world.specs.declared.event.Event.{Event}
+use Rattle.osb_event.specs.declared.event.Event.{Event}
 
 -- when an event applies to the cell of its instance
 abbrev pub applies : Cell → Event → Bool

@@ -3,13 +3,13 @@ use Rattle.std.specs.Prelude.{◌≡◌, ◌≢◌, ℕ, Bool, true, false, opti
 use Rattle.std.specs.Coded.{Coded, code_by, coded×, coded_ℕ}
 use Rattle.std.specs.FinMap as map
 use Rattle.std.specs.Ordering.{nat_cmp}
-use Rattle.osb_broker.specs.Answers.{Catalogue}
+use Rattle.osb_message.specs.Plans.{Catalogue}
 use Rattle.osb_broker.specs.Holding.{Holding, holding_code}
 use Rattle.osb_platform.specs.contracts.row.PlatformRow as row
 use Rattle.osb_platform.specs.declared.row.PlatformRow.{PlatformRow}
 use Rattle.osb_world.specs.contracts.messages.Messages as between
 use Rattle.osb_world.specs.declared.cell.Cell.{Cell}
-use Rattle.osb_world.specs.declared.event.Event.{Event}
+use Rattle.osb_event.specs.declared.event.Event.{Event}
 use Rattle.osb_world.specs.declared.messages.Messages.{Messages}
 use Rattle.osb_world.specs.declared.step.Step.{Step}
 use Rattle.osb_world.specs.Possible.{IsPossible}

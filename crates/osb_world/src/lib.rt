@@ -15,7 +15,6 @@
 #![tactic(auto)]
 
 mod cell;
-mod event;
 mod message_list;
 mod messages;
 mod parts;
@@ -24,7 +23,7 @@ mod step;
 mod world;
 
 pub use cell::Cell;
-pub use event::Event;
+pub use osb_event::Event;
 pub use running::run;
 pub use step::Step;
 pub use world::World;

@@ -1,7 +1,9 @@
 //! What is asked for is done, over memory, and how the program ends.
 use super::{carry_out, end, refuse, show_help};
-use crate::command_line::Asked;
-use osb_schedule::{Input, LineFault, Options, Output, ReplayFault};
+use osb_device::{Input, Output};
+use osb_event::Options;
+use osb_language::{LineFault, ReplayFault};
+use osb_words::Asked;
 use std::io;
 use std::io::Write;
 use std::process::ExitCode;

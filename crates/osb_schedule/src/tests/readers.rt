@@ -1,5 +1,7 @@
 //! Readers that fail, give little, or never end.
-use crate::tests::short::{MADE, PLAIN, Pieces, after_plans, in_pieces, outcome, repeated};
+use crate::tests::short::{
+    MADE, PLAIN, Pieces, after_plans, expanded, in_pieces, outcome, repeated,
+};
 use crate::{DeviceFault, Input, LineFault, Output, ReplayFault, replay};
 use std::alloc::Global;
 use std::io;
@@ -99,19 +101,43 @@ fn a_reader_that_fails_at_each_call_in_turn(rt: HostRuntime) -> Result<(), Fail>
     Ok(())
 }
 
+// Each schedule ends with the byte that shows its fault. More bytes follow, and none of them is asked for.
 #[test]
-fn a_line_is_judged_at_its_line_feed(rt: HostRuntime) {
-    let (line, fault) = (1, LineFault::UnknownWord);
-    let judged = ReplayFault::Schedule { line, fault };
-    for &(fails_at, fault) in &[(8, ReplayFault::Read), (9, judged)] {
-        let reader = Pieces {
-            fails_at,
-            ..in_pieces(b"Restart\n", 1)
-        };
-        let (result, written) = outcome(rt.alloc(), reader);
-        assert!(rt; result == Err(fault), "call {fails_at}");
-        assert!(rt; written.is_empty(), "call {fails_at}");
+fn each_fault_is_told_as_soon_as_it_shows(rt: HostRuntime) -> Result<(), Fail> {
+    let long = repeated(rt.alloc(), "#", 513)?;
+    let late = expanded(rt.alloc(), "restart; plan S P sync")?;
+    let twice = expanded(rt.alloc(), "plan S P sync; plan S P async")?;
+    let mut many = repeated(rt.alloc(), "\n", 100_000)?;
+    many.push('#')?;
+    let cases = [
+        (LineFault::NotAscii, 1, "# café\n"),
+        (LineFault::LineTooLong, 1, long.as_str()),
+        (LineFault::UnknownWord, 1, "Restart\n"),
+        (LineFault::WordCount, 1, "restart now\n"),
+        (LineFault::BadId, 1, "send 1\n"),
+        (
+            LineFault::BadChoice,
+            2,
+            "\ndeliver 00000000-0000-0000-0000-000000000001 never\n",
+        ),
+        (LineFault::LatePlan, 2, late.as_str()),
+        (LineFault::DuplicatePlan, 2, twice.as_str()),
+        (LineFault::TooManyLines, 100_001, many.as_str()),
+    ];
+    for &(fault, line, shown) in &cases {
+        let mut schedule = String::from_str(rt.alloc(), shown)?;
+        schedule.push_str("restart\nrestart\n")?;
+        let mut reader = Input::new(in_pieces(schedule.as_bytes(), 1));
+        let mut writer = Output::new(Vec::new(rt.alloc()));
+        let result = replay(rt.alloc(), &mut reader, &mut writer, PLAIN);
+        assert!(rt;
+            result == Err(ReplayFault::Schedule { line, fault }),
+            "{fault}"
+        );
+        assert!(rt; writer.into_inner().is_empty(), "{fault}");
+        assert!(rt; reader.into_inner().calls == shown.len(), "{fault}");
     }
+    Ok(())
 }
 
 #[test]

@@ -1,7 +1,7 @@
 -- The first byte after the blanks tells a comment from other lines.
 use Rattle.std.proofs.Common.{sym, ap, ◌∙◌}
 use Rattle.osb_language.specs.Language.{spelled}
-use Rattle.osb_language.specs.Words.{words_of}
+use Rattle.osb_language.specs.Words.{words_in}
 use Rattle.osb_language.proofs.Splitting.{spelled_comment, spelled_plain}
 use Rattle.osb_language.proofs.line.read_words.Goals as goal
 
@@ -18,7 +18,7 @@ pub returns-in-Some : goal.returns-in-Some
 returns-in-Some c =
     let rest = c.skip_blanks-rest.result.now in
     let first = c.in-Some.first.now in
-    let words = words_of c.in-Some.words.now in
+    let words = words_in c.in-Some.words.now in
     let other = sym c.begins_comment.ensures.comment ∙ c.if-begins_comment.false in
     record {
       line = c.read_spelled.ensures.line

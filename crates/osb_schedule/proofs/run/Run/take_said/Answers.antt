@@ -1,11 +1,11 @@
 -- A line that says nothing or a plan leaves the events as they were.
 use Rattle.std.proofs.Common.{◌≡◌, ◌++◌, List, Ok, None, OnOk, refl, sym, subst, append-nil}
 use Rattle.std.proofs.lemmas.Result.{on_ok_weaker}
-use Rattle.osb_broker.specs.Answers.{Catalogue}
-use Rattle.osb_world.specs.declared.event.Event.{Event}
+use Rattle.osb_message.specs.Plans.{Catalogue}
+use Rattle.osb_event.specs.declared.event.Event.{Event}
 use Rattle.osb_language.specs.declared.line.Line.{Line}
 use Rattle.osb_language.specs.declared.line.Line.TheVariants as Says
-use Rattle.osb_schedule.specs.Schedule.{event_in, fault_after, with_plan}
+use Rattle.osb_lines.specs.Schedule.{event_in, fault_after, with_plan}
 use Rattle.osb_schedule.specs.Run.{IsRunOf}
 use Rattle.osb_schedule.specs.declared.run.Run.{Run}
 use Rattle.osb_schedule.proofs.run.Run.take_said.Goals as goal

@@ -3,7 +3,7 @@ use Rattle.std.proofs.Common.{◌≡◌, true}
 use Rattle.std.specs.Prelude.{Result, Ok, Err, IsOk}
 use Rattle.osb_message.specs.declared.memory.Memory.{Memory}
 use Rattle.osb_broker.specs.declared.outcome.Outcome.TheVariants.{Done}
-use Rattle.osb_world.specs.declared.event.Event.{Event}
+use Rattle.osb_event.specs.declared.event.Event.{Event}
 use Rattle.osb_world.specs.declared.step.Step.{Step}
 use Rattle.osb_world.specs.Views.{IsSound}
 use Rattle.osb_world.proofs.Rounds.{own, free_delivery}

@@ -1,0 +1,13 @@
+//! What a replay does besides running the schedule and reporting.
+
+/// What a replay does besides running the schedule and reporting (this project's choice).
+#[derive(Clone, Copy, Debug, PartialEq, Eq)]
+pub struct Options {
+    /// Whether each recorded instance is settled after the last event, in ascending order of the ids,
+    /// as by `World::settle` of `osb_world`. The report tells what stands then; the counts
+    /// stay those of the schedule's events.
+    pub settle: bool,
+    /// Whether a last line follows: the platform's saved record, as by
+    /// `World::save` of `osb_world`.
+    pub saved: bool,
+}

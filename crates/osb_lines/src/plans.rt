@@ -1,0 +1,43 @@
+//! The plan lines of a schedule.
+ghost use Rattle.std.specs.Prelude.{◌≡◌, None, IfErr, OnOk};
+ghost use Rattle.std.specs.FinMap as map;
+ghost use Rattle.osb_lines.specs.Sink.{IsLineFault};
+ghost use Rattle.osb_lines.specs.Schedule.{plan_fault};
+
+use osb_language::{LineFault, ScheduleFault};
+use osb_message::{AddFault, Catalogue, Mode, PlanId, ServiceId};
+
+/// Adds the plan of the line of this number, which is late where an event stands before it (this project's
+/// choice). It takes memory.
+///
+/// # Errors
+///
+/// [`LineFault::LatePlan`] where it is late, and [`LineFault::DuplicatePlan`] where the catalogue has it, each as
+/// [`ScheduleFault::At`]. [`ScheduleFault::Memory`] where an allocation failed. The catalogue is then as before.
+pub fn add_plan(
+    catalogue: &mut Catalogue,
+    is_late: bool,
+    number: u32,
+    service: ServiceId,
+    plan: PlanId,
+    mode: Mode,
+) -> Result<(), ScheduleFault>
+    ensures good { OnOk result ((plan_fault is_late catalogue.old service plan ≡ None)
+        × (catalogue.new ≡ map.insert catalogue.old (service, plan) mode)) }
+    ensures refused { IfErr result (IsLineFault number (plan_fault is_late catalogue.old service plan)) }
+{
+    if is_late {
+        return Err(ScheduleFault::At {
+            line: number,
+            fault: LineFault::LatePlan,
+        });
+    }
+    match catalogue.add(service, plan, mode) {
+        Ok(()) => Ok(()),
+        Err(AddFault::AlreadyThere) => Err(ScheduleFault::At {
+            line: number,
+            fault: LineFault::DuplicatePlan,
+        }),
+        Err(AddFault::Memory) => Err(ScheduleFault::Memory),
+    }
+}

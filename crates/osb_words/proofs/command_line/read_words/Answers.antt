@@ -1,0 +1,13 @@
+-- An error of the command is told as what it is, and words without one that ask for nothing are refused.
+use Rattle.std.proofs.Common.{inr, sym}
+use Rattle.osb_words.proofs.Explaining.{explained, unasked}
+use Rattle.osb_words.proofs.command_line.read_words.Goals as goal
+
+pub returns-clause-fault : goal.returns-clause-fault
+returns-clause-fault c =
+    explained _ _ c.in-Err.error c.fault_by.result c.in-Ok.ensures.shape c.in-Err.ensures.kinds c.fault_by.ensures.kind
+
+pub returns-in-Ok-try_get_matches_from-clause-fault : goal.returns-in-Ok-try_get_matches_from-clause-fault
+returns-in-Ok-try_get_matches_from-clause-fault c =
+    inr (unasked _ _ _ _ c.in-Ok.ensures.shape c.in-Ok-try_get_matches_from.ensures.kinds
+    c.in-Ok-try_get_matches_from.ensures.matches (sym c.in-None.ensures.asked))

@@ -1,0 +1,81 @@
+-- The command line (this project's choice): the command, as `clap` defines commands, and what words ask for.
+use Rattle.std.specs.Prelude.{◌≡◌, ◌≢◌, ◌⊎◌, Bool, true, false, List, [], Option, Some, None, codes, if◌then◌else◌, ⊤}
+use Rattle.std.specs.Str.{bytes_eq}
+use Rattle.std.specs.Option.{option_map_or}
+use Rattle.clap.specs.Faults.{fault_of}
+use Rattle.clap.specs.Kinds.{IsAmong}
+use Rattle.clap.specs.Walk.{Row, Rule, Text, one_of}
+use Rattle.clap.specs.Simple.{App, new_app, new_rule, on_top, subcommand_of, with_rule, with_subcommand}
+use Rattle.clap.specs.declared.builder.action.ArgAction.TheVariants.{SetTrue}
+use Rattle.clap.specs.declared.error.kind.ErrorKind.{ErrorKind}
+use Rattle.clap.specs.declared.error.kind.ErrorKind.TheVariants.{DisplayHelp, OutOfMemory}
+use Rattle.osb_event.specs.declared.options.Options.{Options}
+use Rattle.osb_words.specs.declared.command_line.Asked.{Asked}
+use Rattle.osb_words.specs.declared.command_line.Asked.TheVariants.{Replay, Table}
+use Rattle.osb_words.specs.declared.command_line.WordsFault.{WordsFault}
+use Rattle.osb_words.specs.declared.command_line.WordsFault.TheVariants.{Help, Refused, Memory}
+
+-- ---- the command
+
+-- an option without a value
+abbrev pub flag : Text → Rule
+flag name = record (new_rule name) { long = Some name; action = Some SetTrue }
+
+abbrev pub replay_command : App
+replay_command = with_rule (with_rule (new_app (codes "replay")) (flag (codes "settle"))) (flag (codes "saved"))
+
+abbrev pub table_command : App
+table_command = new_app (codes "table")
+
+-- a subcommand is required
+abbrev pub program : App
+program = on_top (λ top. record top { subcommand_required = true }) (new_app (codes "osb-replay"))
+
+abbrev pub command : App
+command = with_subcommand (with_subcommand program replay_command.top) table_command.top
+
+-- ---- what words ask for
+
+-- whether the option was given
+abbrev pub is_set : Text → List Row → Bool
+is_set name rows = option_map_or (λ value. bytes_eq value (codes "true")) (one_of name rows) false
+
+abbrev pub options_of : List Row → Options
+options_of rows = record { settle = is_set (codes "settle") rows; saved = is_set (codes "saved") rows }
+
+-- what a subcommand with its matches asks for
+abbrev pub asked_of : Option (Text × List Row) → Option Asked
+asked_of None = None
+asked_of (Some (name, rows)) =
+    if bytes_eq name (codes "replay") then Some (Replay (options_of rows)) else
+    (if bytes_eq name (codes "table") then Some Table else None)
+
+-- what the words ask for: by the subcommand and the matches that the command has on them
+abbrev pub asked_words : List Text → Option Asked
+asked_words words = asked_of (subcommand_of command words)
+
+-- ---- why nothing is done
+
+-- the fault that an error of a kind is told as; memory can run out on the way
+abbrev pub IsTold : ErrorKind → WordsFault → Type 0
+IsTold kind (Help text) = kind ≡ DisplayHelp
+IsTold kind (Refused text) = (kind ≢ DisplayHelp) × (kind ≢ OutOfMemory)
+IsTold kind Memory = ⊤
+
+-- the command has an error on the words that is no call for help
+abbrev pub HasMistake : List Text → Type 0
+HasMistake words = (kind : ErrorKind) × IsAmong kind (fault_of command words) × (kind ≢ DisplayHelp)
+
+-- help is given where the words call for it; they are refused for a mistake, or where they have none and ask for
+-- nothing
+abbrev pub IsWordsFault : List Text → WordsFault → Type 0
+IsWordsFault words (Help text) = IsAmong DisplayHelp (fault_of command words)
+IsWordsFault words (Refused text) =
+    HasMistake words ⊎ ((fault_of command words ≡ []) × (asked_words words ≡ None))
+IsWordsFault words Memory = ⊤
+
+-- a fault that is no call for help
+abbrev pub IsNoHelp : WordsFault → Type 0
+IsNoHelp (Help text) = ⊥
+IsNoHelp (Refused text) = ⊤
+IsNoHelp Memory = ⊤

@@ -1,0 +1,165 @@
+//! The command line (this project's choice).
+ghost use Rattle.std.specs.Prelude.{◌≡◌, [], false, map, IfErr, IfOk, OnOk, string_bytes};
+ghost use Rattle.osb_words.specs.CommandLine.{asked_of, asked_words, command, flag, is_set, program};
+ghost use Rattle.osb_words.specs.CommandLine.{replay_command, table_command, IsWordsFault, IsTold};
+ghost use Rattle.clap.specs.Faults.{fault_of};
+ghost use Rattle.clap.specs.Words.{app_of, found_of, kind_of, rows_of, rule_of, subcommand_rows_of};
+ghost use Rattle.clap.specs.declared.builder.command.Command.TheViews.{out-Command};
+
+use crate::help;
+use clap::error::ErrorKind;
+use clap::{Arg, ArgAction, ArgMatches, Command};
+use osb_event::Options;
+use std::alloc::{AllocError, Global};
+use thiserror::Error;
+
+/// What the words of a command line ask for (this project's choice).
+#[derive(Clone, Copy, Debug, PartialEq, Eq)]
+pub enum Asked {
+    /// To replay the schedule on standard input, with these options.
+    Replay(Options),
+    /// To write the orphan mitigation table.
+    Table,
+}
+
+/// Why the words of a command line ask for nothing that can be done (this project's choice).
+#[derive(Debug, Drop, Error)]
+pub enum WordsFault {
+    /// They ask for help, which is this text.
+    #[error("Help")]
+    Help(String),
+    /// They are refused. The text says why, and how to get help.
+    #[error("Refused")]
+    Refused(String),
+    /// An allocation failed.
+    #[error("Memory")]
+    Memory,
+}
+
+// An option without a value.
+fn make_flag<'a>(alloc: Global, name: &'a str, text: &'a str) -> Arg<'a>
+    ensures rule { rule_of result ≡ flag name.now }
+    ensures local { result.global ≡ false }
+{
+    Arg::new(alloc, name)
+        .long(name)
+        .action(ArgAction::SetTrue)
+        .help(text)
+}
+
+fn make_replay<'a>(alloc: Global) -> Result<Command<'a>, AllocError>
+    ensures shape { IfOk result (λ c. app_of c ≡ replay_command) }
+    ensures local { IfOk result (λ c. (out-Command c).has_globals ≡ false) }
+{
+    let replay = Command::new(alloc, "replay")
+        .about(help::REPLAY)
+        .override_usage(help::REPLAY_USAGE)
+        .after_help(help::REPLAY_OUTPUT)
+        .arg(make_flag(alloc, "settle", help::SETTLE))?
+        .arg(make_flag(alloc, "saved", help::SAVED))?;
+    Ok(replay)
+}
+
+fn make_table<'a>(alloc: Global) -> Command<'a>
+    ensures shape { app_of result ≡ table_command }
+    ensures local { (out-Command result).has_globals ≡ false }
+{
+    Command::new(alloc, "table")
+        .about(help::TABLE)
+        .after_help(help::TABLE_OUTPUT)
+}
+
+// The program's own part of the command. Help has this name, whatever file the program is in.
+fn make_program<'a>(alloc: Global) -> Result<Command<'a>, AllocError>
+    ensures shape { IfOk result (λ c. app_of c ≡ program) }
+{
+    let program = Command::new(alloc, "osb-replay")
+        .about(help::PROGRAM)
+        .override_usage(help::PROGRAM_USAGE)
+        .after_help(help::PROGRAM_START)
+        .subcommand_required(true)
+        .bin_name("osb-replay")?;
+    Ok(program)
+}
+
+fn make_command<'a>(alloc: Global) -> Result<Command<'a>, AllocError>
+    ensures shape { IfOk result (λ c. app_of c ≡ command) }
+{
+    let replay = make_replay(alloc)?;
+    let command = make_program(alloc)?
+        .subcommand(replay)?
+        .subcommand(make_table(alloc))?;
+    Ok(command)
+}
+
+// Whether the flag was given.
+fn read_flag(matches: &ArgMatches<'_>, name: &str) -> bool
+    ensures value { result ≡ is_set name.now (rows_of (found_of matches.now)) }
+{
+    match matches.get_one::<bool>(name) {
+        Some(value) => value,
+        None => false,
+    }
+}
+
+// What the matched words ask for.
+fn asked_by(matches: &ArgMatches<'_>) -> Option<Asked>
+    ensures asked { result ≡ asked_of (subcommand_rows_of matches.now) }
+{
+    match matches.subcommand() {
+        Some(("replay", inner)) => Some(Asked::Replay(Options {
+            settle: read_flag(inner, "settle"),
+            saved: read_flag(inner, "saved"),
+        })),
+        Some(("table", _)) => Some(Asked::Table),
+        _ => None,
+    }
+}
+
+// The fault that an error of `clap` is told as.
+fn fault_by(alloc: Global, error: &clap::Error) -> WordsFault
+    ensures kind { IsTold (kind_of error.now) result }
+{
+    let Ok(text) = error.to_string(alloc) else {
+        return WordsFault::Memory;
+    };
+    match error.kind() {
+        ErrorKind::OutOfMemory => WordsFault::Memory,
+        ErrorKind::DisplayHelp => WordsFault::Help(text),
+        _ => WordsFault::Refused(text),
+    }
+}
+
+/// What the words of a command line ask for (this project's choice).
+///
+/// The first word is the program's name, whatever it is. Then stands `replay`, and after it
+/// `--settle`, `--saved`, both or neither, in either order; or `table`. The words are read by `clap`,
+/// so what they ask for is what its definition of the matches gives for them under this command. It
+/// takes memory, and changes nothing.
+///
+/// # Errors
+///
+/// [`WordsFault::Help`] with the help where they ask for it: by `--help` or `-h`, of the program or of
+/// a subcommand, or by the word `help`. [`WordsFault::Refused`] with a text for the user where they
+/// are none of these. [`WordsFault::Memory`] where an allocation failed, but for one by which `clap` gathers
+/// the letters of a word for the hint in that text: it goes on letter by letter, and the text is the same.
+pub fn read_words(alloc: Global, words: &[String]) -> Result<Asked, WordsFault>
+    ensures asked { IfOk result (λ asked. asked_words (map string_bytes words.now) ≡ Some asked) }
+    ensures faultless { OnOk result (fault_of command (map string_bytes words.now) ≡ []) }
+    ensures fault { IfErr result (IsWordsFault (map string_bytes words.now)) }
+{
+    let Ok(command) = make_command(alloc) else {
+        return Err(WordsFault::Memory);
+    };
+    match command.try_get_matches_from(words) {
+        Ok(matches) => match asked_by(&matches) {
+            Some(asked) => Ok(asked),
+            // This doesn't come: the command has no other subcommand but `help`, which is an error.
+            None => Err(WordsFault::Refused(String::new(alloc))),
+        },
+        Err(error) => Err(fault_by(alloc, &error)),
+    }
+}
+
+#[cfg(test)]
+mod tests;
