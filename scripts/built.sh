@@ -1,8 +1,7 @@
 # What the built program was made of. Read by the launcher and by libosb, and by check, which marks the program that
 # the gate has proved and built as the current one. $top is the folder of the repository. The program is
 # that of the crate $built_crate, osb_replay where nothing else is said, under the name $built_file in its folder out.
-# $built_by is the script at the top that builds it, where rt alone doesn't.
-: "${built_crate:=osb_replay}" "${built_file:=$built_crate}" "${built_by:=}"
+: "${built_crate:=osb_replay}" "${built_file:=$built_crate}"
 out=$top/crates/$built_crate/out
 program=$out/$built_file
 built=$out/built
@@ -22,17 +21,12 @@ crates() {
         END { visit(of) }' "$top/crates.txt"
 }
 
-# What the crate itself stands on, as its line of crates.txt says.
-uses() {
-    sed -n "s/#.*//; s/^${built_crate}\\( [^:]*\\)\\{0,1\\}://p" "$top/crates.txt"
-}
-
 # A digest of the names and contents of the sources. It fails where one of them can't be read.
 sources() (
     set -o pipefail
     cd "$top" || exit 1
     names=$(crates) || exit 1
-    parts=(crates.txt ${built_by:+"$built_by"})
+    parts=(crates.txt)
     for name in $names; do
         for part in src specs proofs; do
             [ ! -e "crates/$name/$part" ] || parts+=("crates/$name/$part")
@@ -72,4 +66,21 @@ is_current() {
 # mark SOURCES VERSION KIT: the program was built from these sources by this kit.
 mark() {
     printf '%s\n' "$1" "$(sha256sum <"$program")" "$2" "$3" >"$built.new" && mv "$built.new" "$built"
+}
+
+# build_crates WHO KIND WORD ..: has scripts/build.py prove and build the crate and all below it, and WHO tell of it.
+# Where this shell is ended, so is the build.
+build_crates() {
+    local who=$1 child signal status
+    shift
+    "$top/scripts/build.py" "$who" "$built_crate" "$@" </dev/null &
+    child=$!
+    for signal in INT TERM HUP; do
+        # shellcheck disable=SC2064
+        trap "kill -TERM $child; wait $child; trap - $signal; kill -$signal \$\$" "$signal"
+    done
+    wait "$child"
+    status=$?
+    trap - INT TERM HUP
+    return "$status"
 }
