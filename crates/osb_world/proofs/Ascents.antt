@@ -1,16 +1,14 @@
 -- What a search finds in a list whose keys ascend, and what an edit at that place does to the map of
 -- its pairs.
-use Rattle.std.proofs.Common.{◌≡◌, ℕ, zero, suc, ◌+◌, ◌-◌, ◌<◌, ◌≤◌, ◌≢◌, cond, List, [], ◌∷◌, length, map, get_or, set}
-use Rattle.std.proofs.Common.{Some, None, IsSome, Result, Ok, Err, IfOk, IfErr, refl, sym, ◌∙◌, ap, subst, arith}
+use Rattle.std.proofs.Common.{◌≡◌, ℕ, zero, suc, ◌+◌, ◌-◌, ◌<◌, ◌≢◌, cond, List, [], ◌∷◌, length, map, get_or, set}
+use Rattle.std.proofs.Common.{Some, None, IsSome, refl, sym, ◌∙◌, ap, subst, arith}
 use Rattle.std.specs.Prelude.{option_map}
 use mathlib.Core.Bool.{false≢true}
 use Rattle.std.specs.List.{insert}
-use Rattle.std.specs.List.Sorted.{IsSearchInRange, IsBinarySearchResult, IsNonDecreasingBy}
-use Rattle.std.specs.Ordering.{nat_cmp, ordering_index, eq_by_cmp}
+use Rattle.std.specs.Ordering.{nat_cmp, eq_by_cmp}
 use Rattle.std.specs.Cmp.{nat_cmp_total}
 use Rattle.std.specs.FinMap as finite
 use Rattle.std.specs.FinMap.{find, get, from_entries, get-from_entries, get-insert, same_map, nat_cmp-IsAntisymmetric}
-use Rattle.std.proofs.lemmas.Cmp.{ranked}
 use Rattle.std.proofs.lemmas.List.Edits.{length-insert, get_or-insert_below, get_or-insert_at, get_or-insert_above}
 use Rattle.std.proofs.lemmas.Bool.Decides.{nat_tests}
 use Rattle.std.proofs.lemmas.Grind.{common_steps}
@@ -76,43 +74,6 @@ module _ {X V : Type 0} (key : X → ℕ) (value : X → V) where
   find_filled f v keeps writes [] q = refl
   find_filled f v keeps writes (x ∷ xs) q =
       grind (arith, nat_tests, keeps x, writes x, find_filled f v keeps writes xs q)
-
-  module _ (xs : List X) (ascending : IsAscending key xs) (k : ℕ) where
-    -- how the keys compare with k rises along the list, as a binary search asks
-    comparisons_rise : IsNonDecreasingBy (λ x. ordering_index (nat_cmp (key x) k)) xs
-    comparisons_rise i j d le in_range =
-        let keys_rise : key (get_or xs i d) ≤ key (get_or xs j d) =
-        grind (arith, ascending i j d, λ (same : i ≡ j). ap (λ n. key (get_or xs n d)) same) in
-        grind (arith, nat_tests)
-
-    -- a binary search by key ends at the key, or at the gap for it
-    pub searched : (r : Result ℕ ℕ) → IsSearchInRange r (length xs) → IsBinarySearchResult (λ x. nat_cmp (key x) k) xs r
-        → record { found : IfOk r (IsAt key xs k); absent : IfErr r (IsGapFor key xs k) }
-    searched (Ok at) in_range equal =
-        record { found = record { in_range = in_range; has_key = λ d. ranked _ k _ (sym (equal d)) }; absent = tt }
-    searched (Err at) in_range parted = record {
-      found = tt;
-      absent = record {
-        in_range = in_range;
-        smaller_before = λ i d lt. ranked _ k _ (sym ((parted comparisons_rise).0 i d (omega arith) lt));
-        greater_after = λ i d le lt. ranked _ k _ (sym ((parted comparisons_rise).1 i d le lt));
-      };
-    }
-
-    -- a key above the last goes to the end
-    pub gap_at_end : (last : ℕ) → last + 1 ≡ length xs → ((d : X) → key (get_or xs last d) < k)
-        → IsGapFor key xs k (length xs)
-    gap_at_end last is_last below = record {
-      in_range = omega arith;
-      smaller_before = λ i d lt. grind (
-        arith,
-        ascending i last d,
-        below d,
-        λ (same : i
-            ≡ last). ap (λ n. key (get_or xs n d)) same,
-      );
-      greater_after = λ i d le lt. absurd (omega arith);
-    }
 
   -- the list as a map
   abbrev pub rows : List X → finite.FinMap nat_cmp V

@@ -6,6 +6,7 @@ pub mod Deprovisions
 pub mod Finishes
 pub mod Kept
 pub mod LostAnswers
+pub mod Orders
 pub mod Polls
 pub mod Possibility
 pub mod Provisions

@@ -1,14 +1,15 @@
-//! The messages of each instance: a list of entries in ascending order of the ids, found by binary
-//! search.
+//! The messages of each instance: a list of entries, and an order of them, in which an id is found
+//! by binary search.
 //!
-//! An insert moves every entry above its place. So each entry lies behind a box, and eight bytes are
-//! moved for it, not the more than a hundred that it has.
+//! The entries stand as they came, and an insert moves none of them. The order has the place of each
+//! in that list, in ascending order of their ids. So an insert moves four bytes for each id above the
+//! new one, and not the more than a hundred that an entry has.
 //!
 //! Contracts see a finite map from ids to messages.
 ghost use Rattle.std.specs.Prelude.{◌≡◌, ℕ, OnOk, OnErr, IsSome, IsOk, IfOk, IfErr, option_map, map};
 ghost use Rattle.std.specs.FinMap as finite;
-ghost use Rattle.osb_world.specs.Ascending.{IsAscending, IsAt, IsGapFor};
-ghost use Rattle.osb_world.specs.Entries.{id_of, silence, silenced};
+ghost use Rattle.osb_world.specs.Ascending.{IsAt, IsGapFor};
+ghost use Rattle.osb_world.specs.Entries.{IsOrder, at_places, id_of, messages_at, silence, silenced};
 
 use crate::messages::{Messages, SILENCE};
 use osb_message::{InstanceId, Memory};
@@ -23,25 +24,81 @@ struct Entry {
     messages: Messages,
 }
 
-// Where the id is, or where it would go. The last entry is looked at first, since ids often come in
-// rising order.
-fn place(entries: &[Box<Entry>], id: InstanceId) -> Result<usize, usize>
-    requires ascending { IsAscending id_of entries.now }
-    ensures found { IfOk result (IsAt id_of entries.now id) }
-    ensures absent { IfErr result (IsGapFor id_of entries.now id) }
+// Where in the order the id is, or where it would go: a binary search.
+fn search(entries: &[Entry], order: &[u32], id: InstanceId) -> Result<usize, usize>
+    requires ordered { IsOrder entries.now order.now }
+    ensures found { IfOk result (IsAt id_of (at_places entries.now order.now) id) }
+    ensures absent { IfErr result (IsGapFor id_of (at_places entries.now order.now) id) }
 {
-    let Some(last) = entries.last() else {
+    let mut low = 0;
+    let mut high = order.len();
+    while low < high {
+        let middle = low + (high - low) / 2;
+        match entries[order[middle] as usize].id.cmp(&id) {
+            Ordering::Less => low = middle + 1,
+            Ordering::Equal => return Ok(middle),
+            Ordering::Greater => high = middle,
+        }
+    }
+    Err(low)
+}
+
+// Where in the order the id is, or where it would go. The last is looked at first, since ids often
+// come in rising order.
+fn place(entries: &[Entry], order: &[u32], id: InstanceId) -> Result<usize, usize>
+    requires ordered { IsOrder entries.now order.now }
+    ensures found { IfOk result (IsAt id_of (at_places entries.now order.now) id) }
+    ensures absent { IfErr result (IsGapFor id_of (at_places entries.now order.now) id) }
+{
+    let Some(last) = order.last() else {
         return Err(0);
     };
-    match last.id.cmp(&id) {
-        Ordering::Less => Err(entries.len()),
-        Ordering::Equal => Ok(entries.len() - 1),
-        Ordering::Greater => entries.binary_search_by_key(&id, |entry| entry.id),
+    match entries[*last as usize].id.cmp(&id) {
+        Ordering::Less => Err(order.len()),
+        Ordering::Equal => Ok(order.len() - 1),
+        Ordering::Greater => search(entries, order, id),
     }
 }
 
+// Writes over the entry of the id, which is there in the order.
+fn write(entries: &mut Vec<Entry>, order: &[u32], at: usize, id: InstanceId, messages: Messages)
+    requires ordered { IsOrder entries.old.items order.now }
+    requires there { IsAt id_of (at_places entries.old.items order.now) id at }
+    ensures ordered { IsOrder entries.new.items order.now }
+    ensures written { messages_at entries.new.items order.now
+        ≡ finite.insert (messages_at entries.old.items order.now) id messages }
+{
+    entries[order[at] as usize] = Entry { id, messages };
+}
+
+// Makes an entry for the id, which would go there in the order. Room for the entry is made first, so
+// that nothing is written where an allocation fails. A place is below 2^32, and an entry that would
+// come at a higher one is refused as for want of memory.
+fn add(
+    entries: &mut Vec<Entry>,
+    order: &mut Vec<u32>,
+    at: usize,
+    id: InstanceId,
+    messages: Messages,
+) -> Result<(), Memory>
+    requires ordered { IsOrder entries.old.items order.old.items }
+    requires absent { IsGapFor id_of (at_places entries.old.items order.old.items) id at }
+    ensures ordered { IsOrder entries.new.items order.new.items }
+    ensures ok { OnOk result (messages_at entries.new.items order.new.items
+        ≡ finite.insert (messages_at entries.old.items order.old.items) id messages) }
+    ensures err { OnErr result (messages_at entries.new.items order.new.items
+        ≡ messages_at entries.old.items order.old.items) }
+{
+    let Ok(end) = u32::try_from(entries.len()) else {
+        return Err(Memory);
+    };
+    entries.reserve(1)?;
+    order.insert(at, end)?;
+    Ok(entries.push(Entry { id, messages })?)
+}
+
 // Silences each entry in its place.
-fn silence_entries(entries: &mut Vec<Box<Entry>>)
+fn silence_entries(entries: &mut Vec<Entry>)
     ensures silenced { entries.new.items ≡ map silenced entries.old.items }
 {
     for i in 0..entries.len() {
@@ -52,7 +109,10 @@ fn silence_entries(entries: &mut Vec<Box<Entry>>)
 // What is between the platform and the broker, for each instance that has an entry.
 #[derive(Drop)]
 pub(crate) struct MessageList {
-    entries: Vec<Box<Entry>>,
+    // As they came.
+    entries: Vec<Entry>,
+    // The place in `entries` of each, in ascending order of the ids.
+    order: Vec<u32>,
 }
 
 impl Model for MessageList {
@@ -61,16 +121,15 @@ impl Model for MessageList {
     ghost use Rattle.std.specs.Coded.{coded_ℕ};
     ghost use Rattle.osb_world.specs.declared.messages.Messages.{Messages};
     ghost use Rattle.osb_world.specs.contracts.messages.Messages as messages;
-    ghost use Rattle.osb_world.specs.Ascending.{IsAscending, pairs};
-    ghost use Rattle.osb_world.specs.Entries.{id_of, messages_of};
+    ghost use Rattle.osb_world.specs.Entries.{IsOrder, messages_at};
 
     ghost Value = { map.FinMap nat_cmp Messages };
 
     ghost coded = { map.code coded_ℕ messages.the_row.coded };
 
-    ghost view = { λ a. map.from_entries (pairs id_of messages_of a.entries.items) };
+    ghost view = { λ a. messages_at a.entries.items a.order.items };
 
-    ghost invariant = { λ a. IsAscending id_of a.entries.items };
+    ghost invariant = { λ a. IsOrder a.entries.items a.order.items };
 }
 
 impl MessageList {
@@ -80,6 +139,7 @@ impl MessageList {
     {
         MessageList {
             entries: Vec::new(alloc),
+            order: Vec::new(alloc),
         }
     }
 
@@ -87,8 +147,8 @@ impl MessageList {
     pub(crate) fn get(&self, id: InstanceId) -> Option<Messages>
         ensures found { result ≡ finite.get self.now id }
     {
-        match place(&self.entries, id) {
-            Ok(at) => Some(self.entries[at].messages),
+        match place(&self.entries, &self.order, id) {
+            Ok(at) => Some(self.entries[self.order[at] as usize].messages),
             Err(_) => None,
         }
     }
@@ -100,15 +160,12 @@ impl MessageList {
         ensures err { OnErr result (self.new ≡ self.old) }
         ensures written { IsSome (finite.get self.old id) → IsOk result }
     {
-        match place(&self.entries, id) {
+        match place(&self.entries, &self.order, id) {
             Ok(at) => {
-                *self.entries[at] = Entry { id, messages };
+                write(&mut self.entries, &self.order, at, id, messages);
                 Ok(())
             }
-            Err(at) => {
-                let entry = Box::new(*self.entries.allocator(), Entry { id, messages })?;
-                Ok(self.entries.insert(at, entry)?)
-            }
+            Err(at) => add(&mut self.entries, &mut self.order, at, id, messages),
         }
     }
 
@@ -117,10 +174,10 @@ impl MessageList {
         requires present { IsSome (finite.get self.old id) }
         ensures replaced { self.new ≡ finite.insert self.old id messages }
     {
-        let Ok(at) = place(&self.entries, id) else {
+        let Ok(at) = place(&self.entries, &self.order, id) else {
             unreachable!()
         };
-        *self.entries[at] = Entry { id, messages };
+        write(&mut self.entries, &self.order, at, id, messages);
     }
 
     // Silences every instance, in its entry. It takes no memory.

@@ -1,29 +1,23 @@
-use Rattle.std.proofs.Common.{rules, arith, length, ◌-◌, sym, subst, ap, ◌∙◌, ◌<◌}
-use Rattle.std.proofs.lemmas.List.Sorted.{answers_always}
-use Rattle.std.proofs.lemmas.Cmp.{ranked}
+use Rattle.std.proofs.Common.{arith, length, get_or, sym, ap, ◌∙◌, ◌-◌}
+use Rattle.std.proofs.lemmas.List.{length-map}
 use Rattle.std.specs.Ordering.{nat_cmp}
-use Rattle.osb_world.specs.Entries.{id_of, messages_of}
-use Rattle.osb_world.proofs.Ascents.{searched, gap_at_end}
+use Rattle.osb_world.specs.Entries.{entry_at}
+use Rattle.osb_world.proofs.Orders.{smaller_to}
 use Rattle.osb_world.proofs.message_list.place.Goals as goal
 
 -- the id is above the last
 pub returns-in-Less-clause-absent : goal.returns-in-Less-clause-absent
 returns-in-Less-clause-absent c =
+    let entries = c.args.entries.now in
+    let order = c.args.order.now in
+    let long = length-map order (entry_at entries) in
     let item = c.in-Some.ensures.item in
-    let below : c.in-Some.last.now.value.id < c.args.id =
-    ranked _ _ _ (sym c.in-Less.is ∙ c.cmp.ensures ∙ ap (λ e. nat_cmp e.id c.args.id) c.deref.ensures) in
-    gap_at_end id_of messages_of c.args.entries.now c.requires.ascending c.args.id (length c.args.entries.now - 1)
-    (omega (arith, item.3.0)) (λ d. subst (λ e. e.value.id < c.args.id) (item.3.1 d) below)
-
--- the closure gives an entry's id
-pub returns-in-Greater-clause-found : goal.returns-in-Greater-clause-found
-returns-in-Greater-clause-found c =
-    let facts = c.binary_search_by_key.ensures in
-    let by_key = facts.position id_of (answers_always _ _ _ (λ f a r h called. search rules)) in
-    (searched id_of messages_of _ c.requires.ascending c.args.id _ facts.bound by_key).found
-
-pub returns-in-Greater-clause-absent : goal.returns-in-Greater-clause-absent
-returns-in-Greater-clause-absent c =
-    let facts = c.binary_search_by_key.ensures in
-    let by_key = facts.position id_of (answers_always _ _ _ (λ f a r h called. search rules)) in
-    (searched id_of messages_of _ c.requires.ascending c.args.id _ facts.bound by_key).absent
+    record {
+      in_range = omega arith;
+      smaller_before = λ i d lt. smaller_to entries order c.requires.ordered (length order - 1) c.args.id
+          c.index-entries-last.result (omega (arith, item.3.0))
+          (sym c.in-Less.is ∙ c.cmp.ensures
+          ∙ ap (λ n. nat_cmp (get_or entries n c.index-entries-last.result).id c.args.id) (item.3.1 0))
+          i d (omega arith);
+      greater_after = λ i d le lt. absurd (omega arith);
+    }
