@@ -156,11 +156,12 @@ fn tell_calls(
     Ok(())
 }
 
-// Of an instance that was never recorded, no event applies but its Create, and none makes room for it.
+// Of an instance that was never recorded, no event applies but its Create, and none makes room for it. The world is
+// empty, so that the first room that is made takes memory.
 pub fn unrecorded(rt: &impl Print, alloc: Global) -> Result<()> {
     let id = third();
     let outcome = Outcome::Done;
-    let mut case = case_after(alloc, &made(), Call::Ids)?;
+    let mut case = case_after(alloc, &[], Call::Ids)?;
     let calls = [
         (Event::Remove { id }, "World::step, Remove, without memory"),
         (Event::Send { id }, "World::step, Send, without memory"),
