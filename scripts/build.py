@@ -189,21 +189,27 @@ class Build:
         self.ended = 0
         self.begun = time.monotonic()
         self.locks: list[int] = []
-        self.shows = ""
+        self.shows = False
 
     # ---- what is told
 
     def say(self, text: str) -> None:
         """A line for good, below what is shown."""
-        if self.shows:
-            print(file=sys.stderr)
-        self.shows = ""
+        self.leave_shown()
         print(f"{self.who}: {text}", file=sys.stderr, flush=True)
 
     def show(self, text: str) -> None:
         """On a terminal, a line in the place of the one before."""
-        self.shows = f"{self.who}: {text}, {self.clock()}"[: os.get_terminal_size(2).columns - 1]
-        print(f"\r\033[K{self.shows}", end="", file=sys.stderr, flush=True)
+        self.shows = True
+        columns = os.get_terminal_size(sys.stderr.fileno()).columns or 80
+        line = f"{self.who}: {text}, {self.clock()}"[: columns - 1]
+        print(f"\r\033[K{line}", end="", file=sys.stderr, flush=True)
+
+    def leave_shown(self) -> None:
+        """What is shown stays, and what follows stands below it."""
+        if self.shows:
+            print(file=sys.stderr, flush=True)
+        self.shows = False
 
     def clock(self) -> str:
         minutes, seconds = divmod(int(time.monotonic() - self.begun), 60)
@@ -218,9 +224,9 @@ class Build:
         return f"crate {number} of {len(self.crates)}, {name}" + (f", {proved} functions proved" if proved else "")
 
     def of_several(self) -> str:
-        each = [f"{it.name} {functions_proved(self.words_of(it.name))}".rstrip() for it in self.running]
-        first, last = self.ended + 1, self.ended + len(each)
-        return f"crates {first} to {last} of {len(self.crates)}, {', '.join(each)} functions proved"
+        proved = [(it.name, functions_proved(self.words_of(it.name))) for it in self.running]
+        each = [f"{name} {count} proved" if count else name for name, count in proved]
+        return f"crates {self.ended + 1} to {self.ended + len(each)} of {len(self.crates)}, {', '.join(each)}"
 
     def tell_running(self) -> None:
         if sys.stderr.isatty() and self.running:
@@ -369,6 +375,7 @@ class Build:
             self.stop()
             raise
         finally:
+            self.leave_shown()
             remove(self.rooms)
         return 0
 
