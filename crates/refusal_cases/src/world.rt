@@ -102,7 +102,10 @@ fn case_after(alloc: Global, events: &[Event], call: Call) -> Result<WorldCase> 
 pub fn steps(rt: &impl Print, alloc: Global) -> Result<()> {
     let events = [
         (create(first()), "World::step, Create of a first instance"),
-        (create(second()), "World::step, Create of a second instance"),
+        (
+            create(second()),
+            "World::step, Create of a second instance, for which there is room, without memory",
+        ),
         (deliver(first()), "World::step, Deliver of a first row"),
         (
             deliver(second()),
