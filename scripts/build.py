@@ -31,8 +31,10 @@ KEPT = "out/incremental"
 MEMORY = 5 << 30
 PROCESSORS = len(os.sched_getaffinity(0))
 LANES = max(1, 3 * PROCESSORS // 4)
+# This process is to end. What whoever started it ignores, as nohup does, stays ignored.
+ENDS = [it for it in (signal.SIGINT, signal.SIGTERM, signal.SIGHUP) if signal.getsignal(it) != signal.SIG_IGN]
 # They wait, each until it is asked for: a child has ended, or this process is to end.
-SIGNALS = (signal.SIGCHLD, signal.SIGINT, signal.SIGTERM, signal.SIGHUP)
+SIGNALS = [signal.SIGCHLD, *ENDS]
 PARENT = os.getppid()
 PROGRESS = re.compile(r"^so far: (\d+ of \d+) functions checked|\bfunctions=(\d+)", re.MULTILINE)
 
@@ -84,10 +86,17 @@ def crates_of(wanted: str) -> dict[str, Crate]:
     return dict(reversed(order.items()))
 
 
+def size(file: Path) -> int:
+    """The file's bytes; none where an editor has just taken it away."""
+    try:
+        return file.lstat().st_size
+    except FileNotFoundError:
+        return 0
+
+
 def weight(name: str) -> int:
     """The bytes of a crate's sources: about how long its proof takes."""
-    files = [file for part in SOURCES for file in (TOP / "crates" / name / part).rglob("*")]
-    return sum(file.lstat().st_size for file in files)
+    return sum(size(file) for part in SOURCES for file in (TOP / "crates" / name / part).rglob("*"))
 
 
 def ways(crates: dict[str, Crate]) -> dict[str, int]:
@@ -139,6 +148,14 @@ def remove(folder: Path) -> None:
         if not folder.exists():
             return
         time.sleep(0.1)
+
+
+def remove_any(path: Path) -> None:
+    """Removes a folder with all in it, or a file."""
+    if path.is_dir() and not path.is_symlink():
+        remove(path)
+    else:
+        path.unlink(missing_ok=True)
 
 
 def taken(lock: int) -> bool:
@@ -299,6 +316,13 @@ class Build:
             made.rename(out / made.name)
         remove(room)
 
+    def leave(self, name: str) -> None:
+        """Of a room in which rt was killed, keeps what it had proved alone: of the rest nobody knows how far it is."""
+        for made in [*(self.rooms / name / "crates" / name / "out").glob("*")]:
+            if made.name != Path(KEPT).name:
+                remove_any(made)
+        self.empty(name)
+
     # ---- the crates
 
     def command(self, name: str) -> tuple[Path, list[str]]:
@@ -356,15 +380,15 @@ class Build:
                 os.killpg(job.process.pid, signal.SIGKILL)
         for job in self.running:
             job.process.wait()
-            self.empty(job.name)
+            self.leave(job.name)
             self.keep_words(job.name)
 
     def run(self) -> int:
         self.hold()
-        remove(self.rooms)
-        self.rooms.mkdir(parents=True)
-        self.log.write_bytes(b"")
         try:
+            remove(self.rooms)
+            self.rooms.mkdir(parents=True)
+            self.log.write_bytes(b"")
             self.build()
         except NotBuilt as failed:
             self.stop()

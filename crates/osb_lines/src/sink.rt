@@ -17,12 +17,14 @@ pub trait Sink: Drop {
     // How many events the sink has let happen.
     ghost happened: { Self → ℕ };
 
-    /// Takes the line of this number, from 1, without its line feed.
+    /// Takes the line of this number, from 1, without its line feed, of a sink that has let fewer than 100,000
+    /// events happen. It may take memory.
     ///
     /// # Errors
     ///
     /// [`ScheduleFault::At`] with the fault of what the line says, after those that were taken before.
-    /// [`ScheduleFault::Memory`] where an allocation failed.
+    /// [`ScheduleFault::Memory`] where an allocation failed. No event has happened then, and the sink is given no
+    /// further line.
     fn take_line(&mut self, number: u32, line: &[u8]) -> Result<(), ScheduleFault>
         requires room { happened self.old < most_lines }
         ensures good { (earlier : List (List ℕ)) → has_taken earlier self.old

@@ -20,9 +20,9 @@
 //!
 //! A schedule that begins with a plan line, creates an instance of the plan, has the request
 //! delivered and its answer taken, is reported as `ID ready ready`, `applied 3` and `skipped 0`, a
-//! line each. What the events do is `osb_world`'s to say, and what a line says `osb_language`'s, whose
-//! [`read_line`], [`Line`] and [`LineFault`] are passed on from here. The language, the report and the
-//! statuses are this project's choice.
+//! line each. What the events do is `osb_world`'s to say, and what a line says `osb_language`'s. What a caller
+//! needs of the crates below is passed on from here. The language, the report and the statuses are this
+//! project's choice.
 //!
 //! [`read_schedule`] reads a schedule that stands in memory and lets nothing happen: its plans and its
 //! events are what [`run`](osb_world::run) takes.

@@ -1,12 +1,10 @@
 pub mod Agreements
-pub mod Ascents
 pub mod Commands
 pub mod Deliveries
 pub mod Deprovisions
 pub mod Finishes
 pub mod Kept
 pub mod LostAnswers
-pub mod Orders
 pub mod Polls
 pub mod Possibility
 pub mod Provisions

@@ -1,7 +1,5 @@
 pub mod Agreement
-pub mod Ascending
 pub mod Cell
-pub mod Entries
 pub mod Events
 pub mod Possible
 pub mod Settling

@@ -7,10 +7,10 @@ use Rattle.osb_message.specs.Plans.{Catalogue}
 use Rattle.osb_broker.specs.Holding.{Holding, holding_code}
 use Rattle.osb_platform.specs.contracts.row.PlatformRow as row
 use Rattle.osb_platform.specs.declared.row.PlatformRow.{PlatformRow}
-use Rattle.osb_world.specs.contracts.messages.Messages as between
+use Rattle.osb_in_flight.specs.contracts.messages.Messages as between
 use Rattle.osb_world.specs.declared.cell.Cell.{Cell}
 use Rattle.osb_event.specs.declared.event.Event.{Event}
-use Rattle.osb_world.specs.declared.messages.Messages.{Messages}
+use Rattle.osb_in_flight.specs.declared.messages.Messages.{Messages}
 use Rattle.osb_world.specs.declared.step.Step.{Step}
 use Rattle.osb_world.specs.Possible.{IsPossible}
 use Rattle.osb_world.specs.Steps.{cell_step}

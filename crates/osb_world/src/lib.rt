@@ -15,8 +15,6 @@
 #![tactic(auto)]
 
 mod cell;
-mod message_list;
-mod messages;
 mod parts;
 mod running;
 mod step;

@@ -11,10 +11,9 @@ ghost use Rattle.osb_world.specs.Steps.{applies, cell_step, takes_memory};
 ghost use Rattle.osb_world.specs.Views.{catalogue_of, cell_at, step_of};
 ghost use Rattle.osb_world.specs.Views.{IsPlaced, IsSame, IsSound, IsStepOf};
 
-use crate::message_list::MessageList;
-use crate::messages::{Messages, SILENCE};
 use crate::{Cell, Event, Step};
 use osb_broker::{Broker, Outcome};
+use osb_in_flight::{MessageList, Messages, SILENCE};
 use osb_message::{Answer, Body, Catalogue, InstanceId, Memory, PlanId, ServiceId};
 use osb_platform::{CreateFault, LoadFault, Platform};
 use std::alloc::Global;

@@ -64,7 +64,8 @@ impl World {
     /// # Errors
     ///
     /// [`Memory`] where an allocation failed, which only a Create that applies asks for, a Deliver or
-    /// a Repeat that makes a broker's row, and a Restart. Every cell is then as before.
+    /// a Repeat that makes a broker's row, and a Restart; or where a Create would record one instance more
+    /// than 2^32. Every cell is then as before.
     pub fn step(&mut self, alloc: Global, event: Event) -> Result<Step, Memory>
         ensures cells { OnOk result ((id : ℕ) →
             cell_at self.new id ≡ next_cell (catalogue_of self.old) id (cell_at self.old id) event) }

@@ -5,7 +5,7 @@ use Rattle.std.specs.FinMap as map
 use Rattle.std.specs.Ordering.{nat_cmp}
 use Rattle.std.specs.Prelude.{IsSome, refl}
 use Rattle.osb_message.proofs.Maps.{get-insert_same, get-insert_other}
-use Rattle.osb_world.specs.declared.messages.Messages.{Messages}
+use Rattle.osb_in_flight.specs.declared.messages.Messages.{Messages}
 use Rattle.osb_world.specs.Views.{IsPlaced}
 use Rattle.osb_world.proofs.parts.Parts.deliver.Goals as goal
 

@@ -1,8 +1,0 @@
-use Rattle.std.proofs.Common.{◌≡◌, ◌++◌, map, take, drop}
-use Rattle.osb_world.specs.Entries.{silenced}
-use Rattle.osb_world.proofs.message_list.silence_entries.Given as goal
-
--- the entries before the index are silent
-abbrev pub invariant-loop-i : goal.invariant-loop-i
-invariant-loop-i l =
-    l.entries.items ≡ map silenced (take l.i l.fn.entries.items) ++ drop l.i l.fn.entries.items
