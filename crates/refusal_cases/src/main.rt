@@ -14,6 +14,7 @@ mod platform;
 mod rows;
 mod schedules;
 mod telling;
+mod wire;
 mod world;
 
 use anyhow::{Result, bail};
@@ -21,7 +22,7 @@ use std::alloc::Global;
 use std::env;
 
 // The parts, in the order in which they are told.
-const PARTS: [&str; 20] = [
+const PARTS: [&str; 21] = [
     "rows-insert",
     "rows-ids",
     "catalogue-add",
@@ -42,6 +43,7 @@ const PARTS: [&str; 20] = [
     "world-save",
     "run",
     "read-schedule",
+    "wire",
 ];
 
 fn tell(rt: &impl Print, alloc: Global, part: &str) -> Result<()> {
@@ -66,6 +68,7 @@ fn tell(rt: &impl Print, alloc: Global, part: &str) -> Result<()> {
         "world-save" => world::save(rt, alloc),
         "run" => world::run_events(rt, alloc),
         "read-schedule" => schedules::read(rt, alloc),
+        "wire" => wire::calls(rt, alloc),
         _ => bail!("no part has this name"),
     }
 }

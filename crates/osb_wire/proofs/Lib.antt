@@ -1,0 +1,11 @@
+pub mod BodyValues
+pub mod CarriedAnswers
+pub mod IdBytes
+pub mod Paths
+pub mod ProvisionsBack
+pub mod Queries
+pub mod RefusalTexts
+pub mod RequestsBack
+pub mod SameBytes
+pub mod Seconds
+pub mod TargetsBack

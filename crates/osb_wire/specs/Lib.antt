@@ -1,0 +1,10 @@
+pub mod Answers
+pub mod Asking
+pub mod Bodies
+pub mod CatalogueDocuments
+pub mod HeaderValues
+pub mod Provisions
+pub mod Refusals
+pub mod Requests
+pub mod Targets
+pub mod WrittenAnswers

@@ -1,0 +1,48 @@
+//! What stands in a body of JSON.
+ghost use Rattle.std.specs.Prelude.{◌≡◌, IfOk, option_map};
+ghost use Rattle.serde_json.specs.View.{view};
+ghost use Rattle.osb_wire.specs.Bodies.{value_in, object_in, text_at};
+
+use osb_message::Memory;
+use serde_json::Value;
+use std::alloc::Global;
+
+// The value that a body is, if it is UTF-8 and JSON.
+#[tactic(auto, using(crate::proofs::BodyValues::value_in_text, crate::proofs::BodyValues::value_in_no_text))]
+pub(crate) fn read_value(alloc: Global, body: &[u8]) -> Result<Option<Value>, Memory>
+    ensures value { IfOk result (λ value. option_map view value ≡ value_in body.now) }
+{
+    let Ok(text) = std::str::from_utf8(body) else {
+        return Ok(None);
+    };
+    match Value::from_str(alloc, text) {
+        Ok(value) => Ok(Some(value)),
+        Err(error) => {
+            if error.is_memory() {
+                Err(Memory)
+            } else {
+                Ok(None)
+            }
+        }
+    }
+}
+
+// The object that a body is.
+pub(crate) fn read_object(alloc: Global, body: &[u8]) -> Result<Option<Value>, Memory>
+    ensures object { IfOk result (λ value. option_map view value ≡ object_in body.now) }
+{
+    let Some(value) = read_value(alloc, body)? else {
+        return Ok(None);
+    };
+    if value.as_object().is_none() {
+        return Ok(None);
+    }
+    Ok(Some(value))
+}
+
+// The string that stands under a name.
+pub(crate) fn read_text<'v>(value: &'v Value, name: &str) -> Option<&'v str>
+    ensures text { option_map (λ text. text.now) result ≡ text_at name.now (view value.now) }
+{
+    value.get(name).and_then(Value::as_str)
+}
