@@ -1,2 +1,3 @@
 mod HeldLemmas
 mod MemoryLemmas
+pub mod Modes

@@ -1,5 +1,6 @@
 pub mod Answers
 pub mod Change
+pub mod Decided
 pub mod Deprovision
 pub mod Finished
 pub mod Handled

@@ -8,7 +8,7 @@ ghost use Rattle.osb_broker.specs.Finished.{finished, is_running};
 ghost use Rattle.osb_broker.specs.Handled.{handled_by, makes_row};
 ghost use Rattle.osb_broker.specs.Held.{IsHeld, IsHeldAt};
 
-use crate::decision::{Change, decide};
+use crate::decision::{Change, decide_in};
 use crate::{BrokerRow, NothingRunning, Outcome, finishing};
 use osb_message::{Answer, Catalogue, InstanceId, Memory, Request, Rows};
 use std::alloc::Global;
@@ -151,7 +151,7 @@ impl Broker {
         ensures held { (id : ℕ) → IsHeldAt self.new.catalogue self.new.rows id }
     {
         let row = self.rows.get(request.id);
-        let decision = decide(&self.catalogue, row, request, outcome);
+        let decision = decide_in(&self.catalogue, row, request, outcome);
         apply(&mut self.rows, request.id, decision.change)?;
         Ok(decision.answer)
     }

@@ -9,8 +9,13 @@ use crate::{BrokerRow, Phase};
 #[derive(Clone, Copy, Debug, PartialEq, Eq)]
 pub struct NothingRunning;
 
-// The row after its operation has ended well (`ok`) or badly.
-pub(crate) fn finished(row: BrokerRow, ok: bool) -> Result<Option<BrokerRow>, NothingRunning>
+/// The row, or none, after the operation that runs on its instance has ended well (`ok`) or badly: the table
+/// of [`Broker::finish`](crate::Broker::finish), for who keeps the rows elsewhere. It takes no memory.
+///
+/// # Errors
+///
+/// [`NothingRunning`] exactly where the instance is neither being made nor being deleted.
+pub fn finished(row: BrokerRow, ok: bool) -> Result<Option<BrokerRow>, NothingRunning>
     ensures running { IsOk result ↔ IsTrue (spec.is_running_in row.phase) }
     ensures row { IfOk result (λ after. after ≡ spec.finished_in row.phase row ok) }
 {

@@ -6,6 +6,9 @@
 //! asynchronous operation ended. Sections are those of the Open Service Broker API Specification
 //! 2.17.
 //!
+//! [`decide`] and [`finished`] are the same tables for one row, for who keeps the rows elsewhere, as
+//! `osb_instance` does.
+//!
 //! Contracts see a broker as its catalogue and a finite map from instance ids to rows.
 #![tactic(auto)]
 
@@ -20,7 +23,8 @@ mod provision;
 mod row;
 
 pub use broker::Broker;
-pub use finishing::NothingRunning;
+pub use decision::{Decided, decide};
+pub use finishing::{NothingRunning, finished};
 pub use outcome::Outcome;
 pub use row::{BrokerRow, Phase};
 

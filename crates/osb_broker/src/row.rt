@@ -2,7 +2,7 @@
 ghost use Rattle.std.specs.Prelude.{◌≡◌, Some};
 ghost use Rattle.std.specs.Fmt.{styled_text};
 ghost use Rattle.osb_broker.specs.Answers.{same_plan};
-ghost use Rattle.osb_broker.specs.Words.{phase_word};
+ghost use Rattle.osb_broker.specs.Words.{phase_word, phase_named};
 
 use osb_message::{PlanId, Request, ServiceId};
 use std::fmt;
@@ -39,6 +39,21 @@ impl Phase {
             Phase::Failed => "failed",
             Phase::Deleting => "deleting",
             Phase::DeleteFailed => "delete-failed",
+        }
+    }
+
+    /// The phase that a word names, as [`Phase::word`] gives it; none for every other text (this project's
+    /// choice). It takes no memory.
+    pub fn from_word(word: &str) -> Option<Phase>
+        ensures phase { result ≡ phase_named word.now }
+    {
+        match word {
+            "making" => Some(Phase::Making),
+            "ready" => Some(Phase::Ready),
+            "failed" => Some(Phase::Failed),
+            "deleting" => Some(Phase::Deleting),
+            "delete-failed" => Some(Phase::DeleteFailed),
+            _ => None,
         }
     }
 }

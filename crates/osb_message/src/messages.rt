@@ -1,8 +1,11 @@
 //! Requests and answers, as far as the life of a service instance needs them.
-ghost use Rattle.std.specs.Prelude.{◌≡◌};
+ghost use Rattle.std.specs.Prelude.{◌≡◌, Some};
+ghost use Rattle.std.specs.Fmt.{styled_text};
 ghost use Rattle.osb_message.specs.Messages.{well_formed};
+ghost use Rattle.osb_message.specs.Words.{kind_word, kind_named};
 
 use crate::{InstanceId, PlanId, ServiceId};
+use std::fmt;
 
 /// Which of the three requests a platform makes.
 #[derive(Clone, Copy, Debug, PartialEq, Eq, Hash)]
@@ -14,6 +17,43 @@ pub enum Kind {
     Poll,
     /// `DELETE` on the service instance (section Deprovisioning).
     Deprovision,
+}
+
+impl Kind {
+    /// The word of the kind: `provision`, `poll` or `deprovision` (this project's choice). It takes no memory.
+    pub fn word(self) -> &'static str
+        ensures word { result.now ≡ kind_word self }
+    {
+        match self {
+            Kind::Provision => "provision",
+            Kind::Poll => "poll",
+            Kind::Deprovision => "deprovision",
+        }
+    }
+
+    /// The kind that a word names, as [`Kind::word`] gives it; none for every other text (this project's choice).
+    /// It takes no memory.
+    pub fn from_word(word: &str) -> Option<Kind>
+        ensures kind { result ≡ kind_named word.now }
+    {
+        match word {
+            "provision" => Some(Kind::Provision),
+            "poll" => Some(Kind::Poll),
+            "deprovision" => Some(Kind::Deprovision),
+            _ => None,
+        }
+    }
+}
+
+/// Writes the kind's word, as [`Kind::word`] gives it (this project's choice).
+impl fmt::Display for Kind {
+    ghost output = { λ kind. Some (kind_word kind) };
+
+    ghost styled_output = { λ kind style. Some (styled_text style (kind_word kind)) };
+
+    fn fmt<W: fmt::Write>(&self, f: &mut fmt::Formatter<W>) -> fmt::Result {
+        f.pad(self.word())
+    }
 }
 
 /// A request from the platform to the broker.

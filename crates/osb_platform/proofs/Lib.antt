@@ -1,5 +1,5 @@
 pub mod Ascending
 mod LoadedRows
-mod RowText
+pub mod RowText
 mod SavedRows
-mod Sound
+pub mod Sound

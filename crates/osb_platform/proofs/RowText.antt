@@ -8,7 +8,7 @@ use Rattle.osb_platform.specs.declared.row.PlatformRow.{PlatformRow}
 use Rattle.osb_platform.specs.declared.state.State.{State}
 use Rattle.osb_platform.specs.declared.state.State.TheVariants.{Wanted}
 
-word_reads : (s : State) → state_named (state_word s) ≡ Some s
+pub word_reads : (s : State) → state_named (state_word s) ≡ Some s
 word_reads Wanted = refl
 word_reads s = refl
 

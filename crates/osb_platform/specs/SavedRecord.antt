@@ -4,11 +4,11 @@ use Rattle.std.specs.Prelude.{◌≡◌, ℕ, ◌<◌, ◌^◌, Bool, true, ◌&
 use Rattle.std.specs.Prelude.{Option, Some, None, Result, Ok, Err, is_some, option_map, option_and_then, unwrap_or}
 use Rattle.std.specs.FinMap.{FinMap, get, entries, from_entries}
 use Rattle.std.specs.Ordering.{nat_cmp}
+use Rattle.osb_json.specs.Members.{id_at, member_count, text_at}
 use Rattle.osb_message.specs.IdText.{id_text, id_of_lower}
 use Rattle.serde_json.specs.Data.{Data, number, unsigned, string, object, Members, no_members, member}
-use Rattle.serde_json.specs.Events.{members_len}
 use Rattle.serde_json.specs.Find as json
-use Rattle.serde_json.specs.Find.{as_number, as_object, as_str, as_u64}
+use Rattle.serde_json.specs.Find.{as_number, as_object, as_u64}
 use Rattle.serde_json.specs.Read.{read}
 use Rattle.serde_json.specs.Written.{compact_text}
 use Rattle.osb_platform.specs.PlatformRow.{at_rest}
@@ -57,14 +57,6 @@ saved_text rows = compact_text (saved_value rows)
 
 -- ---- what is read
 
--- the text that stands under a name
-abbrev pub text_at : List ℕ → Data → Option (List ℕ)
-text_at name d = option_and_then as_str (json.get name d)
-
--- the id whose text stands there, in lower case
-abbrev pub id_at : List ℕ → Data → Option ℕ
-id_at name d = option_and_then id_of_lower (text_at name d)
-
 -- the state whose word stands there
 abbrev pub state_at : List ℕ → Data → Option State
 state_at name d = option_and_then state_named (text_at name d)
@@ -73,10 +65,6 @@ abbrev pub row_of_parts : Option ℕ → Option ℕ → Option State → Option 
 row_of_parts (Some plan) (Some service) (Some state) =
     Some record { service = service; plan = plan; state = state; out = None }
 row_of_parts _ _ _ = None
-
--- how many members an object has, and 0 for every other value
-abbrev pub member_count : Data → ℕ
-member_count d = unwrap_or (option_map members_len (as_object d)) 0
 
 -- the record that a value names: an object with the three members and no other
 unfoldable pub row_named : Data → Option PlatformRow

@@ -7,6 +7,9 @@
 //! they are pure and take any answer. A [`Platform`] keeps the records and applies them; the messages
 //! themselves are its caller's to carry. Contracts see a platform as a finite map from ids to records.
 //!
+//! [`kind_due`], [`decide_answer`] and [`PlatformRow::in_state`] are what a [`Platform`] does with one record, for
+//! who keeps the records elsewhere, as `osb_instance` does.
+//!
 //! [`Platform::save`] and [`Platform::load`] write and read the saved record, by which a platform
 //! outlives a crash.
 //!
@@ -32,7 +35,7 @@ pub use faults::{
     CreateFault, ExpireFault, LoadFault, NoRequest, RemoveFault, SaveFault, SendFault,
 };
 pub use mitigation::mitigates;
-pub use platform::Platform;
+pub use platform::{Platform, decide_answer, kind_due};
 pub use polling::decide_poll;
 pub use provisioning::decide_provision;
 pub use restarts::decide_restart;

@@ -6,9 +6,10 @@ ghost use Rattle.serde_json.specs.View.{view, members_view};
 ghost use Rattle.osb_platform.specs.PlatformRow.{IsRestarted};
 ghost use Rattle.osb_platform.specs.SavedRecord as saved;
 
-use crate::row_json::{member_count, read_row};
+use crate::row_json::read_row;
 use crate::saving::VERSION;
 use crate::{LoadFault, PlatformRow, decide_restart};
+use osb_json::{member_count, read_value};
 use osb_message::{InstanceId, Rows};
 use serde_json::{Map, Value};
 use std::alloc::Global;
@@ -76,15 +77,11 @@ pub(crate) fn read_rows(alloc: Global, text: &str) -> Result<Rows<PlatformRow>, 
     ensures err { IfErr result (λ fault.
         (fault ≡ LoadFault.Memory) ⊎ (saved.rows_in text.now ≡ Err fault)) }
 {
-    let value = match Value::from_str(alloc, text) {
-        Ok(value) => value,
-        Err(error) => {
-            return Err(if error.is_memory() {
-                LoadFault::Memory
-            } else {
-                LoadFault::NotJson
-            });
-        }
+    let Ok(read) = read_value(alloc, text) else {
+        return Err(LoadFault::Memory);
+    };
+    let Some(value) = read else {
+        return Err(LoadFault::NotJson);
     };
     let members = instances_of(&value)?;
     // Every name is judged before any value, so that an operator first hears of a bad name.

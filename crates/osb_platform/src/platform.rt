@@ -21,8 +21,9 @@ use std::alloc::Global;
 use std::collections::btree_map::Iter;
 use std::marker::Model;
 
-// The request that a platform sends next, if one is due.
-fn kind_due(state: State) -> Option<Kind>
+/// The kind of the request that is due in a state, or none: a Poll in `polling` and `cleaning-polling`, a
+/// Deprovision in `cleaning`. What is due when is this project's choice. It takes no memory.
+pub fn kind_due(state: State) -> Option<Kind>
     ensures kind { result ≡ due state }
 {
     match state {
@@ -32,8 +33,10 @@ fn kind_due(state: State) -> Option<Kind>
     }
 }
 
-// The record after the answer to a request of the kind.
-fn decide(state: State, kind: Kind, answer: Answer) -> State
+/// What is recorded after this answer to a request of this kind, which was sent in this state: by
+/// [`decide_provision`](crate::decide_provision), [`decide_poll`](crate::decide_poll) or
+/// [`decide_deprovision`](crate::decide_deprovision). It takes no memory.
+pub fn decide_answer(state: State, kind: Kind, answer: Answer) -> State
     ensures state { result ≡ state_after state kind answer }
 {
     match kind {
@@ -297,7 +300,7 @@ impl Platform {
             return Err(NoRequest);
         };
         self.rows
-            .replace(id, row.in_state(decide(row.state, kind, answer)));
+            .replace(id, row.in_state(decide_answer(row.state, kind, answer)));
         Ok(())
     }
 

@@ -20,8 +20,8 @@ impl PlatformRow {
     ghost use Rattle.std.specs.Prelude.{◌≡◌};
     ghost use Rattle.osb_platform.specs.PlatformRow.{in_state};
 
-    // The same instance in another state, with nothing out.
-    pub(crate) fn in_state(self, state: State) -> PlatformRow
+    /// The same instance in another state, with nothing out. It takes no memory.
+    pub fn in_state(self, state: State) -> PlatformRow
         ensures row { result ≡ in_state state self }
     {
         PlatformRow {

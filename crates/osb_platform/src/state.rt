@@ -42,8 +42,9 @@ impl State {
         }
     }
 
-    // The state that a word names.
-    pub(crate) fn from_word(word: &str) -> Option<State>
+    /// The state that a word names, as [`State::word`] gives it; none for every other text (this project's
+    /// choice). It takes no memory.
+    pub fn from_word(word: &str) -> Option<State>
         ensures state { result ≡ state_named word.now }
     {
         match word {

@@ -12,7 +12,8 @@ use Rattle.serde_json.specs.Read.{read, max_depth}
 use Rattle.serde_json.proofs.Views.{get_member-put, get_member-put_other}
 use Rattle.osb_message.specs.IdText.{id_text}
 use Rattle.osb_message.proofs.IdLemmas.{text_reads}
-use Rattle.osb_wire.specs.Bodies.{if_object, text_at}
+use Rattle.osb_json.specs.Members.{text_at}
+use Rattle.osb_wire.specs.Bodies.{if_object}
 use Rattle.osb_wire.specs.Provisions.{named_in, named_if, provision_in, provision_members, IsFurther}
 use Rattle.osb_wire.proofs.BodyValues.{value_in_text}
 

@@ -14,7 +14,8 @@ use Rattle.osb_message.specs.declared.messages.LastState.{LastState}
 use Rattle.osb_message.specs.declared.messages.LastState.TheVariants.{InProgress, Succeeded, Failed}
 use Rattle.osb_message.specs.declared.messages.Kind.{Kind}
 use Rattle.osb_message.specs.declared.messages.Kind.TheVariants.{Provision, Poll, Deprovision}
-use Rattle.osb_wire.specs.Bodies.{object_in, text_at}
+use Rattle.osb_json.specs.Members.{text_at}
+use Rattle.osb_wire.specs.Bodies.{object_in}
 
 -- the word of a last operation's state (section Polling Last Operation for Service Instances)
 abbrev pub state_word : LastState → List ℕ

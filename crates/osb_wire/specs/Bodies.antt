@@ -2,8 +2,7 @@
 use Rattle.std.specs.Prelude.{ℕ, List, Option, None, Result, Ok, Err, option_and_then, option_map, if◌then◌else◌}
 use Rattle.std.specs.Str.{is_utf8}
 use Rattle.serde_json.specs.Data.{Data}
-use Rattle.serde_json.specs.Find as json
-use Rattle.serde_json.specs.Find.{as_object, as_str}
+use Rattle.serde_json.specs.Find.{as_object}
 use Rattle.serde_json.specs.Read.{read}
 
 -- the value that a body is, where it is UTF-8 and JSON; of a name that stands twice, the last counts
@@ -17,10 +16,6 @@ if_object d = option_map (λ _. d) (as_object d)
 -- the object that a body is
 abbrev pub object_in : List ℕ → Option Data
 object_in body = option_and_then if_object (value_in body)
-
--- the string that stands under a name
-abbrev pub text_at : List ℕ → Data → Option (List ℕ)
-text_at name d = option_and_then as_str (json.get name d)
 
 -- where a reading succeeds, what a further step makes of it
 abbrev pub and_then : {A B E : Type 0} → (A → Result B E) → Result A E → Result B E

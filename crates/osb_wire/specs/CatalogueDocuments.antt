@@ -10,7 +10,8 @@ use Rattle.osb_message.specs.Catalogue.{pair_cmp}
 use Rattle.osb_message.specs.IdText.{id_of}
 use Rattle.osb_message.specs.declared.catalogue.Mode.{Mode}
 use Rattle.osb_message.specs.declared.catalogue.Mode.TheVariants.{Sync, Async}
-use Rattle.osb_wire.specs.Bodies.{value_in, text_at, and_then}
+use Rattle.osb_json.specs.Members.{text_at}
+use Rattle.osb_wire.specs.Bodies.{value_in, and_then}
 use Rattle.osb_wire.specs.declared.catalogue_reading.CatalogueFault.{CatalogueFault}
 use Rattle.osb_wire.specs.declared.catalogue_reading.CatalogueFault.TheVariants.{NotJson, NoServices, BadService, NoPlans}
 use Rattle.osb_wire.specs.declared.catalogue_reading.CatalogueFault.TheVariants.{BadPlan, BadMode, Repeated}

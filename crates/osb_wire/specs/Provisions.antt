@@ -7,7 +7,8 @@ use Rattle.serde_json.specs.Read.{max_depth}
 use Rattle.osb_message.specs.declared.messages.Kind.{Kind}
 use Rattle.osb_message.specs.declared.messages.Kind.TheVariants.{Provision, Poll, Deprovision}
 use Rattle.osb_message.specs.IdText.{id_text, id_of}
-use Rattle.osb_wire.specs.Bodies.{object_in, text_at, and_then}
+use Rattle.osb_json.specs.Members.{text_at}
+use Rattle.osb_wire.specs.Bodies.{object_in, and_then}
 use Rattle.osb_wire.specs.declared.refusal.Refusal.{Refusal}
 use Rattle.osb_wire.specs.declared.refusal.Refusal.TheVariants.{NotAnObject, BadService, BadPlan, BadOrganization, BadSpace}
 

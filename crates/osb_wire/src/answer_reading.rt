@@ -4,7 +4,8 @@ ghost use Rattle.std.specs.Str.{chars};
 ghost use Rattle.serde_json.specs.View.{view};
 ghost use Rattle.osb_wire.specs.Answers as answers;
 
-use crate::json_body::{read_object, read_text};
+use crate::json_body::read_object;
+use osb_json::text_at;
 use osb_message::{Answer, Body, ErrorCode, Kind, LastState, Memory};
 use serde_json::Value;
 use std::alloc::Global;
@@ -39,7 +40,7 @@ fn code_named(word: &str) -> ErrorCode
 fn state_in(object: &Value) -> Body
     ensures body { result ≡ answers.state_in (view object.now) }
 {
-    match read_text(object, "state").and_then(state_named) {
+    match text_at(object, "state").and_then(state_named) {
         Some(state) => Body::State(state),
         None => Body::Empty,
     }
@@ -49,7 +50,7 @@ fn state_in(object: &Value) -> Body
 fn error_in(object: &Value) -> Body
     ensures body { result ≡ answers.error_in (view object.now) }
 {
-    match read_text(object, "error") {
+    match text_at(object, "error") {
         Some(word) => Body::Error(code_named(word)),
         None => Body::Empty,
     }
@@ -148,7 +149,7 @@ pub fn read_operation(alloc: Global, body: &[u8]) -> Result<Option<String>, Memo
     let Some(object) = read_object(alloc, body)? else {
         return Ok(None);
     };
-    match read_text(&object, "operation").and_then(if_short) {
+    match text_at(&object, "operation").and_then(if_short) {
         Some(text) => Ok(Some(String::from_str(alloc, text)?)),
         None => Ok(None),
     }

@@ -3,7 +3,8 @@ ghost use Rattle.std.specs.Prelude.{◌≡◌, ◌⊎◌, Ok, Err, OnOk, IfOk, I
 ghost use Rattle.serde_json.specs.View.{view, items_view};
 ghost use Rattle.osb_wire.specs.CatalogueDocuments as documents;
 
-use crate::json_body::{read_text, read_value};
+use crate::json_body::read_value;
+use osb_json::text_at;
 use osb_message::{AddFault, Catalogue, Id, Mode, ServiceId};
 use serde_json::Value;
 use std::alloc::Global;
@@ -56,7 +57,7 @@ fn mode_of(plan: &Value) -> Result<Mode, CatalogueFault>
 fn own_id<K>(object: &Value, fault: CatalogueFault) -> Result<Id<K>, CatalogueFault>
     ensures id { result ≡ documents.own_id fault (view object.now) }
 {
-    let Some(text) = read_text(object, "id") else {
+    let Some(text) = text_at(object, "id") else {
         return Err(fault);
     };
     match Id::from_text(text) {

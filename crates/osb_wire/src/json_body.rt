@@ -1,7 +1,7 @@
 //! What stands in a body of JSON.
 ghost use Rattle.std.specs.Prelude.{◌≡◌, IfOk, option_map};
 ghost use Rattle.serde_json.specs.View.{view};
-ghost use Rattle.osb_wire.specs.Bodies.{value_in, object_in, text_at};
+ghost use Rattle.osb_wire.specs.Bodies.{value_in, object_in};
 
 use osb_message::Memory;
 use serde_json::Value;
@@ -15,16 +15,7 @@ pub(crate) fn read_value(alloc: Global, body: &[u8]) -> Result<Option<Value>, Me
     let Ok(text) = std::str::from_utf8(body) else {
         return Ok(None);
     };
-    match Value::from_str(alloc, text) {
-        Ok(value) => Ok(Some(value)),
-        Err(error) => {
-            if error.is_memory() {
-                Err(Memory)
-            } else {
-                Ok(None)
-            }
-        }
-    }
+    osb_json::read_value(alloc, text)
 }
 
 // The object that a body is.
@@ -38,11 +29,4 @@ pub(crate) fn read_object(alloc: Global, body: &[u8]) -> Result<Option<Value>, M
         return Ok(None);
     }
     Ok(Some(value))
-}
-
-// The string that stands under a name.
-pub(crate) fn read_text<'v>(value: &'v Value, name: &str) -> Option<&'v str>
-    ensures text { option_map (λ text. text.now) result ≡ text_at name.now (view value.now) }
-{
-    value.get(name).and_then(Value::as_str)
 }

@@ -4,7 +4,8 @@ ghost use Rattle.serde_json.specs.View.{view};
 ghost use Rattle.osb_wire.specs.Provisions as provisions;
 
 use crate::Refusal;
-use crate::json_body::{read_object, read_text};
+use crate::json_body::read_object;
+use osb_json::text_at;
 use osb_message::{Id, PlanId, ServiceId};
 use serde_json::Value;
 use std::alloc::Global;
@@ -13,7 +14,7 @@ use std::alloc::Global;
 fn read_id<K>(object: &Value, name: &str, fault: Refusal) -> Result<Id<K>, Refusal>
     ensures id { result ≡ provisions.id_member fault name.now (view object.now) }
 {
-    let Some(text) = read_text(object, name) else {
+    let Some(text) = text_at(object, name) else {
         return Err(fault);
     };
     match Id::from_text(text) {
@@ -26,7 +27,7 @@ fn read_id<K>(object: &Value, name: &str, fault: Refusal) -> Result<Id<K>, Refus
 fn has_text(object: &Value, name: &str) -> bool
     ensures has { result ≡ provisions.has_text name.now (view object.now) }
 {
-    match read_text(object, name) {
+    match text_at(object, name) {
         Some(text) => !text.is_empty(),
         None => false,
     }

@@ -9,6 +9,7 @@
 
 mod broker;
 mod catalogue;
+mod instance;
 mod instances;
 mod platform;
 mod rows;
@@ -22,7 +23,7 @@ use std::alloc::Global;
 use std::env;
 
 // The parts, in the order in which they are told.
-const PARTS: [&str; 21] = [
+const PARTS: [&str; 22] = [
     "rows-insert",
     "rows-ids",
     "catalogue-add",
@@ -44,6 +45,7 @@ const PARTS: [&str; 21] = [
     "run",
     "read-schedule",
     "wire",
+    "instance",
 ];
 
 fn tell(rt: &impl Print, alloc: Global, part: &str) -> Result<()> {
@@ -69,6 +71,7 @@ fn tell(rt: &impl Print, alloc: Global, part: &str) -> Result<()> {
         "run" => world::run_events(rt, alloc),
         "read-schedule" => schedules::read(rt, alloc),
         "wire" => wire::calls(rt, alloc),
+        "instance" => instance::calls(rt, alloc),
         _ => bail!("no part has this name"),
     }
 }

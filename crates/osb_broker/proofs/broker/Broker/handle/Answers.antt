@@ -11,9 +11,9 @@ invariant_of-self-2 c =
     let id = c.args.request.now.id in
     let before = subst (λ r. IfSome r (IsHeld cat)) (sym c.get-row.ensures.found) (c.self.invariant id) in
     let decided = handled_held cat c.get-row.result c.args.request.now c.args.outcome before in
-    let change = c.decide-decision.result.change in
+    let change = c.decide_in-decision.result.change in
     let written =
-    c.in_ok-apply.ensures.row ∙ ap (row_after change) (sym c.get-row.ensures.found) ∙ c.decide-decision.ensures.row in
+    c.in_ok-apply.ensures.row ∙ ap (row_after change) (sym c.get-row.ensures.found) ∙ c.decide_in-decision.ensures.row in
     each_held cat c.self.inside.rows c.apply.new.rows id c.self.invariant
     (subst (λ r. IfSome r (IsHeld cat)) (sym written) decided)
     c.apply.ensures.others

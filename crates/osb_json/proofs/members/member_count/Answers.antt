@@ -1,7 +1,7 @@
 use Rattle.std.proofs.Common.{unwrap_or, option_map, ap, sym, ◌∙◌}
 use Rattle.serde_json.specs.Events.{members_len}
 use Rattle.serde_json.proofs.Views.{members_len-members_view}
-use Rattle.osb_platform.proofs.row_json.member_count.Goals as goal
+use Rattle.osb_json.proofs.members.member_count.Goals as goal
 
 pub returns-in-Some : goal.returns-in-Some
 returns-in-Some c = record {

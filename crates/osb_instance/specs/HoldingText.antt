@@ -1,0 +1,149 @@
+-- The text of a holding, which is this project's choice.
+use Rattle.std.specs.Prelude.{ℕ, Bool, true, ◌&&◌, ◌==◌, if◌then◌else◌, List, codes, is_some, is_none}
+use Rattle.std.specs.Prelude.{Option, Some, None, Result, Ok, Err, option_map, option_and_then}
+use Rattle.osb_broker.specs.Words.{phase_word, phase_named}
+use Rattle.osb_broker.specs.declared.row.BrokerRow.{BrokerRow}
+use Rattle.osb_broker.specs.declared.row.Phase.{Phase}
+use Rattle.osb_json.specs.Members.{flag_at, id_at, member_count, text_at}
+use Rattle.osb_message.specs.IdText.{id_text}
+use Rattle.osb_message.specs.Words.{kind_word, kind_named}
+use Rattle.osb_message.specs.declared.catalogue.Mode.TheVariants.{Sync}
+use Rattle.osb_message.specs.declared.messages.Kind.{Kind}
+use Rattle.osb_message.specs.declared.messages.Request.{Request}
+use Rattle.serde_json.specs.Data.{Data, null, boolean, number, unsigned, string, object, no_members, member}
+use Rattle.serde_json.specs.Find as json
+use Rattle.serde_json.specs.Written.{compact_text}
+use Rattle.osb_instance.specs.Due.{work_due}
+use Rattle.osb_instance.specs.Frame.{version, framed, and_then}
+use Rattle.osb_instance.specs.Held.{Held}
+use Rattle.osb_instance.specs.declared.faults.TextFault.{TextFault}
+use Rattle.osb_instance.specs.declared.faults.TextFault.TheVariants.{BadOuter, BadMember, Impossible}
+
+-- ---- what is written
+
+abbrev pub row_value : BrokerRow → Data
+row_value row =
+    object (member (codes "phase") (string (phase_word row.phase))
+    (member (codes "plan") (string (id_text row.plan))
+    (member (codes "service") (string (id_text row.service)) no_members)))
+
+abbrev pub work_value : Request → Data
+work_value r =
+    object (member (codes "accepts_incomplete") (boolean r.accepts_incomplete)
+    (member (codes "id") (string (id_text r.id))
+    (member (codes "kind") (string (kind_word r.kind))
+    (member (codes "plan") (string (id_text r.plan))
+    (member (codes "service") (string (id_text r.service)) no_members)))))
+
+-- the row, or null
+abbrev pub some_row_value : Option BrokerRow → Data
+some_row_value None = null
+some_row_value (Some row) = row_value row
+
+-- the recorded request, or null
+abbrev pub some_work_value : Option Request → Data
+some_work_value None = null
+some_work_value (Some request) = work_value request
+
+abbrev pub holding_value : Held → Data
+holding_value held =
+    object (member (codes "marked") (boolean held.marked)
+    (member (codes "row") (some_row_value held.row)
+    (member (codes "version") (number (unsigned version))
+    (member (codes "work") (some_work_value held.work) no_members))))
+
+-- with no spaces
+abbrev pub holding_text : Held → List ℕ
+holding_text held = compact_text (holding_value held)
+
+-- ---- what is read
+
+-- whether the members are those of a holding and no other; the frame has found `version`
+abbrev pub has_names : Data → Bool
+has_names d =
+    (member_count d == 4)
+    && (is_some (json.get (codes "marked") d)
+    && (is_some (json.get (codes "row") d)
+    && is_some (json.get (codes "work") d)))
+
+-- the phase whose word stands there
+abbrev pub phase_at : Data → Option Phase
+phase_at d = option_and_then phase_named (text_at (codes "phase") d)
+
+-- the kind whose word stands there
+abbrev pub kind_at : Data → Option Kind
+kind_at d = option_and_then kind_named (text_at (codes "kind") d)
+
+abbrev pub row_of_parts : Option Phase → Option ℕ → Option ℕ → Option BrokerRow
+row_of_parts (Some phase) (Some plan) (Some service) =
+    Some record { service = service; plan = plan; phase = phase }
+row_of_parts _ _ _ = None
+
+-- the row that a value names: an object with the three members and no other
+unfoldable pub row_named : Data → Option BrokerRow
+row_named d =
+    if member_count d == 3
+    then row_of_parts (phase_at d) (id_at (codes "plan") d) (id_at (codes "service") d)
+    else None
+
+abbrev pub work_of_parts : Option Bool → Option ℕ → Option Kind → Option ℕ → Option ℕ → Option Request
+work_of_parts (Some accepts) (Some id) (Some kind) (Some plan) (Some service) =
+    Some record { kind = kind; id = id; service = service; plan = plan; accepts_incomplete = accepts }
+work_of_parts _ _ _ _ _ = None
+
+-- the request that a value names: an object with the five members and no other
+unfoldable pub work_named : Data → Option Request
+work_named d =
+    if member_count d == 5
+    then work_of_parts (flag_at (codes "accepts_incomplete") d) (id_at (codes "id") d) (kind_at d)
+    (id_at (codes "plan") d) (id_at (codes "service") d)
+    else None
+
+-- none for null, the row that the value names, or nothing
+abbrev pub some_row_in : Data → Option (Option BrokerRow)
+some_row_in null = Some None
+some_row_in d = option_map Some (row_named d)
+
+abbrev pub some_row_at : Data → Option (Option BrokerRow)
+some_row_at d = option_and_then some_row_in (json.get (codes "row") d)
+
+-- none for null, the request that the value names, or nothing
+abbrev pub some_work_in : Data → Option (Option Request)
+some_work_in null = Some None
+some_work_in d = option_map Some (work_named d)
+
+abbrev pub some_work_at : Data → Option (Option Request)
+some_work_at d = option_and_then some_work_in (json.get (codes "work") d)
+
+abbrev pub holding_of_parts : Option Bool → Option (Option BrokerRow) → Option (Option Request) → Option Held
+holding_of_parts (Some marked) (Some row) (Some work) = Some record { row = row; work = work; marked = marked }
+holding_of_parts _ _ _ = None
+
+-- the holding that the members name
+unfoldable pub holding_named : Data → Option Held
+holding_named d = holding_of_parts (flag_at (codes "marked") d) (some_row_at d) (some_work_at d)
+
+-- the holding of these parts
+abbrev pub held_of : Option BrokerRow × Option Request × Bool → Held
+held_of parts = record { row = parts.0; work = parts.1; marked = parts.2 }
+
+-- whether recorded work is due at some plan: a synchronous one has all the work that an asynchronous one has
+abbrev pub is_work : Option BrokerRow → Option Request → Bool
+is_work row None = true
+is_work row (Some request) = is_some (work_due (Some Sync) row request)
+
+-- whether such a holding can come about
+abbrev pub can_be : Held → Bool
+can_be held =
+    if held.marked then is_none held.row && is_none held.work else is_work held.row held.work
+
+abbrev pub holding_or : Option Held → Result Held TextFault
+holding_or None = Err BadMember
+holding_or (Some held) = if can_be held then Ok held else Err Impossible
+
+abbrev pub holding_of : Data → Result Held TextFault
+holding_of d = if has_names d then holding_or (holding_named d) else Err BadOuter
+
+-- the holding that a text names, or the first fault
+abbrev pub holding_in : List ℕ → Result Held TextFault
+holding_in text = and_then holding_of (framed text)
