@@ -1,0 +1,67 @@
+//! Tells what `osb_network` makes of each case on standard input. A line `order MODE accepts|refuses` begins a new
+//! instance, with the mode `sync`, `async`, or `-` for a plan that isn't on sale, and each further line is an event
+//! that happens to it, or `settle`. Each line is written again, and below it what has become of the event, and all
+//! that there is then. Empty lines and comments, which begin with `#`, are written again alone.
+//!
+//! What there is: the platform's record, as its state, the kind of the request that is out, and the number of the
+//! latest request; the broker's holding, as its row's phase, the kind of the recorded work, and its mark; the thing;
+//! how many requests were sent and answers given; and each answer that the event gave, as the number of its request,
+//! its status and its body. `-` stands for none.
+#![tactic(auto)]
+
+mod events;
+mod orders;
+mod sides;
+mod words;
+
+use anyhow::{Context, Result};
+use osb_network::{Instance, Step};
+use std::alloc::Global;
+
+fn step_word(step: Step) -> &'static str {
+    match step {
+        Step::Applied => "applied",
+        Step::Skipped => "skipped",
+    }
+}
+
+// Lets what a line names happen to the instance: the word for what became of it.
+fn happen(alloc: Global, instance: &mut Instance, line: &str) -> Result<&'static str> {
+    if line == "settle" {
+        instance.settle(alloc)?;
+        return Ok("settled");
+    }
+    let event = events::event(line)?;
+    let step = instance.step(alloc, event)?;
+    Ok(step_word(step))
+}
+
+// What a line makes of the instance before it, if there is one, and the instance after it.
+fn tell(rt: &impl Print, alloc: Global, before: Option<Instance>, line: &str) -> Result<Instance> {
+    if let Some(words) = line.strip_prefix("order ") {
+        let instance = Instance::new(alloc, orders::order(words)?);
+        print!(rt; "  new: ")?;
+        sides::tell(rt, &instance, 0)?;
+        return Ok(instance);
+    }
+    let mut instance = before.context("nothing is ordered")?;
+    let given = instance.given().len();
+    let word = happen(alloc, &mut instance, line)?;
+    print!(rt; "  {word}: ")?;
+    sides::tell(rt, &instance, given)?;
+    Ok(instance)
+}
+
+fn main(rt: HostRuntime) -> Result<()> {
+    let mut instance = None;
+    for line in rt.lines(rt.alloc()) {
+        let line = line?;
+        let text = line.as_str();
+        println!(rt; "{text}")?;
+        if !text.is_empty() && !text.starts_with('#') {
+            let after = tell(&rt, rt.alloc(), instance, text)?;
+            instance = Some(after);
+        }
+    }
+    Ok(())
+}

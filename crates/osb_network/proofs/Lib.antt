@@ -1,0 +1,11 @@
+pub mod Arrivals
+pub mod Ends
+pub mod Later
+pub mod Operations
+pub mod CellParts
+pub mod Taken
+pub mod Kept
+pub mod Agreements
+pub mod Rounds
+pub mod Numbers
+pub mod Many

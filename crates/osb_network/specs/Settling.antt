@@ -1,0 +1,90 @@
+-- Cleaning up comes to an end: a few rounds without a fault settle an instance (this project's choice; the
+-- standard says that a platform goes on until the broker tells it of the end, section Orphan Mitigation, and not
+-- how long that takes).
+use Rattle.std.specs.Prelude.{ℕ, ◌+◌, ◌-◌, ◌≤◌, ⊤, true, if◌then◌else◌, is_some, length}
+use Rattle.std.specs.Prelude.{Option, Some, None, IfSome}
+use Rattle.osb_message.specs.declared.messages.Kind.{Kind}
+use Rattle.osb_message.specs.declared.messages.Kind.TheVariants.{Provision}
+use Rattle.osb_message.specs.declared.messages.Request.{Request}
+use Rattle.osb_broker.specs.declared.outcome.Outcome.TheVariants.{Done}
+use Rattle.osb_broker.specs.declared.row.BrokerRow.{BrokerRow}
+use Rattle.osb_broker.specs.declared.row.Phase.{Phase}
+use Rattle.osb_platform.specs.declared.state.State.{State}
+use Rattle.osb_platform.specs.declared.state.State.TheVariants.{Ready, Gone, Unsettled}
+use Rattle.osb_instance.specs.Recorded.{Recorded}
+use Rattle.osb_network.specs.declared.event.Event.{Event}
+use Rattle.osb_network.specs.declared.thing.Thing.{Thing}
+use Rattle.osb_network.specs.declared.thing.Thing.TheVariants.{Absent, Whole}
+use Rattle.osb_network.specs.Cell.{Cell, IsPossible}
+use Rattle.osb_network.specs.Steps.{cell_step}
+
+-- what there is of the thing once the recorded work has gone well, or the operation that runs
+abbrev pub good_of : Kind → Thing
+good_of Provision = Whole
+good_of kind = Absent
+
+abbrev pub good_in : Phase → Thing
+good_in Phase.Making = Whole
+good_in phase = Absent
+
+abbrev pub good_thing : Option Request → Option BrokerRow → Thing
+good_thing (Some request) row = good_of request.kind
+good_thing None (Some row) = good_in row.phase
+good_thing None None = Absent
+
+-- what is under way has gone well for the thing
+abbrev pub with_good : Cell → Cell
+with_good cell = cell_step cell (Event.Work (good_thing cell.held.work cell.held.row))
+
+-- the recorded work ends well, if there is some
+abbrev pub worked_well : Cell → Cell
+worked_well cell = cell_step (with_good cell) (Event.End Done)
+
+-- the operation that runs ends well, if one does
+abbrev pub operated_well : Cell → Cell
+operated_well cell = cell_step (with_good cell) (Event.Finish true)
+
+-- the number of the request that is out, and 0, which no request has, where none is
+abbrev pub number_out : Option Recorded → ℕ
+number_out None = 0
+number_out (Some recorded) = if is_some recorded.row.out then recorded.attempt else 0
+
+-- what is out arrives
+abbrev pub with_arrival : Cell → Cell
+with_arrival cell = cell_step cell (Event.Arrive (number_out cell.recorded))
+
+-- the latest answer is taken
+abbrev pub with_answer : Cell → Cell
+with_answer cell = cell_step cell (Event.Take (length cell.given - 1))
+
+-- the request that is due is sent, arrives, its work ends well, and its answer is taken
+abbrev pub exchanged : Cell → Cell
+exchanged cell = with_answer (worked_well (with_arrival (cell_step cell Event.Send)))
+
+-- the cell after a fault-free round: the request that is out is given up, the recorded work ends well, the
+-- operation that runs ends well, and the request that is due is sent, done and answered
+abbrev pub after_round : Cell → Cell
+after_round cell = exchanged (operated_well (worked_well (cell_step cell Event.Timeout)))
+
+-- the cell after three of them
+abbrev pub settled_cell : Cell → Cell
+settled_cell cell = after_round (after_round (after_round cell))
+
+-- the states in which nothing is due and nothing is out
+abbrev pub IsSettledIn : State → Type 0
+IsSettledIn Ready = ⊤
+IsSettledIn Gone = ⊤
+IsSettledIn Unsettled = ⊤
+IsSettledIn state = ⊥
+
+-- the instance is ready, gone or unsettled, or was never recorded
+abbrev pub IsSettled : Cell → Type 0
+IsSettled cell = IfSome cell.recorded (λ recorded. IsSettledIn recorded.row.state)
+
+-- there are numbers left for so many requests more: numbers are below 2 ^ 64
+abbrev pub HasNumbers : ℕ → Cell → Type 0
+HasNumbers more cell = IfSome cell.recorded (λ recorded. recorded.attempt + more ≤ 18446744073709551615)
+
+-- from every cell that can come about, three fault-free rounds settle the instance
+abbrev pub ThreeRoundsSettle : Type 0
+ThreeRoundsSettle = (cell : Cell) → IsPossible cell → HasNumbers 3 cell → IsSettled (settled_cell cell)
