@@ -3,7 +3,7 @@ use Rattle.std.specs.Prelude.{ℕ, Bool, false, ◌==◌, if◌then◌else◌, O
 use Rattle.osb_network.specs.declared.event.Event.{Event}
 use Rattle.osb_network.specs.declared.event.InstanceEvent.{InstanceEvent}
 use Rattle.osb_network.specs.Cell.{Cell}
-use Rattle.osb_network.specs.Steps.{applies, cell_step, cell_steps}
+use Rattle.osb_network.specs.Steps.{applies, cell_step, cell_steps, takes_memory}
 
 -- the events of one instance, in their order
 abbrev pub events_of : ℕ → List InstanceEvent → List Event
@@ -18,6 +18,11 @@ stepped_by event cell = option_map (λ c. cell_step c event) cell
 abbrev pub applies_to : Event → Option Cell → Bool
 applies_to event None = false
 applies_to event (Some cell) = applies cell event
+
+-- whether the event may ask for memory: there is an instance, and it may at that
+abbrev pub asks_memory : Event → Option Cell → Bool
+asks_memory event None = false
+asks_memory event (Some cell) = takes_memory cell event
 
 -- what an id has after a list of events: its own alone, one after the other
 abbrev pub stepped_through : ℕ → List InstanceEvent → Option Cell → Option Cell

@@ -1,12 +1,12 @@
 //! Many instances.
-ghost use Rattle.std.specs.Prelude.{◌≡◌, ◌≢◌, ℕ, Some, None, Ok, IfOk, IfSome, IsSome, OnOk, OnErr, is_none};
+ghost use Rattle.std.specs.Prelude.{◌≡◌, ◌≢◌, ℕ, Some, None, Ok, false, IfOk, IfSome, IsOk, IsSome, OnOk, OnErr, is_none};
 ghost use Rattle.std.specs.Prelude.{option_copied};
 ghost use Rattle.std.specs.FinMap as finite;
 ghost use Rattle.std.specs.BTreeMap as tree;
 ghost use Rattle.std.specs.Ordering.{nat_cmp};
 ghost use Rattle.osb_network.specs.Agreement.{Agrees};
 ghost use Rattle.osb_network.specs.Cell.{empty_cell};
-ghost use Rattle.osb_network.specs.Many.{applies_to, stepped_by, stepped_through};
+ghost use Rattle.osb_network.specs.Many.{applies_to, asks_memory, stepped_by, stepped_through};
 ghost use Rattle.osb_network.specs.Steps.{step_of};
 
 use crate::{Event, Instance, InstanceEvent, Order, Step};
@@ -51,6 +51,7 @@ fn step_at(
     ensures applied { IfOk result (λ s.
         s ≡ step_of (applies_to event (tree.get nat_cmp instances.old id))) }
     ensures err { OnErr result (tree.get nat_cmp instances.new id ≡ tree.get nat_cmp instances.old id) }
+    ensures no_memory { asks_memory event (tree.get nat_cmp instances.old id) ≡ false → IsOk result }
 {
     let Some(instance) = instances.get_mut(&id) else {
         return Ok(Step::Skipped);
@@ -117,6 +118,7 @@ impl Network {
         ensures others { (other : ℕ) → other ≢ id → finite.get self.new other ≡ finite.get self.old other }
         ensures applied { IfOk result (λ s. s ≡ step_of (applies_to event (finite.get self.old id))) }
         ensures err { OnErr result (finite.get self.new id ≡ finite.get self.old id) }
+        ensures no_memory { asks_memory event (finite.get self.old id) ≡ false → IsOk result }
     {
         step_at(&mut self.instances, alloc, id, event)
     }

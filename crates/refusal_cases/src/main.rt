@@ -11,6 +11,7 @@ mod broker;
 mod catalogue;
 mod instance;
 mod instances;
+mod network;
 mod platform;
 mod rows;
 mod schedules;
@@ -23,7 +24,7 @@ use std::alloc::Global;
 use std::env;
 
 // The parts, in the order in which they are told.
-const PARTS: [&str; 22] = [
+const PARTS: [&str; 24] = [
     "rows-insert",
     "rows-ids",
     "catalogue-add",
@@ -46,6 +47,8 @@ const PARTS: [&str; 22] = [
     "read-schedule",
     "wire",
     "instance",
+    "network-steps",
+    "network-calls",
 ];
 
 fn tell(rt: &impl Print, alloc: Global, part: &str) -> Result<()> {
@@ -72,6 +75,8 @@ fn tell(rt: &impl Print, alloc: Global, part: &str) -> Result<()> {
         "read-schedule" => schedules::read(rt, alloc),
         "wire" => wire::calls(rt, alloc),
         "instance" => instance::calls(rt, alloc),
+        "network-steps" => network::steps(rt, alloc),
+        "network-calls" => network::calls(rt, alloc),
         _ => bail!("no part has this name"),
     }
 }
