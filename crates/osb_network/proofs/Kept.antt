@@ -41,7 +41,7 @@ use Rattle.osb_network.specs.Cell.{IsPossibleWith, IsPossible, IsNumbered}
 use Rattle.osb_network.specs.Steps.{with_sent, with_state, create, next_recorded, send_due, send, clean_up, give_up}
 use Rattle.osb_network.specs.Steps.{take_out, take, unreadable, take_given, take_garbled, take_gateway, arrived, arrive}
 use Rattle.osb_network.specs.Steps.{ended, end, end_unknown, can_finish, cell_step, cell_steps, sent_as, unknown, has_number}
-use Rattle.osb_network.specs.Truth.{may_become}
+use Rattle.osb_network.specs.Truth.{is_under_way}
 use Rattle.std.proofs.lemmas.Bool.Decides.{nat_tests}
 use Rattle.osb_instance.specs.declared.work.Work.{Work}
 use Rattle.osb_instance.specs.Begin.{begun, begun_by, begun_with, is_provision}
@@ -368,16 +368,16 @@ kept_finish c ok (Some rec) h =
     side_in c rec (finished_held c.held ok) c.thing h refl
     (finishes c.order rec.row.state c.held c.thing ok h.parts.kept (is_none_is c.held.work one.0) one.1 two.1)) h
 
-nothing_becomes : (h : Held) (u : Thing) → h ≡ nothing_held → may_become h u ≡ true → ⊥
+nothing_becomes : (h : Held) (u : Thing) → h ≡ nothing_held → is_under_way h ≡ true → ⊥
 nothing_becomes h u e f =
-    let g : may_become nothing_held u ≡ true = subst (λ (x : Held). may_become x u ≡ true) e f in cc
+    let g : is_under_way nothing_held ≡ true = subst (λ (x : Held). is_under_way x ≡ true) e f in cc
 
 kept_work : (c : Cell) (u : Thing) (r : Option Recorded) → IsPossibleWith c r
-    → IsPossibleWith (if may_become c.held u then record c { thing = u } else c) r
+    → IsPossibleWith (if is_under_way c.held then record c { thing = u } else c) r
 kept_work c u None h =
-    kept_in (may_become c.held u) _ c None (λ x. absurd (nothing_becomes c.held u h.held x)) h
+    kept_in (is_under_way c.held) _ c None (λ x. absurd (nothing_becomes c.held u h.held x)) h
 kept_work c u (Some rec) h =
-    kept_in (may_become c.held u) _ c (Some rec) (λ x.
+    kept_in (is_under_way c.held) _ c (Some rec) (λ x.
     side_in c rec c.held u h refl (becomes c.order rec.row.state c.held c.thing u h.parts.kept x)) h
 
 kept_crash : (c : Cell) (r : Option Recorded) → IsPossibleWith c r → IsPossibleWith (record c { worker = None }) r
@@ -470,7 +470,7 @@ kept_step c (Event.Finish ok) h =
     possible_by _ c (if_recorded (can_finish c ok) (record c { held = finished_held c.held ok }) c refl)
     (kept_finish c ok c.recorded h)
 kept_step c (Event.Work u) h =
-    possible_by _ c (if_recorded (may_become c.held u) (record c { thing = u }) c refl) (kept_work c u c.recorded h)
+    possible_by _ c (if_recorded (is_under_way c.held) (record c { thing = u }) c refl) (kept_work c u c.recorded h)
 kept_step c Event.EndUnknown h =
     possible_by (end_unknown c c.worker) c (unknown_recorded c c.worker) (kept_unknown c c.worker c.recorded refl h)
 kept_step c Event.CrashBroker h = kept_crash c c.recorded h

@@ -13,9 +13,9 @@ use Rattle.osb_network.specs.declared.order.Order.{Order}
 use Rattle.osb_network.specs.Possible.{row_of, IsBeforeDeletion}
 use Rattle.osb_network.specs.Possible.{IsRow, IsKept, IsKeptAs, IsEarlyAs}
 use Rattle.osb_network.specs.Possible.{IsLater}
-use Rattle.osb_network.specs.Truth.{is_true_finish, may_leave_in}
-use Rattle.osb_broker.specs.Finished.{is_running}
-use Rattle.osb_network.specs.Truth.{is_true_finish_of, may_become}
+use Rattle.osb_network.specs.Truth.{is_true_finish, is_under_way}
+use Rattle.osb_broker.specs.Finished.{is_running, is_running_in}
+use Rattle.osb_network.specs.Truth.{is_true_finish_of, is_under_way}
 use Rattle.osb_network.proofs.Arrivals.{held, row_held}
 use Rattle.osb_network.proofs.Ends.{absent, whole}
 
@@ -110,14 +110,14 @@ thing_changes o s b w x t u kept new early = record {
   };
 }
 
-becomes_in : (ph : Phase) (t u : Thing) → may_leave_in ph u ≡ true → (ph ≡ Phase.Ready → t ≡ Whole) → ph ≡ Phase.Ready
+becomes_in : (ph : Phase) (t u : Thing) → is_running_in ph ≡ true → (ph ≡ Phase.Ready → t ≡ Whole) → ph ≡ Phase.Ready
     → u ≡ Whole
 becomes_in Phase.Making t u may is e = cc
 becomes_in Phase.Deleting t u may is e = cc
 becomes_in ph t u may is e = cc
 
 becomes_parts : (o : Order) (s : State) (b : Option BrokerRow) (w : Option Request) (x : Bool) (t u : Thing)
-    → IsKeptAs o b w x t → may_become (held b w x) u ≡ true → IsSideStep o s (held b w x) t (held b w x) u
+    → IsKeptAs o b w x t → is_under_way (held b w x) ≡ true → IsSideStep o s (held b w x) t (held b w x) u
 becomes_parts o s None None x t u kept may = cc
 becomes_parts o s (Some b) None true t u kept may = absurd kept
 becomes_parts o s (Some b) None false t u kept may =
@@ -127,6 +127,6 @@ becomes_parts o s (Some b) (Some q) true t u kept may = absurd kept
 becomes_parts o s None (Some q) false t u kept may = thing_changes o s None (Some q) false t u kept kept (λ e. e)
 becomes_parts o s (Some b) (Some q) false t u kept may = thing_changes o s (Some b) (Some q) false t u kept kept (λ e. e)
 
-pub becomes : (o : Order) (s : State) (h : Held) (t u : Thing) → IsKept o h t → may_become h u ≡ true
+pub becomes : (o : Order) (s : State) (h : Held) (t u : Thing) → IsKept o h t → is_under_way h ≡ true
     → IsSideStep o s h t h u
 becomes o s h t u kept may = becomes_parts o s h.row h.work h.marked t u kept may

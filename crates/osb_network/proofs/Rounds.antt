@@ -38,7 +38,7 @@ use Rattle.osb_network.specs.Settling.{with_answer, with_arrival, with_good, wor
 use Rattle.osb_network.specs.Settling.{HasNumbers, IsSettled, IsSettledIn, ThreeRoundsSettle}
 use Rattle.osb_network.specs.Steps.{arrive, arrived, cell_step, end, ended, give_up, has_number, next_recorded, send, send_due}
 use Rattle.osb_network.specs.Steps.{sent_as, take, take_given, take_out, with_given, with_sent, with_state}
-use Rattle.osb_network.specs.Truth.{is_true_end, may_become_by, may_leave}
+use Rattle.osb_network.specs.Truth.{is_true_end, is_under_way_by}
 use Rattle.osb_network.proofs.Arrivals.{held, order}
 use Rattle.osb_network.proofs.Kept.{arrive_recorded, end_recorded, kept_step, with_rec}
 
@@ -52,7 +52,7 @@ good_keeps : {X : Type 0} (f : Cell → X) (c : Cell) → ((t : Thing) → f (re
     → f (with_good c) ≡ f c
 good_keeps f c e =
     let t : Thing = good_thing c.held.work c.held.row in
-    of_either f (may_become_by c.held.work c.held.row t) (record c { thing = t }) c (e t)
+    of_either f (is_under_way_by c.held.work c.held.row) (record c { thing = t }) c (e t)
 
 if_true : {X : Type 0} (x : Bool) (a c : X) → x ≡ true → (if x then a else c) ≡ a
 if_true true a c e = refl
@@ -72,11 +72,6 @@ idle_worked : (c : Cell) → c.held.work ≡ None → worked_well c ≡ with_goo
 idle_worked c e =
     end_none (with_good c) (with_good c).held.work (good_keeps (λ (d : Cell). d.held.work) c (λ t. refl) ∙ e)
 
-may_leave_good : (k : Kind) → k ≢ Poll → may_leave k (good_of k) ≡ true
-may_leave_good Provision n = refl
-may_leave_good Deprovision n = refl
-may_leave_good Poll n = absurd (n refl)
-
 true_good : (m : Option Mode) (k : Kind) → k ≢ Poll → is_true_end m k Done (good_of k) ≡ true
 true_good (Some Sync) Provision n = refl
 true_good (Some Async) Provision n = refl
@@ -89,12 +84,9 @@ true_good m Poll n = absurd (n refl)
 abbrev made_good : Cell → Kind → Cell
 made_good c k = record c { thing = good_of k }
 
-good_made : (c : Cell) (q : Request) → c.held.work ≡ Some q → q.kind ≢ Poll → with_good c ≡ made_good c q.kind
-good_made c q e n =
-    (λ i. if may_become_by (e i) c.held.row (good_thing (e i) c.held.row)
-    then record c { thing = good_thing (e i) c.held.row }
-    else c)
-    ∙ if_true (may_leave q.kind (good_of q.kind)) (made_good c q.kind) c (may_leave_good q.kind n)
+good_made : (c : Cell) (q : Request) → c.held.work ≡ Some q → with_good c ≡ made_good c q.kind
+good_made c q e =
+    λ i. if is_under_way_by (e i) c.held.row then record c { thing = good_thing (e i) c.held.row } else c
 
 abbrev after_work : Cell → Request → Cell
 after_work c q =
@@ -102,7 +94,7 @@ after_work c q =
 
 work_done : (c : Cell) (q : Request) → c.held.work ≡ Some q → q.kind ≢ Poll → worked_well c ≡ after_work c q
 work_done c q e n =
-    ap (λ (d : Cell). end d d.held.work Done) (good_made c q e n)
+    ap (λ (d : Cell). end d d.held.work Done) (good_made c q e)
     ∙ (λ i. end (made_good c q.kind) (e i) Done)
     ∙ if_true (is_true_end c.order.mode q.kind Done (good_of q.kind)) (after_work c q) (made_good c q.kind)
     (true_good c.order.mode q.kind n)

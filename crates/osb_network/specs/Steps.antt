@@ -29,7 +29,7 @@ use Rattle.osb_network.specs.declared.step.Step.{Step}
 use Rattle.osb_network.specs.declared.thing.Thing.{Thing}
 use Rattle.osb_network.specs.Cell.{Cell}
 use Rattle.osb_network.specs.Possible.{request_of}
-use Rattle.osb_network.specs.Truth.{is_true_end, is_true_finish_of, may_become}
+use Rattle.osb_network.specs.Truth.{is_true_end, is_true_finish_of, is_under_way}
 
 -- ---- what a step writes
 
@@ -190,7 +190,7 @@ abbrev pub finish : Cell → Bool → Cell
 finish cell ok = if can_finish cell ok then record cell { held = finished_held cell.held ok } else cell
 
 abbrev pub work : Cell → Thing → Cell
-work cell thing = if may_become cell.held thing then record cell { thing = thing } else cell
+work cell thing = if is_under_way cell.held then record cell { thing = thing } else cell
 
 abbrev pub crash_broker : Cell → Cell
 crash_broker cell = record cell { worker = None }
@@ -233,7 +233,7 @@ applies cell (Event.TakeGateway status) = is_within 500 599 status && has_out ce
 applies cell (Event.End outcome) = may_end cell cell.held.work outcome
 applies cell Event.EndUnknown = is_some cell.worker
 applies cell (Event.Finish ok) = can_finish cell ok
-applies cell (Event.Work thing) = may_become cell.held thing
+applies cell (Event.Work thing) = is_under_way cell.held
 applies cell Event.CrashBroker = true
 applies cell Event.CrashPlatform = true
 

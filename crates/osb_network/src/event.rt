@@ -46,7 +46,8 @@ pub enum Event {
         at: usize,
     },
     /// A gateway answers the request that is out, with a body that can't be read. It applies where one is out and the
-    /// status is from 500 to 599: a gateway's 4xx is taken for a [`Event::Timeout`].
+    /// status is from 500 to 599. Whatever else a gateway says has to be told from what the broker says, and is a
+    /// [`Event::Timeout`]: a premise.
     TakeGateway {
         /// The status.
         status: u16,
@@ -68,8 +69,8 @@ pub enum Event {
         /// Whether it ends well.
         ok: bool,
     },
-    /// The thing becomes this. It applies where work to make it is recorded or it is being made, and this is a part or
-    /// all of it; and where work to delete it is recorded or it is being deleted, and this is a part or none.
+    /// The thing becomes this: it is made or deleted, a part of it or all, or what was done is undone. It applies where
+    /// work is recorded or an operation runs. Nothing else changes the thing: a premise.
     Work {
         /// What there is of it then.
         thing: Thing,

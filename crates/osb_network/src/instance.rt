@@ -19,8 +19,8 @@ use std::marker::Model;
 /// One instance: what the platform records, what the broker holds, the thing in the backend, every request ever sent
 /// and every answer ever given (this project's choice, and so are its calls).
 ///
-/// Contracts see its cell, which can come about (`IsPossible`); and so both sides and the backend agree on it, whatever
-/// has happened to it, in the sense of the [crate](crate)'s first page.
+/// Contracts see its cell, which can come about (`IsPossible`); and so both sides and the backend agree on it,
+/// whatever has happened to it, in the sense of the [crate](crate)'s first page.
 #[derive(Drop)]
 pub struct Instance {
     parts: Parts,
@@ -212,9 +212,12 @@ impl Instance {
     /// The instance is settled then: the platform records `ready`, `gone` or `unsettled`, or nothing as before. That
     /// needs three numbers for requests, which every instance has that has sent fewer than 2^64 - 3.
     ///
+    /// `alloc` is for nothing that is written here: requests and answers go to the instance's own allocator.
+    ///
     /// # Errors
     ///
-    /// [`Memory`] where an allocation failed. The instance is then as it was after some of these events.
+    /// [`Memory`] where an allocation failed. Some of these events have happened then, and the contract says no more
+    /// than that both sides and the backend agree.
     pub fn settle(&mut self, alloc: Global) -> Result<(), Memory>
         ensures cell { OnOk result (self.new ≡ settled_cell self.old) }
         ensures settled { HasNumbers 3 self.old → OnOk result (IsSettled self.new) }
@@ -230,7 +233,8 @@ impl Instance {
 }
 
 /// A new instance, stepped through the events: whatever they are, and in whatever order, both sides and the backend
-/// agree on it then, in the sense of the [crate](crate)'s first page (this project's choice).
+/// agree on it then, in the sense of the [crate](crate)'s first page (this project's choice). `alloc` is for all that
+/// the instance writes.
 ///
 /// # Errors
 ///

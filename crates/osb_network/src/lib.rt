@@ -4,16 +4,16 @@
 //! An [`Instance`] is made of an [`Order`]. [`Instance::step`] lets an [`Event`] happen to it, [`run`] goes through a
 //! list of them, and a [`Network`] has many instances, each by itself. Both sides are the values of `osb_instance`:
 //! what the platform records and what the broker holds. Whatever happens, they and the thing in the backend agree
-//! (`Agrees`, in `specs/Agreement.antt`): where the platform records `ready`, the thing is there whole, the broker holds
-//! the instance, complete, with that service and plan, and no work is recorded; where the platform records `gone`, or
-//! nothing, there is no thing, no row and no work.
+//! (`Agrees`, in `specs/Agreement.antt`): where the platform records `ready`, the thing is there whole, the broker
+//! holds the instance, complete, with that service and plan, and no work is recorded; where the platform records
+//! `gone`, or nothing, there is no thing, no row and no work.
 //!
-//! What that rests on is in the definition of the events, and in docs/agreement.md: what a program writes to its
-//! database stays, an instance's row is changed by one transaction at a time and worked on by one worker, an outcome is
-//! told truly, the plan's mode stays as it is, an id is used once.
+//! What that rests on is told in docs/agreement.md, each premise with who has to keep it. The events are defined so
+//! that they keep all of them.
 //!
 //! What the platform records and the broker answers are the tables of their crates, by the Open Service Broker API
-//! Specification 2.17. The rest is this project's choice: the standard says nothing of a network, of work or of crashes.
+//! Specification 2.17. The rest is this project's choice: the standard says nothing of a network, of work or of
+//! crashes.
 #![tactic(auto)]
 
 mod event;

@@ -50,6 +50,8 @@ fn step_at(
         → tree.get nat_cmp instances.new other ≡ tree.get nat_cmp instances.old other }
     ensures applied { IfOk result (λ s.
         s ≡ step_of (applies_to event (tree.get nat_cmp instances.old id))) }
+    ensures skipped { result ≡ Ok Step.Skipped
+        → tree.get nat_cmp instances.new id ≡ tree.get nat_cmp instances.old id }
     ensures err { OnErr result (tree.get nat_cmp instances.new id ≡ tree.get nat_cmp instances.old id) }
     ensures no_memory { asks_memory event (tree.get nat_cmp instances.old id) ≡ false → IsOk result }
 {
@@ -71,7 +73,7 @@ impl Network {
     }
 
     /// Takes an instance in to which nothing has happened yet: [`Step::Applied`]. Where there is one with the order's
-    /// id, nothing changes: [`Step::Skipped`].
+    /// id, nothing changes: [`Step::Skipped`]. The instance keeps `alloc` for what is sent and answered.
     ///
     /// # Errors
     ///
@@ -107,7 +109,7 @@ impl Network {
     }
 
     /// Lets an event of one instance happen: [`Instance::step`]. Every other instance is as before. Where there is
-    /// none with the id, nothing changes: [`Step::Skipped`].
+    /// none with the id, nothing changes: [`Step::Skipped`]. `alloc` is for the texts of a crash.
     ///
     /// # Errors
     ///
@@ -117,6 +119,7 @@ impl Network {
             (finite.get self.new id ≡ stepped_by event (finite.get self.old id)) }
         ensures others { (other : ℕ) → other ≢ id → finite.get self.new other ≡ finite.get self.old other }
         ensures applied { IfOk result (λ s. s ≡ step_of (applies_to event (finite.get self.old id))) }
+        ensures skipped { result ≡ Ok Step.Skipped → finite.get self.new id ≡ finite.get self.old id }
         ensures err { OnErr result (finite.get self.new id ≡ finite.get self.old id) }
         ensures no_memory { asks_memory event (finite.get self.old id) ≡ false → IsOk result }
     {
@@ -127,12 +130,12 @@ impl Network {
     ///
     /// Each instance is then where its own events alone lead it, whatever stands between them: instances are
     /// independent. So any number of processes may serve them from one database, each instance by one at a time, and a
-    /// log of many may be read instance by instance.
+    /// log of many may be read instance by instance. `alloc` is for the texts of crashes.
     ///
     /// # Errors
     ///
-    /// [`Memory`] at the first event where an allocation failed. The events before it have happened then, and this one
-    /// and those after it haven't.
+    /// [`Memory`] at the first event where an allocation failed. The contract says nothing of what has happened by
+    /// then: who needs that lets the events happen one by one, by [`Network::step`].
     pub fn steps(&mut self, alloc: Global, events: &[InstanceEvent]) -> Result<(), Memory>
         ensures cells { OnOk result ((id : ℕ) →
             finite.get self.new id ≡ stepped_through id events.now (finite.get self.old id)) }

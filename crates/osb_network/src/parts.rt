@@ -6,7 +6,7 @@ ghost use Rattle.osb_network.specs.Cell.{IsPossible, empty_cell};
 ghost use Rattle.osb_network.specs.Steps as step;
 ghost use Rattle.osb_network.specs.Steps.{step_of};
 
-use crate::truth::{is_true_end, is_true_finish, may_become};
+use crate::truth::{is_true_end, is_true_finish, is_under_way};
 use crate::{Event, Given, Order, Step, Thing};
 use osb_broker::Outcome;
 use osb_instance::{Begun, Holding, Record, Sent, TextFault};
@@ -361,7 +361,7 @@ impl Parts {
         ensures cell { self.new ≡ step.cell_step self.old (Event.Work thing) }
         ensures step { result ≡ step_of (step.applies self.old (Event.Work thing)) }
     {
-        if !may_become(self.holding.work(), self.holding.row(), thing) {
+        if !is_under_way(self.holding.work(), self.holding.row()) {
             return Step::Skipped;
         }
         self.thing = thing;

@@ -39,33 +39,13 @@ pub(crate) fn is_true_finish(row: Option<BrokerRow>, ok: bool, thing: Thing) -> 
     }
 }
 
-fn may_leave(kind: Kind, thing: Thing) -> bool
-    ensures is { result ≡ spec.may_leave kind thing }
-{
-    match (kind, thing) {
-        (Kind::Provision, Thing::Part | Thing::Whole) => true,
-        (Kind::Deprovision, Thing::Absent | Thing::Part) => true,
-        _ => false,
-    }
-}
-
-fn may_leave_in(phase: Phase, thing: Thing) -> bool
-    ensures is { result ≡ spec.may_leave_in phase thing }
-{
-    match (phase, thing) {
-        (Phase::Making, Thing::Part | Thing::Whole) => true,
-        (Phase::Deleting, Thing::Absent | Thing::Part) => true,
-        _ => false,
-    }
-}
-
-// Whether the thing may become this while what is kept stays.
-pub(crate) fn may_become(work: Option<Request>, row: Option<BrokerRow>, thing: Thing) -> bool
-    ensures is { result ≡ spec.may_become_by work row thing }
+// Whether something is under way that may change the thing.
+pub(crate) fn is_under_way(work: Option<Request>, row: Option<BrokerRow>) -> bool
+    ensures is { result ≡ spec.is_under_way_by work row }
 {
     match (work, row) {
-        (Some(request), _) => may_leave(request.kind, thing),
-        (None, Some(row)) => may_leave_in(row.phase, thing),
+        (Some(_), _) => true,
+        (None, Some(row)) => matches!(row.phase, Phase::Making | Phase::Deleting),
         (None, None) => false,
     }
 }
