@@ -1,7 +1,8 @@
 //! Tells what `osb_network` makes of each case on standard input. A line `order MODE accepts|refuses` begins a new
 //! instance, with the mode `sync`, `async`, or `-` for a plan that isn't on sale, and each further line is an event
-//! that happens to it, or `settle`. Each line is written again, and below it what has become of the event, and all
-//! that there is then. Empty lines and comments, which begin with `#`, are written again alone.
+//! that happens to it, or `settle`. A line `many MODE accepts|refuses: ID EVENT, ..` has three instances, with the ids
+//! 1 to 3, and lets a list of events happen to them. Each line is written again, and below it what has become of the
+//! event, and all that there is then. Empty lines and comments, which begin with `#`, are written again alone.
 //!
 //! What there is: the platform's record, as its state, the kind of the request that is out, and the number of the
 //! latest request; the broker's holding, as its row's phase, the kind of the recorded work, and its mark; the thing;
@@ -10,6 +11,7 @@
 #![tactic(auto)]
 
 mod events;
+mod many;
 mod orders;
 mod sides;
 mod words;
@@ -58,7 +60,9 @@ fn main(rt: HostRuntime) -> Result<()> {
         let line = line?;
         let text = line.as_str();
         println!(rt; "{text}")?;
-        if !text.is_empty() && !text.starts_with('#') {
+        if let Some(words) = text.strip_prefix("many ") {
+            many::tell(&rt, rt.alloc(), words)?;
+        } else if !text.is_empty() && !text.starts_with('#') {
             let after = tell(&rt, rt.alloc(), instance, text)?;
             instance = Some(after);
         }
