@@ -1,7 +1,7 @@
 #!/usr/bin/env python3
-"""Proves and builds a crate with all that it stands on, several crates at once, by the command rt.
+"""Proves and builds crates with all that they stand on, several crates at once, by the command rt.
 
-    scripts/build.py WHO NAME archive           of a library, out/libNAME.a, as rt lib makes it of a static library
+    scripts/build.py WHO NAME,NAME archive      of each library, out/libNAME.a, as rt lib makes it of a static library
     scripts/build.py WHO NAME program WORD ..   of a program, out/NAME, as rt run makes it and runs it on the words
 
 WHO stands before each line that is told. A crate begins when all below it are built. rt works in the folders of a
@@ -69,16 +69,17 @@ def rows() -> list[tuple[str, str, list[str]]]:
     return [(head.split()[0], line, uses.replace(",", " ").split()) for line, head, uses in parts if head.strip()]
 
 
-def crates_of(wanted: str) -> dict[str, Crate]:
-    """The wanted crate and all below it, lowest first."""
+def crates_of(wanted: list[str]) -> dict[str, Crate]:
+    """The wanted crates and all below them, lowest first."""
     lines = rows()
     names = {name for name, _, _ in lines}
-    if wanted not in names:
-        raise ValueError(f"crates.txt has no line for {wanted}")
+    for name in wanted:
+        if name not in names:
+            raise ValueError(f"crates.txt has no line for {name}")
     known = {name: Crate(name, row, [it for it in uses if it in names]) for name, row, uses in lines}
     order: dict[str, Crate] = {}
     graph = graphlib.TopologicalSorter({name: it.uses for name, it in known.items()})
-    needed = {wanted}
+    needed = set(wanted)
     for name in reversed([*graph.static_order()]):
         if name in needed:
             needed.update(known[name].uses)
@@ -193,14 +194,14 @@ def functions_proved(log: Path) -> str:
 
 
 class Build:
-    """A wanted crate, and how far its build is."""
+    """The wanted crates, and how far their build is."""
 
-    def __init__(self, who: str, wanted: str, kind: str, words: list[str]) -> None:
+    def __init__(self, who: str, wanted: list[str], kind: str, words: list[str]) -> None:
         self.who, self.wanted, self.kind, self.words = who, wanted, kind, words
         self.crates = crates_of(wanted)
         self.way = ways(self.crates)
         self.longest = longest_way(self.crates, self.way)
-        self.out = TOP / "crates" / wanted / "out"
+        self.out = TOP / "crates" / wanted[0] / "out"
         self.rooms, self.log = self.out / "room", self.out / "build.log"
         self.running: list[Job] = []
         self.ended = 0
@@ -291,7 +292,7 @@ class Build:
     def row(self, name: str) -> str:
         """The crate's line, in which an archive's says so."""
         row = self.crates[name].row
-        is_archive = name == self.wanted and self.kind == "archive"
+        is_archive = name in self.wanted and self.kind == "archive"
         return row.replace(name, f"{name} staticlib", 1) if is_archive else row
 
     def furnish(self, name: str) -> Path:
@@ -327,7 +328,7 @@ class Build:
 
     def command(self, name: str) -> tuple[Path, list[str]]:
         """Where rt is started for the crate, and how: a program is built only to be run."""
-        if name == self.wanted and self.kind == "program":
+        if name in self.wanted and self.kind == "program":
             self.let_rt_in()
             return TOP / "crates" / name, ["rt", "run", "--", *self.words]
         return self.furnish(name), ["rt", "lib", *([] if name in self.longest else ["--jobs", "2"])]
@@ -405,12 +406,12 @@ class Build:
 
 
 def main() -> int:
-    who, wanted, kind, *words = sys.argv[1:]
+    who, names, kind, *words = sys.argv[1:]
     for it in SIGNALS:
         signal.signal(it, lambda *_: None)
     signal.pthread_sigmask(signal.SIG_BLOCK, SIGNALS)
     try:
-        return Build(who, wanted, kind, words).run()
+        return Build(who, names.split(","), kind, words).run()
     except Ended:
         return 1
     except (OSError, ValueError) as error:

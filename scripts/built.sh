@@ -1,15 +1,20 @@
-# What the built program was made of. Read by the launcher and by libosb, and by check, which marks the program that
-# the gate has proved and built as the current one. $top is the folder of the repository. The program is
-# that of the crate $built_crate, osb_replay where nothing else is said, under the name $built_file in its folder out.
-: "${built_crate:=osb_replay}" "${built_file:=$built_crate}"
-out=$top/crates/$built_crate/out
-program=$out/$built_file
+# What was built, and what it was made of. Read by the launcher and by libosb, and by check, which marks the program
+# that the gate has proved and built as the current one. $top is the folder of the repository. What is built is the
+# program of the crate osb_replay, or where the array `archives` has crates, the archive of each of them.
+made=("$top/crates/osb_replay/out/osb_replay") wanted=osb_replay
+if [ -n "${archives:-}" ]; then
+    made=()
+    for name in "${archives[@]}"; do made+=("$top/crates/$name/out/lib$name.a"); done
+    wanted=$(IFS=, && echo "${archives[*]}")
+fi
+program=${made[0]}
+out=${program%/*}
 built=$out/built
 
-# The crates that the program is made of, lowest first. crates.txt has a line 'NAME: DEP DEP ..' for
-# each crate; a DEP without a line is the kit's.
+# The crates that it is made of, lowest first. crates.txt has a line 'NAME: DEP DEP ..' for each crate; a DEP without a
+# line is the kit's.
 crates() {
-    awk -v of="$built_crate" '
+    awk -v of="$wanted" '
         function visit(name, deps, count, i) {
             if (!(name in below) || seen[name]++) return
             count = split(below[name], deps, " ")
@@ -18,7 +23,10 @@ crates() {
         }
         { sub(/#.*/, "") }
         /:/ { name = $1; sub(/:.*/, "", name); sub(/^[^:]*:/, ""); below[name] = $0 }
-        END { visit(of) }' "$top/crates.txt"
+        END {
+            count = split(of, wanted, ",")
+            for (i = 1; i <= count; i++) visit(wanted[i])
+        }' "$top/crates.txt"
 }
 
 # A digest of the names and contents of the sources. It fails where one of them can't be read.
@@ -49,31 +57,38 @@ kit() {
     echo "${files//$'\n'/ }"
 }
 
-# is_current SOURCES: whether the program is what a build from these sources by this kit gave. A
-# program whose kit isn't there any more is current too.
+# A digest of what was built. It fails where a part of it isn't there.
+digest() (
+    set -o pipefail
+    cat "${made[@]}" 2>/dev/null | sha256sum
+)
+
+# is_current SOURCES: whether what was built is what a build from these sources by this kit gave. Where there is no kit
+# any more it is current too.
 is_current() {
-    local old_sources old_program old_version old_kit kit
+    local old_sources old_made old_version old_kit kit
     case $program in
         *.a) [ -r "$program" ] ;;
         *) [ -x "$program" ] ;;
     esac && [ -r "$built" ] || return 1
-    { read -r old_sources && read -r old_program && read -r old_version && read -r old_kit; } <"$built" || return 1
-    [ "$old_sources" = "$1" ] && [ "$old_program" = "$(sha256sum <"$program")" ] || return 1
+    { read -r old_sources && read -r old_made && read -r old_version && read -r old_kit; } <"$built" || return 1
+    [ "$old_sources" = "$1" ] && [ "$old_made" = "$(digest)" ] || return 1
     kit=$(kit)
     [ -z "$kit" ] || [ "$old_kit" = "$kit" ] || [ "$old_version" = "$(version)" ]
 }
 
-# mark SOURCES VERSION KIT: the program was built from these sources by this kit.
+# mark SOURCES VERSION KIT: what was built is from these sources, by this kit.
 mark() {
-    printf '%s\n' "$1" "$(sha256sum <"$program")" "$2" "$3" >"$built.new" && mv "$built.new" "$built"
+    local found
+    found=$(digest) && printf '%s\n' "$1" "$found" "$2" "$3" >"$built.new" && mv "$built.new" "$built"
 }
 
-# build_crates WHO KIND WORD ..: has scripts/build.py prove and build the crate and all below it, and WHO tell of it.
+# build_crates WHO KIND WORD ..: has scripts/build.py prove and build it with all below it, and WHO tell of it.
 # Where this shell is ended, so is the build.
 build_crates() {
     local who=$1 child signal status
     shift
-    "$top/scripts/build.py" "$who" "$built_crate" "$@" </dev/null &
+    "$top/scripts/build.py" "$who" "$wanted" "$@" </dev/null &
     child=$!
     for signal in INT TERM HUP; do
         # shellcheck disable=SC2064

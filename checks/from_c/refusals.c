@@ -174,6 +174,136 @@ static bool is_seven(struct osb_id id)
             fail(#name " isn't done");                                   \
     } while (0)
 
+/* ---- One instance as a value, and the wire: the calls that take memory. What they write is as before where they are
+ * refused it; the text of the longest record and of the longest holding is written and read. */
+
+enum { TEXT = 400 };
+
+static const uint8_t no_text[TEXT];
+
+static struct osb_request asking(uint8_t kind)
+{
+    struct osb_request request = {0, true, {0, 1}, {0, 0xa0}, {0, 0xb1}};
+    request.kind = kind;
+    return request;
+}
+
+static bool is_record(struct osb_record it, uint64_t attempt, uint8_t state)
+{
+    return it.attempt == attempt && it.state == state;
+}
+
+static void record_texts(void)
+{
+    static uint8_t text[TEXT];
+    struct osb_record record = {{0, 0xa0}, {0, 0xb1}, UINT64_MAX, OSB_STATE_CLEANING, OSB_KIND_DEPROVISION};
+    struct osb_record back = {{7, 7}, {7, 7}, 7, 7, 7};
+    size_t length = 7;
+    DO(osb_record_to_text, (&record, text, TEXT, &length), length == 7 && is_zero(text, TEXT));
+    DO(osb_record_from_text, (text, length, &back),
+       is_record(back, 7, 7) && back.out == 7 && is_seven(back.service) && is_seven(back.plan));
+    if (!is_record(back, UINT64_MAX, OSB_STATE_CLEANING) || back.out != OSB_KIND_DEPROVISION || back.plan.low != 0xb1)
+        fail("a record isn't read back");
+}
+
+static void holding_texts(void)
+{
+    static uint8_t text[TEXT];
+    struct osb_holding holding = {{{0, 0xa0}, {0, 0xb1}, OSB_PHASE_DELETE_FAILED},
+        {OSB_KIND_DEPROVISION, true, {0, 1}, {0, 0xa0}, {0, 0xb1}}, true, true, false};
+    struct osb_holding back = {{{7, 7}, {7, 7}, 7}, {7, false, {7, 7}, {7, 7}, {7, 7}}, false, false, true};
+    size_t length = 7;
+    DO(osb_holding_to_text, (&holding, text, TEXT, &length), length == 7 && is_zero(text, TEXT));
+    DO(osb_holding_from_text, (text, length, &back),
+       back.row.phase == 7 && back.work.kind == 7 && is_seven(back.work.id) && is_seven(back.row.plan)
+           && !back.has_row && !back.has_work && back.is_marked);
+    if (!back.has_row || !back.has_work || back.is_marked || back.row.phase != OSB_PHASE_DELETE_FAILED)
+        fail("a holding isn't read back");
+}
+
+#define BYTES(text) (const uint8_t *)(text), strlen(text)
+
+static void sent(void)
+{
+    static uint8_t text[TEXT];
+    struct osb_request poll = asking(OSB_KIND_POLL), provision = asking(OSB_KIND_PROVISION);
+    struct osb_answer answer = {7, 7};
+    size_t length = 7;
+    DO(osb_read_answer, (OSB_KIND_POLL, 200, BYTES("{\"state\":\"succeeded\",\"a\":[1,{}]}"), &answer),
+       answer.status == 7 && answer.body == 7);
+    if (answer.status != 200 || answer.body != OSB_BODY_SUCCEEDED)
+        fail("an answer isn't read");
+    DO(osb_read_operation, (BYTES("{\"operation\":\"making 1\"}"), text, TEXT, &length),
+       length == 7 && is_zero(text, TEXT));
+    if (length != 8)
+        fail("an operation isn't read");
+    memcpy(text, no_text, TEXT);
+    length = 7;
+    DO(osb_write_target, (BYTES("/broker"), &poll, true, BYTES("making 1"), text, TEXT, &length),
+       length == 7 && is_zero(text, TEXT));
+    memcpy(text, no_text, TEXT);
+    length = 7;
+    DO(osb_write_body, (&provision, BYTES("o"), BYTES("s"), BYTES("{\"context\":{\"a\":1}}"), text, TEXT, &length),
+       length == 7 && is_zero(text, TEXT));
+}
+
+#define LAST PATH "/last_operation?"
+#define PATH "/v2/service_instances/00000000-0000-0000-0000-000000000001"
+#define PAIR "service_id=00000000-0000-0000-0000-0000000000a0&plan_id=00000000-0000-0000-0000-0000000000b1"
+
+/* What is asked is as before. */
+static bool is_unasked(struct osb_asked it)
+{
+    return it.kind == 7 && !it.accepts_incomplete && !it.has_service && !it.has_plan && is_seven(it.id)
+        && is_seven(it.service) && is_seven(it.plan);
+}
+
+static void taken(void)
+{
+    static const struct osb_asked unasked = {7, false, false, false, {7, 7}, {7, 7}, {7, 7}};
+    static const char *const body = "{\"service_id\":\"00000000-0000-0000-0000-0000000000a0\","
+                                    "\"plan_id\":\"00000000-0000-0000-0000-0000000000b1\","
+                                    "\"organization_guid\":\"o\",\"space_guid\":\"s\"}";
+    struct osb_asked it = unasked;
+    static uint8_t text[TEXT];
+    size_t length = 7;
+    DO(osb_read_request, (BYTES(""), 999, BYTES("PUT"), BYTES(PATH "?accepts%5fincomplete=true"), BYTES(body), &it),
+       is_unasked(it));
+    it = unasked;
+    DO(osb_read_request, (BYTES(""), 9, BYTES("GET"), BYTES(LAST PAIR "&operation=a%20b"), BYTES(""), &it),
+       is_unasked(it));
+    it = unasked;
+    DO(osb_read_request, (BYTES(""), 9, BYTES("DELETE"), BYTES(PATH "?" PAIR "&x=a%20b"), BYTES(""), &it),
+       is_unasked(it));
+    if (it.kind != OSB_KIND_DEPROVISION || it.plan.low != 0xb1)
+        fail("a request isn't read");
+    DO(osb_asked_operation, (BYTES(LAST "operation=making%201"), text, TEXT, &length),
+       length == 7 && is_zero(text, TEXT));
+    if (length != 8)
+        fail("an operation isn't read");
+}
+
+static void answered(void)
+{
+    static uint8_t text[TEXT];
+    struct osb_plan plans[3] = {{{0, 0}, {0, 0}, false}, {{0, 0}, {0, 0}, false}, {{0, 0}, {0, 0}, false}};
+    struct osb_answer accepted = {202, OSB_BODY_EMPTY}, refused = {409, OSB_BODY_OTHER_ERROR};
+    size_t length = 7, count = 7;
+    DO(osb_write_answer, (accepted, true, BYTES("making 1"), text, TEXT, &length), length == 7 && is_zero(text, TEXT));
+    memcpy(text, no_text, TEXT);
+    length = 7;
+    DO(osb_write_answer, (refused, false, BYTES(""), text, TEXT, &length), length == 7 && is_zero(text, TEXT));
+    DO(osb_basic_auth, (BYTES("Basic QTpC"), BYTES("A"), BYTES("B")), true);
+    DO(osb_catalogue_plans,
+       (BYTES("{\"services\":[{\"id\":\"00000000-0000-0000-0000-0000000000a0\",\"plans\":["
+              "{\"id\":\"00000000-0000-0000-0000-0000000000b2\",\"asynchronous\":true},"
+              "{\"id\":\"00000000-0000-0000-0000-0000000000b1\"}]}]}"),
+        plans, 3, &count),
+       count == 7 && is_zero(plans, sizeof plans));
+    if (count != 2 || plans[0].plan.low != 0xb1 || !plans[1].is_asynchronous)
+        fail("a catalogue isn't read");
+}
+
 static void provision(unsigned k)
 {
     struct osb_request request = {7, true, {7, 7}, {7, 7}, {7, 7}};
@@ -181,45 +311,64 @@ static void provision(unsigned k)
     DO(osb_platform_create, (&platform, id_of(k), service, plan, false, &request),
        request.kind == 7 && request.accepts_incomplete && is_seven(request.id) && is_seven(request.service)
            && is_seven(request.plan));
-    DO(osb_broker_handle, (&broker, &request, OSB_WORK_DONE, &answer), answer.status == 7 && answer.body == 7);
+    DO(osb_broker_handle, (&broker, &request, OSB_OUTCOME_DONE, &answer), answer.status == 7 && answer.body == 7);
     if (answer.status != 201)
         fail("the broker doesn't make the instance");
     if (osb_platform_answer(&platform, id_of(k), answer) != OSB_DONE)
         fail("osb_platform_answer isn't done");
 }
 
-int main(void)
+static void make_broker(void)
 {
-    static uint8_t text[ROOM], again[ROOM];
-    static struct osb_id ids[INSTANCES];
     struct osb_plan plans[20];
-    struct osb_platform_row row = {0};
-    size_t length = 7, length_again = 7, count = 7, in_use;
     unsigned k;
-
-    /* What the C library keeps from its first allocation on isn't counted. */
-    free(malloc(1));
-    in_use = mallinfo2().uordblks;
-
     memset(plans, 0, sizeof plans);
     for (k = 0; k < 20; k++) {
         plans[k].service = service;
         plans[k].plan.low = 0xb1 + k;
     }
     DO(osb_broker_new, (&broker, plans, 20), broker.at == NULL);
-    DO(osb_platform_new, (&platform), platform.at == NULL);
-    for (k = 0; k < INSTANCES; k++)
-        provision(k);
+}
+
+/* What was provisioned, listed, saved and loaded. */
+static void save_and_load(void)
+{
+    static uint8_t text[ROOM], again[ROOM];
+    static struct osb_id ids[INSTANCES];
+    struct osb_platform_row row = {0};
+    size_t length = 7, length_again = 7, count = 7;
+
     DO(osb_platform_save, (&platform, text, ROOM, &length), length == 7 && is_zero(text, ROOM));
     DO(osb_platform_ids, (&platform, ids, INSTANCES, &count), count == 7 && is_zero(ids, sizeof ids));
     if (count != INSTANCES || ids[0].low != 0 || ids[INSTANCES - 1].high != 2)
         fail("the ids aren't all there");
     DO(osb_platform_load, (&loaded, text, length), loaded.at == NULL);
-    if (osb_platform_row(&loaded, id_of(INSTANCES - 1), &row) != OSB_DONE || row.state != OSB_READY)
+    if (osb_platform_row(&loaded, id_of(INSTANCES - 1), &row) != OSB_DONE || row.state != OSB_STATE_READY)
         fail("the loaded platform doesn't know an instance");
     DO(osb_platform_save, (&loaded, again, ROOM, &length_again), length_again == 7 && is_zero(again, ROOM));
     if (length != length_again || memcmp(text, again, length) != 0)
         fail("the loaded platform is saved otherwise");
+}
+
+int main(void)
+{
+    size_t in_use;
+    unsigned k;
+
+    /* What the C library keeps from its first allocation on isn't counted. */
+    free(malloc(1));
+    in_use = mallinfo2().uordblks;
+
+    make_broker();
+    DO(osb_platform_new, (&platform), platform.at == NULL);
+    for (k = 0; k < INSTANCES; k++)
+        provision(k);
+    save_and_load();
+    record_texts();
+    holding_texts();
+    sent();
+    taken();
+    answered();
     osb_platform_free(&platform);
     osb_platform_free(&loaded);
     osb_broker_free(&broker);

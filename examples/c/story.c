@@ -78,7 +78,7 @@ int main(void)
     /* The Provision is recorded and saved before it is sent. */
     done(osb_platform_create(&platform, id, plan.service, plan.plan, false, &request), "osb_platform_create");
     save(&platform, &saved);
-    done(osb_broker_handle(&broker, &request, OSB_WORK_DONE, &answer), "osb_broker_handle");
+    done(osb_broker_handle(&broker, &request, OSB_OUTCOME_DONE, &answer), "osb_broker_handle");
     printf("%s: %d, and the answer gets lost\n", kinds[request.kind], answer.status);
     show(&platform, &broker, id);
 
@@ -92,7 +92,7 @@ int main(void)
      * shown. */
     while ((status = osb_platform_send(&platform, id, &request)) == OSB_DONE) {
         save(&platform, &saved);
-        done(osb_broker_handle(&broker, &request, OSB_WORK_DONE, &answer), "osb_broker_handle");
+        done(osb_broker_handle(&broker, &request, OSB_OUTCOME_DONE, &answer), "osb_broker_handle");
         done(osb_platform_answer(&platform, id, answer), "osb_platform_answer");
         save(&platform, &saved);
         printf("%s: %d\n", kinds[request.kind], answer.status);

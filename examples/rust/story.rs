@@ -89,7 +89,7 @@ mod osb {
         fn osb_platform_row(platform: *mut Handle, id: Id, row: *mut PlatformRow) -> u32;
         fn osb_platform_save(
             platform: *mut Handle,
-            room: *mut u8,
+            buffer: *mut u8,
             bytes: usize,
             needed: *mut usize,
         ) -> u32;
@@ -151,16 +151,16 @@ mod osb {
         }
 
         pub fn save(&mut self) -> Result<Vec<u8>, Status> {
-            let (mut room, mut needed) = (Vec::new(), 0);
+            let (mut buffer, mut needed) = (Vec::new(), 0);
             loop {
                 let status = unsafe {
-                    osb_platform_save(&mut self.handle, room.as_mut_ptr(), room.len(), &mut needed)
+                    osb_platform_save(&mut self.handle, buffer.as_mut_ptr(), buffer.len(), &mut needed)
                 };
                 if status != TOO_SMALL {
-                    room.truncate(needed);
-                    return done(status, room);
+                    buffer.truncate(needed);
+                    return done(status, buffer);
                 }
-                room.resize(needed, 0);
+                buffer.resize(needed, 0);
             }
         }
 
@@ -246,7 +246,7 @@ const STATES: [&str; 7] = [
     "gone",
     "unsettled",
 ];
-const WORK_DONE: u8 = 0;
+const OUTCOME_DONE: u8 = 0;
 
 fn show(platform: &mut Platform, broker: &mut Broker, id: Id) -> Result<(), Status> {
     let state = STATES[platform.row(id)?.state as usize];
@@ -281,7 +281,7 @@ fn main() -> Result<(), Status> {
     // The Provision is recorded and saved before it is sent.
     let request = platform.create(id, service, plan, false)?;
     save(&mut platform, &mut saved)?;
-    let answer = broker.handle(&request, WORK_DONE)?;
+    let answer = broker.handle(&request, OUTCOME_DONE)?;
     println!(
         "{}: {}, and the answer gets lost",
         KINDS[request.kind as usize], answer.status
@@ -300,7 +300,7 @@ fn main() -> Result<(), Status> {
             sent => sent?,
         };
         save(&mut platform, &mut saved)?;
-        let answer = broker.handle(&request, WORK_DONE)?;
+        let answer = broker.handle(&request, OUTCOME_DONE)?;
         platform.answer(id, answer)?;
         save(&mut platform, &mut saved)?;
         println!("{}: {}", KINDS[request.kind as usize], answer.status);

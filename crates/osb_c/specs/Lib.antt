@@ -1,10 +1,3 @@
-pub mod Answers
 pub mod Handles
-pub mod Ids
-pub mod Kinds
-pub mod Outcomes
+pub mod LoadStatus
 pub mod Plans
-pub mod Requests
-pub mod Rows
-pub mod States
-pub mod Status

@@ -6,25 +6,23 @@ ghost use Rattle.osb_message.specs.declared.messages.Kind.TheVariants.{Provision
 ghost use Rattle.osb_broker.specs.Finished.{finished, is_running};
 ghost use Rattle.osb_broker.specs.Handled.{handled_by, makes_row};
 ghost use Rattle.osb_broker.specs.Held.{IsHeld, IsHeldAt};
-ghost use Rattle.osb_c.specs.Answers.{answer_of};
+ghost use Rattle.osb_c_types.specs.Answers.{answer_of};
 ghost use Rattle.osb_c.specs.Handles.{row_at, sold_by};
-ghost use Rattle.osb_c.specs.Ids.{number_of};
-ghost use Rattle.osb_c.specs.Kinds.{kind_of};
-ghost use Rattle.osb_c.specs.Outcomes.{outcome_of};
+ghost use Rattle.osb_c_types.specs.Ids.{number_of};
+ghost use Rattle.osb_c_types.specs.Kinds.{kind_of};
+ghost use Rattle.osb_c_types.specs.Outcomes.{outcome_of};
 ghost use Rattle.osb_c.specs.Plans.{catalogue_of};
-ghost use Rattle.osb_c.specs.Requests.{request_of};
-ghost use Rattle.osb_c.specs.Rows.{row_of};
-ghost use Rattle.osb_c.specs.Status.{code, is_one_of};
+ghost use Rattle.osb_c_types.specs.Requests.{request_of};
+ghost use Rattle.osb_c_types.specs.Rows.{row_of};
+ghost use Rattle.osb_c_types.specs.Status.{code, is_one_of};
 
-use crate::answers::{OsbAnswer, answer_out};
 use crate::broker_handle::OsbBroker;
-use crate::ids::{OsbId, id_from};
-use crate::outcomes::outcome_from;
-use crate::plans::{OsbPlan, catalogue_from};
-use crate::requests::{OsbRequest, request_from};
-use crate::rows::{OsbBrokerRow, row_out};
-use crate::status::Status;
+use crate::plans::catalogue_from;
 use osb_broker::{Broker, NothingRunning};
+use osb_c_types::{
+    OsbAnswer, OsbBrokerRow, OsbId, OsbPlan, OsbRequest, Status, answer_out, id_from, outcome_from,
+    request_from, row_out,
+};
 use osb_message::{AddFault, Memory};
 use std::alloc::Global;
 

@@ -5,13 +5,11 @@ ghost use Rattle.osb_platform.specs.Mitigation.{mitigate};
 ghost use Rattle.osb_platform.specs.State.{state_after_provision, state_after_poll, state_after_deprovision};
 ghost use Rattle.osb_platform.specs.State.{after_timeout, after_restart};
 ghost use Rattle.osb_platform.specs.declared.state.State.TheVariants.{Cleaning};
-ghost use Rattle.osb_c.specs.Answers.{answer_of};
-ghost use Rattle.osb_c.specs.Kinds.{kind_of};
-ghost use Rattle.osb_c.specs.States.{state_code, code_after};
+ghost use Rattle.osb_c_types.specs.Answers.{answer_of};
+ghost use Rattle.osb_c_types.specs.Kinds.{kind_of};
+ghost use Rattle.osb_c_types.specs.States.{state_code, code_after};
 
-use crate::answers::{OsbAnswer, answer_from};
-use crate::kinds::kind_from;
-use crate::states::{NO_STATE, state_from, state_out};
+use osb_c_types::{NO_STATE, OsbAnswer, answer_from, kind_from, state_from, state_out};
 
 /// Whether an answer to a request of the kind has a status of success and a body that can be read whole: to a
 /// Provision or a Deprovision 200, 201 or 202 with an empty body, to a Poll 200 with a state (sections

@@ -1,44 +1,14 @@
-//! Ids as two halves of a number, and their text.
+//! The text of ids.
 ghost use Rattle.std.specs.Prelude.{◌≡◌, ◌≢◌, ◌↔◌, ◌<◌, [], ◌∷◌, ℕ, Some, None, IsTrue};
 ghost use Rattle.std.specs.Cmp.Lexicographic.{slice_cmp};
 ghost use Rattle.std.specs.Ordering.{nat_cmp};
 ghost use Rattle.std.specs.declared.cmp.Ordering.TheVariants.{Less};
 ghost use Rattle.osb_message.specs.IdText.{id_of, id_text};
-ghost use Rattle.osb_c.specs.Ids.{number_of};
-ghost use Rattle.osb_c.specs.Status.{code, is_one_of};
+ghost use Rattle.osb_c_types.specs.Ids.{number_of};
+ghost use Rattle.osb_c_types.specs.Status.{code, is_one_of};
 
-use crate::status::Status;
-use osb_message::{Id, InstanceId};
-
-/// An id: the halves of its number of 128 bits. Any two halves are an id's.
-#[repr(C)]
-#[derive(Clone, Copy)]
-pub struct OsbId {
-    /// The first 16 digits of the text.
-    pub high: u64,
-    /// The last 16 digits of the text.
-    pub low: u64,
-}
-
-const HALF: u128 = 0x1_0000_0000_0000_0000;
-
-// The id that crossed.
-pub(crate) fn id_from<K>(id: OsbId) -> Id<K>
-    ensures id { result ≡ number_of id }
-{
-    Id::from_value(id.high as u128 * HALF + id.low as u128)
-}
-
-// The id as it crosses.
-pub(crate) fn id_out<K>(id: Id<K>) -> OsbId
-    ensures id { number_of result ≡ id }
-{
-    let number = id.value();
-    OsbId {
-        high: (number / HALF) as u64,
-        low: (number % HALF) as u64,
-    }
-}
+use osb_c_types::{OsbId, Status, id_from, id_out};
+use osb_message::InstanceId;
 
 /// Reads the text form of an id, in either case: 36 bytes, which may be anything. It takes no memory.
 ///

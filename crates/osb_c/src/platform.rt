@@ -5,19 +5,18 @@ ghost use Rattle.std.specs.FinMap as map;
 ghost use Rattle.osb_platform.specs.PlatformRow.{IsSound, kind_out, is_idle, can_send, can_expire, can_remove};
 ghost use Rattle.osb_platform.specs.PlatformRow.{wanted_row, sent, answered, timed_out, cleaned_up};
 ghost use Rattle.osb_platform.specs.PlatformRow.{first_request, next_request};
-ghost use Rattle.osb_c.specs.Answers.{answer_of};
+ghost use Rattle.osb_c_types.specs.Answers.{answer_of};
 ghost use Rattle.osb_c.specs.Handles.{record_at};
-ghost use Rattle.osb_c.specs.Ids.{number_of};
-ghost use Rattle.osb_c.specs.Requests.{request_of};
-ghost use Rattle.osb_c.specs.Rows.{record_of};
-ghost use Rattle.osb_c.specs.Status.{code, is_one_of};
+ghost use Rattle.osb_c_types.specs.Ids.{number_of};
+ghost use Rattle.osb_c_types.specs.Requests.{request_of};
+ghost use Rattle.osb_c_types.specs.Rows.{record_of};
+ghost use Rattle.osb_c_types.specs.Status.{code, is_one_of};
 
-use crate::answers::{OsbAnswer, answer_from};
-use crate::ids::{OsbId, id_from};
 use crate::platform_handle::OsbPlatform;
-use crate::requests::{OsbRequest, request_out};
-use crate::rows::{OsbPlatformRow, record_out};
-use crate::status::Status;
+use osb_c_types::{
+    OsbAnswer, OsbId, OsbPlatformRow, OsbRequest, Status, answer_from, id_from, record_out,
+    request_out,
+};
 use osb_platform::{CreateFault, ExpireFault, NoRequest, Platform, RemoveFault, SendFault};
 use std::alloc::Global;
 

@@ -9,63 +9,47 @@ ghost use Rattle.serde_json.specs.Read.{read};
 ghost use Rattle.osb_platform.specs.PlatformRow.{IsRestarted};
 ghost use Rattle.osb_platform.specs.SavedRecord.{saved_value, saved_text, rows_in, IsRecordOf};
 ghost use Rattle.osb_c.specs.Handles.{Records};
-ghost use Rattle.osb_c.specs.Ids.{number_of};
-ghost use Rattle.osb_c.specs.Status.{code, is_one_of, load_status};
+ghost use Rattle.osb_c_types.specs.Ids.{number_of};
+ghost use Rattle.osb_c.specs.LoadStatus.{load_status};
+ghost use Rattle.osb_c_types.specs.Status.{code, is_one_of};
 
-use crate::ids::{OsbId, id_out};
 use crate::platform_handle::OsbPlatform;
-use crate::status::Status;
+use osb_c_types::{OsbId, Status, id_out, write_text};
 use osb_message::InstanceId;
 use osb_platform::{LoadFault, Platform};
 use std::alloc::Global;
 
-// Writes a text at the front of the room, if it is as long.
-fn write_text(text: &str, room: &mut [u8]) -> Status
-    ensures done { result ≡ Status.Done → take (length text.now) room.new ≡ text.now }
-    ensures rest { drop (length text.now) room.new ≡ drop (length text.now) room.old }
-    ensures fits { (result ≡ Status.TooSmall) ↔ (length room.old < length text.now) }
-    ensures statuses { (result ≡ Status.Done) ⊎ (result ≡ Status.TooSmall) }
-    ensures unwritten { result ≡ Status.TooSmall → room.new ≡ room.old }
-{
-    let bytes = text.as_bytes();
-    if room.len() < bytes.len() {
-        return Status::TooSmall;
-    }
-    room[..bytes.len()].copy_from_slice(bytes);
-    Status::Done
-}
-
-/// Writes the saved record of the platform, in format 2, to the front of `room`, and its length to `needed`;
-/// the rest of the room is as before. There is no NUL after it. The platform is as before. All of it is this
+/// Writes the saved record of the platform, in format 2, to the front of `buffer`, and its length to `needed`;
+/// the rest of the buffer is as before. There is no NUL after it. The platform is as before. All of it is this
 /// project's choice.
 ///
-/// It returns `Done`; `EmptyHandle` exactly where the handle is empty; `TooSmall` where the room is
+/// It returns `Done`; `EmptyHandle` exactly where the handle is empty; `TooSmall` where the buffer is
 /// shorter than `needed` bytes, a number that is written all the same; or `Memory`, in place of either but
-/// `EmptyHandle`, where an allocation failed. Where it isn't `Done`, the room is as before, and where it is
+/// `EmptyHandle`, where an allocation failed. Where it isn't `Done`, the buffer is as before, and where it is
 /// neither that nor `TooSmall`, `needed` too.
 #[unsafe(no_mangle)]
 pub extern "C" fn osb_platform_save(
     alloc: Global,
     platform: &mut OsbPlatform,
-    room: &mut [u8],
+    buffer: &mut [u8],
     needed: &mut usize,
 ) -> u32
     ensures text { result ≡ code Status.Done → IsSomeAnd platform.old.held (λ records.
-        (needed.new ≡ length (saved_text records)) × (take needed.new room.new ≡ saved_text records)) }
+        (needed.new ≡ length (saved_text records)) × (take needed.new buffer.new ≡ saved_text records)) }
     ensures reads { result ≡ code Status.Done → IsSomeAnd platform.old.held (λ records.
-        read (take needed.new room.new) ≡ Some (saved_value records)) }
+        read (take needed.new buffer.new) ≡ Some (saved_value records)) }
     ensures record { result ≡ code Status.Done → IsSomeAnd platform.old.held (λ records.
-        IsRecordOf records (take needed.new room.new)) }
-    ensures utf8 { result ≡ code Status.Done → IsUtf8 (take needed.new room.new) }
-    ensures rest { result ≡ code Status.Done → drop needed.new room.new ≡ drop needed.new room.old }
+        IsRecordOf records (take needed.new buffer.new)) }
+    ensures utf8 { result ≡ code Status.Done → IsUtf8 (take needed.new buffer.new) }
+    ensures rest { result ≡ code Status.Done → drop needed.new buffer.new ≡ drop needed.new buffer.old }
 
     ensures too_small { result ≡ code Status.TooSmall → IsSomeAnd platform.old.held (λ records.
-        (needed.new ≡ length (saved_text records)) × (length room.old < needed.new)) }
+        (needed.new ≡ length (saved_text records)) × (length buffer.old < needed.new)) }
     ensures empty_handle { (result ≡ code Status.EmptyHandle) ↔ IsNone platform.old.held }
     ensures statuses { IsTrue (is_one_of
         (Status.Done ∷ Status.EmptyHandle ∷ Status.TooSmall ∷ Status.Memory ∷ []) result) }
     ensures kept { platform.new.held ≡ platform.old.held }
-    ensures unwritten { result ≢ code Status.Done → room.new ≡ room.old }
+    ensures unwritten { result ≢ code Status.Done → buffer.new ≡ buffer.old }
     ensures unmeasured { result ≢ code Status.Done → result ≢ code Status.TooSmall → needed.new ≡ needed.old }
 {
     let Some(held) = platform.take(alloc) else {
@@ -76,8 +60,7 @@ pub extern "C" fn osb_platform_save(
     let Ok(text) = saved else {
         return Status::Memory.code();
     };
-    *needed = text.len();
-    write_text(text.as_str(), room).code()
+    write_text(text.as_str(), buffer, needed).code()
 }
 
 // Why no platform is loaded.
@@ -142,52 +125,52 @@ pub extern "C" fn osb_platform_load(alloc: Global, platform: &mut OsbPlatform, t
     Status::Done.code()
 }
 
-// Writes ids at the front of the room, if there are as many places.
-fn write_ids(ids: &Vec<InstanceId>, room: &mut [OsbId]) -> Status
-    ensures done { result ≡ Status.Done → each number_of (take (length ids.now.items) room.new) ≡ ids.now.items }
-    ensures rest { drop (length ids.now.items) room.new ≡ drop (length ids.now.items) room.old }
-    ensures fits { (result ≡ Status.TooSmall) ↔ (length room.old < length ids.now.items) }
+// Writes ids at the front of the buffer, if there are as many places.
+fn write_ids(ids: &Vec<InstanceId>, buffer: &mut [OsbId]) -> Status
+    ensures done { result ≡ Status.Done → each number_of (take (length ids.now.items) buffer.new) ≡ ids.now.items }
+    ensures rest { drop (length ids.now.items) buffer.new ≡ drop (length ids.now.items) buffer.old }
+    ensures fits { (result ≡ Status.TooSmall) ↔ (length buffer.old < length ids.now.items) }
     ensures statuses { (result ≡ Status.Done) ⊎ (result ≡ Status.TooSmall) }
-    ensures unwritten { result ≡ Status.TooSmall → room.new ≡ room.old }
+    ensures unwritten { result ≡ Status.TooSmall → buffer.new ≡ buffer.old }
 {
-    if room.len() < ids.len() {
+    if buffer.len() < ids.len() {
         return Status::TooSmall;
     }
     for at in 0..ids.len() {
-        room[at] = id_out(ids[at]);
+        buffer[at] = id_out(ids[at]);
     }
     Status::Done
 }
 
-/// Writes the recorded ids, ascending, to the front of `room`, and how many they are to `needed`; the rest of
-/// the room is as before. The platform is as before. All of it is this project's choice.
+/// Writes the recorded ids, ascending, to the front of `buffer`, and how many they are to `needed`; the rest of
+/// the buffer is as before. The platform is as before. All of it is this project's choice.
 ///
-/// It returns `Done`; `EmptyHandle` exactly where the handle is empty; `TooSmall` where the room has
+/// It returns `Done`; `EmptyHandle` exactly where the handle is empty; `TooSmall` where the buffer has
 /// fewer than `needed` places, a number that is written all the same; or `Memory`, in place of either but
-/// `EmptyHandle`, where an allocation failed. Where it isn't `Done`, the room is as before, and where it is
+/// `EmptyHandle`, where an allocation failed. Where it isn't `Done`, the buffer is as before, and where it is
 /// neither that nor `TooSmall`, `needed` too.
 #[unsafe(no_mangle)]
 pub extern "C" fn osb_platform_ids(
     alloc: Global,
     platform: &mut OsbPlatform,
-    room: &mut [OsbId],
+    buffer: &mut [OsbId],
     needed: &mut usize,
 ) -> u32
     ensures keys { result ≡ code Status.Done → IsSomeAnd platform.old.held (λ records.
-        (needed.new ≡ length (map.keys records)) × (each number_of (take needed.new room.new) ≡ map.keys records)) }
+        (needed.new ≡ length (map.keys records)) × (each number_of (take needed.new buffer.new) ≡ map.keys records)) }
     ensures recorded { result ≡ code Status.Done → IsSomeAnd platform.old.held (λ records. (q : ℕ)
-        → Contains (each number_of (take needed.new room.new)) q ↔ IsSome (map.get records q)) }
+        → Contains (each number_of (take needed.new buffer.new)) q ↔ IsSome (map.get records q)) }
     ensures ascending { result ≡ code Status.Done →
-        IsStrictlySortedBy nat_cmp (each number_of (take needed.new room.new)) }
-    ensures rest { result ≡ code Status.Done → drop needed.new room.new ≡ drop needed.new room.old }
+        IsStrictlySortedBy nat_cmp (each number_of (take needed.new buffer.new)) }
+    ensures rest { result ≡ code Status.Done → drop needed.new buffer.new ≡ drop needed.new buffer.old }
 
     ensures too_small { result ≡ code Status.TooSmall → IsSomeAnd platform.old.held (λ records.
-        (needed.new ≡ length (map.keys records)) × (length room.old < needed.new)) }
+        (needed.new ≡ length (map.keys records)) × (length buffer.old < needed.new)) }
     ensures empty_handle { (result ≡ code Status.EmptyHandle) ↔ IsNone platform.old.held }
     ensures statuses { IsTrue (is_one_of
         (Status.Done ∷ Status.EmptyHandle ∷ Status.TooSmall ∷ Status.Memory ∷ []) result) }
     ensures kept { platform.new.held ≡ platform.old.held }
-    ensures unwritten { result ≢ code Status.Done → room.new ≡ room.old }
+    ensures unwritten { result ≢ code Status.Done → buffer.new ≡ buffer.old }
     ensures unmeasured { result ≢ code Status.Done → result ≢ code Status.TooSmall → needed.new ≡ needed.old }
 {
     let Some(held) = platform.take(alloc) else {
@@ -199,5 +182,5 @@ pub extern "C" fn osb_platform_ids(
         return Status::Memory.code();
     };
     *needed = ids.len();
-    write_ids(&ids, room).code()
+    write_ids(&ids, buffer).code()
 }

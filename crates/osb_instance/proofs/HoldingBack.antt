@@ -55,7 +55,7 @@ sound_can_be_with (Some b) w true h = let e = (h.marked refl).0 in cc
 sound_can_be_with b None false h = refl
 sound_can_be_with b (Some r) false h = h.due
 
-sound_can_be : (held : Held) → IsHeldSound held → can_be held ≡ true
+pub sound_can_be : (held : Held) → IsHeldSound held → can_be held ≡ true
 sound_can_be held h = sound_can_be_with held.row held.work held.marked h
 
 -- ---- the holding that was written is read

@@ -119,7 +119,7 @@ sound_can_be_with (Some k) s n service plan h =
     both_of (can_be_out s k) (can_have s n) (can_be_out_sound s k service plan h.row)
     (has_number s n (h.counted refl) h.first)
 
-sound_can_be : (r : Recorded) → IsRecordedSound r → can_be r ≡ true
+pub sound_can_be : (r : Recorded) → IsRecordedSound r → can_be r ≡ true
 sound_can_be r h = sound_can_be_with r.row.out r.row.state r.attempt r.row.service r.row.plan h
 
 -- ---- the record that was written is read

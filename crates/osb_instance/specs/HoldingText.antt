@@ -137,6 +137,10 @@ abbrev pub can_be : Held → Bool
 can_be held =
     if held.marked then is_none held.row && is_none held.work else is_work held.row held.work
 
+-- the holding, if it can come about
+abbrev pub possible : Held → Option Held
+possible held = if can_be held then Some held else None
+
 abbrev pub holding_or : Option Held → Result Held TextFault
 holding_or None = Err BadMember
 holding_or (Some held) = if can_be held then Ok held else Err Impossible

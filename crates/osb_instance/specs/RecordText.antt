@@ -107,6 +107,10 @@ can_be_with (Some kind) state attempt = can_be_out state kind && can_have state 
 abbrev pub can_be : Recorded → Bool
 can_be r = can_be_with r.row.out r.row.state r.attempt
 
+-- the record, if it can come about
+abbrev pub possible : Recorded → Option Recorded
+possible r = if can_be r then Some r else None
+
 abbrev pub record_or : Option Recorded → Result Recorded TextFault
 record_or None = Err BadMember
 record_or (Some r) = if can_be r then Ok r else Err Impossible

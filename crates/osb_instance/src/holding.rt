@@ -6,7 +6,7 @@ ghost use Rattle.osb_instance.specs.Begin.{IsWork, IsAnsweredBy};
 ghost use Rattle.osb_instance.specs.Due.{IsDue};
 ghost use Rattle.osb_instance.specs.Fits.{fits};
 ghost use Rattle.osb_instance.specs.Held.{Held, IsHeldSound};
-ghost use Rattle.osb_instance.specs.HoldingText.{holding_text, holding_in};
+ghost use Rattle.osb_instance.specs.HoldingText.{holding_text, holding_in, possible};
 ghost use Rattle.osb_broker.specs.Finished.{is_running};
 ghost use Rattle.osb_broker.specs.Answers.{mode_of};
 ghost use Rattle.osb_message.specs.Plans.{Catalogue};
@@ -15,7 +15,7 @@ ghost use Rattle.osb_broker.specs.Handled.{handled};
 ghost use Rattle.osb_message.specs.declared.catalogue.Mode.{Mode};
 ghost use Rattle.osb_message.specs.declared.messages.Kind.TheVariants.{Provision, Poll};
 
-use crate::holding_text::{read_holding, write_holding};
+use crate::holding_text::{can_be, read_holding, write_holding};
 use crate::work::{busy, ends, is_provision, too_late, work_due};
 use crate::{Begun, NothingBegun, TextFault};
 use osb_broker::{BrokerRow, NothingRunning, Outcome, Phase, decide, finished};
@@ -58,6 +58,27 @@ impl Holding {
         work: None,
         marked: false,
     };
+
+    /// The holding of these parts, as [`Holding::row`], [`Holding::work`] and [`Holding::is_marked`] give them, if it
+    /// can come about: for who keeps them in columns of their own, or takes them from another language. None exactly
+    /// where a row or work stands beside a mark, or a request whose work no plan's table has (this project's choice).
+    /// It takes no memory.
+    #[tactic(auto, using(crate::proofs::HoldingBack::can_be_sound, crate::proofs::HoldingBack::sound_can_be))]
+    pub fn from_parts(
+        row: Option<BrokerRow>,
+        work: Option<Request>,
+        marked: bool,
+    ) -> Option<Holding>
+        ensures parts { result ≡ possible (record { row = row; work = work; marked = marked }) }
+        ensures sound { IsSome result ↔ IsHeldSound (record { row = row; work = work; marked = marked }) }
+    {
+        let parts = (row, work, marked);
+        if !can_be(&parts) {
+            return None;
+        }
+        let (row, work, marked) = parts;
+        Some(Holding { row, work, marked })
+    }
 
     /// The instance's row, or none. It takes no memory.
     pub fn row(self) -> Option<BrokerRow>

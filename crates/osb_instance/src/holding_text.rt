@@ -211,7 +211,7 @@ fn read_members(value: &Value) -> Option<Parts>
 }
 
 // Whether such a holding can come about. A synchronous plan has all the work that an asynchronous one has.
-fn can_be(parts: &Parts) -> bool
+pub(crate) fn can_be(parts: &Parts) -> bool
     ensures can { result ≡ spec.can_be (spec.held_of parts.now) }
 {
     let (row, work, marked) = *parts;

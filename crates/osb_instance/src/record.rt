@@ -3,11 +3,11 @@ ghost use Rattle.std.specs.Prelude.{◌≡◌, ◌≢◌, ◌↔◌, ◌⊎◌, 
 ghost use Rattle.std.specs.Prelude.{IsTrue, IsSome, IsOk, IfOk, IfErr, string_bytes};
 ghost use Rattle.osb_platform.specs.PlatformRow.{wanted_row, first_request, restarted_row};
 ghost use Rattle.osb_platform.specs.PlatformRow.{can_send, can_expire, can_remove, is_idle};
-ghost use Rattle.osb_instance.specs.RecordText.{record_text, record_in};
+ghost use Rattle.osb_instance.specs.RecordText.{record_text, record_in, possible};
 ghost use Rattle.osb_instance.specs.Recorded.{Recorded, IsRecordedSound, IsSentAfter, IsAnsweredAfter};
 ghost use Rattle.osb_instance.specs.Recorded.{IsGivenUpAfter, IsCleanedUpAfter};
 
-use crate::record_text::{read_record, write_record};
+use crate::record_text::{can_be, read_record, write_record};
 use crate::{ExpireRefused, NotOut, RemoveRefused, SendRefused, TextFault};
 use osb_message::{Answer, InstanceId, Kind, Memory, PlanId, Request, ServiceId};
 use osb_platform::{PlatformRow, State, decide_answer, decide_restart, decide_timeout, kind_due};
@@ -99,6 +99,21 @@ impl Record {
             row: row.in_state(decide_restart(row.state)),
             attempt: 0,
         }
+    }
+
+    /// The record of these parts, as [`Record::row`] and [`Record::attempt`] give them, if it can come about: for who
+    /// keeps them in columns of their own, or takes them from another language. None exactly where `wanted` stands
+    /// without its Provision or with another number than 1, another request is out than the one that is due, or one is
+    /// out with the number 0 (this project's choice). It takes no memory.
+    #[tactic(auto, using(crate::proofs::RecordBack::can_be_sound, crate::proofs::RecordBack::sound_can_be))]
+    pub fn from_parts(row: PlatformRow, attempt: u64) -> Option<Record>
+        ensures parts { result ≡ possible (record { row = row; attempt = attempt }) }
+        ensures sound { IsSome result ↔ IsRecordedSound (record { row = row; attempt = attempt }) }
+    {
+        if !can_be(&row, attempt) {
+            return None;
+        }
+        Some(Record { row, attempt })
     }
 
     /// Service, plan, state, and the kind of the request that is out. It takes no memory.

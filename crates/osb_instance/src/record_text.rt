@@ -116,7 +116,7 @@ fn read_members(value: &Value) -> Option<(PlatformRow, u64)>
 }
 
 // Whether such a record can come about.
-fn can_be(row: &PlatformRow, attempt: u64) -> bool
+pub(crate) fn can_be(row: &PlatformRow, attempt: u64) -> bool
     ensures can { result ≡ spec.can_be (record { row = row.now; attempt = attempt }) }
 {
     match (row.state, row.out) {

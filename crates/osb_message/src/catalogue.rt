@@ -1,11 +1,14 @@
 //! The catalogue: which plans a broker sells, and how each of them works (section Catalog Management).
-ghost use Rattle.std.specs.Prelude.{◌≡◌, ◌↔◌, OnOk, OnErr, IsSome};
+ghost use Rattle.std.specs.Prelude.{◌≡◌, ◌↔◌, OnOk, OnErr, IsSome, map as each};
 ghost use Rattle.osb_message.specs.Catalogue.{pair_cmp};
 ghost use Rattle.std.specs.FinMap as map;
+ghost use Rattle.std.specs.BTreeMap as tree;
+ghost use Rattle.std.specs.List.Sorted.{IsStrictlySortedBy};
 
 use crate::{PlanId, ServiceId};
 use std::alloc::Global;
 use std::collections::BTreeMap;
+use std::collections::btree_map::Iter;
 use std::marker::Model;
 use thiserror::Error;
 
@@ -28,6 +31,14 @@ pub enum AddFault {
     /// An allocation failed.
     #[error("Memory")]
     Memory = 2,
+}
+
+// The entries, in ascending order of their pairs.
+fn entries_of(modes: &BTreeMap<(ServiceId, PlanId), Mode>) -> Iter<'_, (ServiceId, PlanId), Mode>
+    ensures entries { result ≡ modes.now.entries }
+    ensures ordered { tree.IsOrdered pair_cmp modes.now }
+{
+    modes.iter()
 }
 
 /// The plans that a broker sells, under pairs of service and plan (section Catalog Management; that
@@ -92,6 +103,14 @@ impl Catalogue {
         ensures found { result ≡ map.get self.now (service, plan) }
     {
         self.modes.get(&(service, plan)).copied()
+    }
+
+    /// The plans, each with its mode, in ascending order of service and plan. It takes no memory.
+    pub fn plans(&self) -> Iter<'_, (ServiceId, PlanId), Mode>
+        ensures entries { result ≡ map.entries self.now }
+        ensures ascending { IsStrictlySortedBy pair_cmp (each (λ entry. entry.0) result) }
+    {
+        entries_of(&self.modes)
     }
 }
 

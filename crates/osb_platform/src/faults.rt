@@ -77,6 +77,3 @@ pub enum LoadFault {
     /// `instances` isn't an object.
     BadOuter = 7,
 }
-
-#[cfg(test)]
-mod tests;

@@ -401,8 +401,3 @@ impl Platform {
         Ok(())
     }
 }
-
-#[cfg(test)]
-mod saved_tests;
-#[cfg(test)]
-mod tests;

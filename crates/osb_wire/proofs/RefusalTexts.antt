@@ -1,7 +1,8 @@
--- The text of each refusal's body reads as its object.
-use Rattle.std.proofs.Common.{◌≡◌, Some, refl}
+-- The text of each refusal's body is that of its object, and reads as it.
+use Rattle.std.proofs.Common.{◌≡◌, ℕ, List, Some, refl}
 use Rattle.std.specs.Prelude.{codes}
 use Rattle.std.specs.Str.{is_utf8, chars}
+use Rattle.serde_json.specs.Written.{compact_text}
 use Rattle.serde_json.proofs.OnLiterals.{serde_json_on_literals}
 use Rattle.osb_wire.specs.Bodies.{value_in, object_in}
 use Rattle.osb_message.specs.declared.messages.Kind.{Kind}
@@ -12,57 +13,61 @@ use Rattle.osb_wire.specs.declared.refusal.Refusal.{Refusal}
 use Rattle.osb_wire.specs.declared.refusal.Refusal.TheVariants.{NoSuchTarget, NoSuchMethod, BadVersion, TooLong, BadInstance, Repeated}
 use Rattle.osb_wire.specs.declared.refusal.Refusal.TheVariants.{BadService, BadPlan, BadAcceptsIncomplete, NotAnObject, BadOrganization, BadSpace, Memory}
 
-pub no_such_target : object_in (codes "{\"description\":\"There is no such target.\",\"error\":\"NotFound\"}") ≡ Some (object_of NoSuchTarget)
-unfolding serde_json_on_literals value_in is_utf8 chars
-no_such_target = refl
+-- it is the text of the refusal's object, and reads as it
+abbrev pub IsTextOf : Refusal → List ℕ → Type 0
+IsTextOf refusal text = (text ≡ compact_text (object_of refusal)) × (object_in text ≡ Some (object_of refusal))
 
-pub no_such_method : object_in (codes "{\"description\":\"The target has no such method.\",\"error\":\"MethodNotAllowed\"}") ≡ Some (object_of NoSuchMethod)
+pub no_such_target : IsTextOf NoSuchTarget (codes "{\"description\":\"There is no such target.\",\"error\":\"NotFound\"}")
 unfolding serde_json_on_literals value_in is_utf8 chars
-no_such_method = refl
+no_such_target = (refl, refl)
 
-pub bad_version : object_in (codes "{\"description\":\"The version must be 2.0 or a later 2.x.\",\"error\":\"PreconditionFailed\"}") ≡ Some (object_of BadVersion)
+pub no_such_method : IsTextOf NoSuchMethod (codes "{\"description\":\"The target has no such method.\",\"error\":\"MethodNotAllowed\"}")
 unfolding serde_json_on_literals value_in is_utf8 chars
-bad_version = refl
+no_such_method = (refl, refl)
 
-pub too_long : object_in (codes "{\"description\":\"The body is too long.\",\"error\":\"ContentTooLarge\"}") ≡ Some (object_of TooLong)
+pub bad_version : IsTextOf BadVersion (codes "{\"description\":\"The version must be 2.0 or a later 2.x.\",\"error\":\"PreconditionFailed\"}")
 unfolding serde_json_on_literals value_in is_utf8 chars
-too_long = refl
+bad_version = (refl, refl)
 
-pub bad_instance : object_in (codes "{\"description\":\"The instance id must be a GUID.\",\"error\":\"BadRequest\"}") ≡ Some (object_of BadInstance)
+pub too_long : IsTextOf TooLong (codes "{\"description\":\"The body is too long.\",\"error\":\"ContentTooLarge\"}")
 unfolding serde_json_on_literals value_in is_utf8 chars
-bad_instance = refl
+too_long = (refl, refl)
 
-pub repeated : object_in (codes "{\"description\":\"A parameter stands twice.\",\"error\":\"BadRequest\"}") ≡ Some (object_of Repeated)
+pub bad_instance : IsTextOf BadInstance (codes "{\"description\":\"The instance id must be a GUID.\",\"error\":\"BadRequest\"}")
 unfolding serde_json_on_literals value_in is_utf8 chars
-repeated = refl
+bad_instance = (refl, refl)
 
-pub bad_service : object_in (codes "{\"description\":\"service_id must be a GUID.\",\"error\":\"BadRequest\"}") ≡ Some (object_of BadService)
+pub repeated : IsTextOf Repeated (codes "{\"description\":\"A parameter stands twice.\",\"error\":\"BadRequest\"}")
 unfolding serde_json_on_literals value_in is_utf8 chars
-bad_service = refl
+repeated = (refl, refl)
 
-pub bad_plan : object_in (codes "{\"description\":\"plan_id must be a GUID.\",\"error\":\"BadRequest\"}") ≡ Some (object_of BadPlan)
+pub bad_service : IsTextOf BadService (codes "{\"description\":\"service_id must be a GUID.\",\"error\":\"BadRequest\"}")
 unfolding serde_json_on_literals value_in is_utf8 chars
-bad_plan = refl
+bad_service = (refl, refl)
 
-pub bad_accepts_incomplete : object_in (codes "{\"description\":\"accepts_incomplete must be true or false.\",\"error\":\"BadRequest\"}") ≡ Some (object_of BadAcceptsIncomplete)
+pub bad_plan : IsTextOf BadPlan (codes "{\"description\":\"plan_id must be a GUID.\",\"error\":\"BadRequest\"}")
 unfolding serde_json_on_literals value_in is_utf8 chars
-bad_accepts_incomplete = refl
+bad_plan = (refl, refl)
 
-pub not_an_object : object_in (codes "{\"description\":\"The body must be a JSON object.\",\"error\":\"BadRequest\"}") ≡ Some (object_of NotAnObject)
+pub bad_accepts_incomplete : IsTextOf BadAcceptsIncomplete (codes "{\"description\":\"accepts_incomplete must be true or false.\",\"error\":\"BadRequest\"}")
 unfolding serde_json_on_literals value_in is_utf8 chars
-not_an_object = refl
+bad_accepts_incomplete = (refl, refl)
 
-pub bad_organization : object_in (codes "{\"description\":\"organization_guid must be a string that is not empty.\",\"error\":\"BadRequest\"}") ≡ Some (object_of BadOrganization)
+pub not_an_object : IsTextOf NotAnObject (codes "{\"description\":\"The body must be a JSON object.\",\"error\":\"BadRequest\"}")
 unfolding serde_json_on_literals value_in is_utf8 chars
-bad_organization = refl
+not_an_object = (refl, refl)
 
-pub bad_space : object_in (codes "{\"description\":\"space_guid must be a string that is not empty.\",\"error\":\"BadRequest\"}") ≡ Some (object_of BadSpace)
+pub bad_organization : IsTextOf BadOrganization (codes "{\"description\":\"organization_guid must be a string that is not empty.\",\"error\":\"BadRequest\"}")
 unfolding serde_json_on_literals value_in is_utf8 chars
-bad_space = refl
+bad_organization = (refl, refl)
 
-pub memory : object_in (codes "{\"description\":\"The broker has no memory left.\",\"error\":\"ServiceUnavailable\"}") ≡ Some (object_of Memory)
+pub bad_space : IsTextOf BadSpace (codes "{\"description\":\"space_guid must be a string that is not empty.\",\"error\":\"BadRequest\"}")
 unfolding serde_json_on_literals value_in is_utf8 chars
-memory = refl
+bad_space = (refl, refl)
+
+pub memory : IsTextOf Memory (codes "{\"description\":\"The broker has no memory left.\",\"error\":\"ServiceUnavailable\"}")
+unfolding serde_json_on_literals value_in is_utf8 chars
+memory = (refl, refl)
 
 -- what a platform takes each for
 pub taken_so : (kind : Kind) (refusal : Refusal)

@@ -9,7 +9,7 @@ use Rattle.osb_message.specs.declared.messages.Request.{Request}
 use Rattle.osb_message.proofs.IdLemmas.{text_reads}
 use Rattle.osb_wire.specs.Asking.{request_by, request_of, asked_by, asked_of}
 use Rattle.osb_wire.specs.Bodies.{and_then}
-use Rattle.osb_wire.specs.Provisions.{provision_in}
+use Rattle.osb_wire.specs.Provisions.{Names}
 use Rattle.osb_wire.specs.Requests.{asked_at, asked_within, request_in}
 use Rattle.osb_wire.specs.Targets.{Parameter, HasIds, IsTextIfAny, id_parameters, flag_parameters, operation_parameters}
 use Rattle.osb_wire.specs.Targets.{parameters_of, method_of, instance_in, target_text}
@@ -20,10 +20,6 @@ use Rattle.osb_wire.proofs.TargetsBack.{path_comes_back, parameters_back}
 abbrev parameters : Kind → ℕ → ℕ → Bool → Option (List ℕ) → List Parameter
 parameters kind service plan flag operation =
     id_parameters kind service plan ++ (flag_parameters flag ++ operation_parameters operation)
-
--- a Provision's body names its service and its plan
-abbrev Names : Kind → List ℕ → ℕ → ℕ → Type 0
-Names kind body service plan = kind ≡ Provision → provision_in body ≡ Ok (service, plan)
 
 asked : (kind : Kind) (id service plan : ℕ) (flag : Bool) (operation : Option (List ℕ)) (body : List ℕ) → service < 2 ^ 128
     → plan < 2 ^ 128 → Names kind body service plan

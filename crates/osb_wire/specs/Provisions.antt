@@ -1,5 +1,5 @@
 -- The body of a Provision (section Provisioning).
-use Rattle.std.specs.Prelude.{◌≢◌, ◌≤◌, ℕ, Bool, ◌==◌, if◌then◌else◌, List, [], codes, length, not}
+use Rattle.std.specs.Prelude.{◌≡◌, ◌≢◌, ◌≤◌, ℕ, Bool, ◌==◌, if◌then◌else◌, List, [], codes, length, not}
 use Rattle.std.specs.Prelude.{Option, Some, None, Result, Ok, Err, option_and_then, option_map, unwrap_or, false}
 use Rattle.std.specs.Option.{ok_or}
 use Rattle.serde_json.specs.Data.{Data, string, object, Members, put, depth}
@@ -47,6 +47,10 @@ provision_members service plan organization space further =
     (put (codes "organization_guid") (string organization)
     (put (codes "plan_id") (string (id_text plan))
     (put (codes "service_id") (string (id_text service)) further)))
+
+-- a body names this service and this plan, where it is a Provision's
+abbrev pub Names : Kind → List ℕ → ℕ → ℕ → Type 0
+Names kind body service plan = kind ≡ Provision → provision_in body ≡ Ok (service, plan)
 
 -- what a body that is written needs so that it is read as it was meant: not too deep, and both named. Only a
 -- Provision has one

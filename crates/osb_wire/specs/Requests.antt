@@ -48,9 +48,12 @@ abbrev pub asked_within : ℕ → List Parameter → List ℕ → Kind × ℕ �
 asked_within longest ps body place =
     if nat_lt longest (length body) then Err TooLong else asked_at ps body place
 
+-- what is asked for by the method, and of which instance: that is judged first
+abbrev pub instance_asked : List ℕ → List ℕ → List ℕ → Result (Kind × ℕ) Refusal
+instance_asked prefix method target = instance_in prefix method ((split_once 63 target).0)
+
 -- what is asked for, or the first fault: of the path, the method, the instance's id, the length of the body, the
 -- parameters service_id, plan_id, accepts_incomplete and operation, and then of the body, which a Provision alone has
 abbrev pub request_in : List ℕ → ℕ → List ℕ → List ℕ → List ℕ → Result Asked Refusal
 request_in prefix longest method target body =
-    and_then (asked_within longest (parameters_of_target target) body)
-    (instance_in prefix method ((split_once 63 target).0))
+    and_then (asked_within longest (parameters_of_target target) body) (instance_asked prefix method target)

@@ -25,8 +25,10 @@
 //! of a request, [`retry_after`] reads one of an answer, and [`catalogue_document`] reads the catalogue
 //! that a broker sells.
 //!
-//! Each call takes memory but [`api_version`], [`retry_after`] and those of [`Refusal`] and [`Asked`]. What
-//! the standard doesn't say and is said here is marked as this project's choice.
+//! What [`write_request`] gives, [`method_of`], [`write_target`] and [`write_body`] give one at a time.
+//!
+//! Each call takes memory but [`api_version`], [`retry_after`], [`method_of`] and those of [`Refusal`] and
+//! [`Asked`]. What the standard doesn't say and is said here is marked as this project's choice.
 #![tactic(auto)]
 
 mod answer_reading;
@@ -53,4 +55,5 @@ pub use headers::{
 };
 pub use refusal::Refusal;
 pub use request_reading::{asked_operation, read_request};
-pub use request_writing::{WrittenRequest, write_request};
+pub use request_writing::{WrittenRequest, write_body, write_request};
+pub use target_writing::{method_of, write_target};

@@ -1,5 +1,6 @@
 //! Why a broker refuses a request before it looks at any instance.
 ghost use Rattle.std.specs.Prelude.{◌≡◌, Some};
+ghost use Rattle.serde_json.specs.Written.{compact_text};
 ghost use Rattle.osb_message.specs.declared.messages.Kind.{Kind};
 ghost use Rattle.osb_wire.specs.Answers.{answer_in};
 ghost use Rattle.osb_wire.specs.Bodies.{object_in};
@@ -76,11 +77,12 @@ impl Refusal {
     }
 
     /// The body to answer with: an object with `error` and a `description` for a person (section Service
-    /// Broker Errors). It takes no memory, so that want of it can be told.
+    /// Broker Errors), with no spaces. It takes no memory, so that want of it can be told.
     ///
     /// A platform that reads it by [`read_answer`](crate::read_answer) takes 404, 405, 412 and 413 to a
     /// Provision for a gateway's, and cleans up; 400 and 503 it takes for the broker's error.
     pub fn body(self) -> &'static str
+        ensures text { result.now ≡ compact_text (refusals.object_of self) }
         ensures reads { object_in result.now ≡ Some (refusals.object_of self) }
         ensures taken { (kind : Kind) → answer_in kind (refusals.status_of self) result.now
             ≡ refusals.taken_for kind self }

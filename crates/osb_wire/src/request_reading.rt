@@ -1,5 +1,5 @@
 //! The request that a broker takes from a method, a target and a body.
-ghost use Rattle.std.specs.Prelude.{◌≡◌, ◌⊎◌, Ok, Err, IfOk, IfErr, option_map};
+ghost use Rattle.std.specs.Prelude.{◌≡◌, ◌<◌, ◌⊎◌, Ok, Err, IsOk, IfOk, IfErr, length, option_map};
 ghost use Rattle.std.specs.Cow.{cow_str_bytes};
 ghost use Rattle.osb_wire.specs.Requests as requests;
 ghost use Rattle.osb_wire.specs.Targets as targets;
@@ -91,8 +91,8 @@ fn read_deprovision(alloc: Global, id: InstanceId, query: &[u8]) -> Result<Asked
 /// - Of the body of a Provision: [`Refusal::NotAnObject`], [`Refusal::BadService`], [`Refusal::BadPlan`],
 ///   [`Refusal::BadOrganization`], [`Refusal::BadSpace`].
 ///
-/// [`Refusal::Memory`] where an allocation failed, which the query and the body alone ask for. The same call
-/// may be made again.
+/// [`Refusal::Memory`] where an allocation failed, which the query and the body alone ask for: the first four
+/// come whatever memory there is. The same call may be made again.
 pub fn read_request(
     alloc: Global,
     prefix: &str,
@@ -105,6 +105,10 @@ pub fn read_request(
         requests.request_in prefix.now longest_body method.now target.now body.now ≡ Ok asked) }
     ensures err { IfErr result (λ fault. (fault ≡ Refusal.Memory)
         ⊎ (requests.request_in prefix.now longest_body method.now target.now body.now ≡ Err fault)) }
+    ensures instance { (fault : Refusal) → requests.instance_asked prefix.now method.now target.now ≡ Err fault
+        → result ≡ Err fault }
+    ensures too_long { IsOk (requests.instance_asked prefix.now method.now target.now)
+        → longest_body < length body.now → result ≡ Err Refusal.TooLong }
 {
     let (path, query) = split_query(target);
     let (kind, id) = match read_instance(prefix, method, path) {

@@ -28,8 +28,19 @@ pub struct WrittenRequest {
     pub body: String,
 }
 
-// The body of a request.
-fn write_body(
+/// The body of a request: of a Provision an object of `service_id`, `plan_id`, the organization and the space,
+/// neither of which may be empty, and the further members, as `context`, `parameters` or `maintenance_info`, of
+/// which none stands in the place of those four. No text can break out of its string. In the other two kinds it is
+/// empty, and organization, space and further members are passed over.
+///
+/// It is read as it was meant where the further members as an object nest at most 127 deep: a value under a name,
+/// then, at most 126. Deeper ones are written, and refused by who reads them, as an empty organization or space
+/// is. Sections Provisioning, Polling Last Operation and Deprovisioning of the standard.
+///
+/// # Errors
+///
+/// [`Memory`] where an allocation failed. The further members are gone then too.
+pub fn write_body(
     alloc: Global,
     request: &Request,
     organization: &str,

@@ -1,14 +1,18 @@
 //! The method and the target of a request.
-ghost use Rattle.std.specs.Prelude.{◌≡◌, ◌<◌, All, IsUtf8, IfOk, OnOk, option_map, string_bytes};
+ghost use Rattle.std.specs.Prelude.{◌≡◌, ◌≢◌, ◌≤◌, ◌<◌, ℕ, All, List, IsUtf8, Ok, IfOk, OnOk, option_map, length, string_bytes};
 ghost use Rattle.form_urlencoded.specs.Form.{extend_pairs};
+ghost use Rattle.osb_wire.specs.Asking as asking;
+ghost use Rattle.osb_wire.specs.Provisions as provisions;
+ghost use Rattle.osb_wire.specs.Requests as requests;
 ghost use Rattle.osb_wire.specs.Targets as targets;
 
 use form_urlencoded::Serializer;
 use osb_message::{InstanceId, Kind, Memory, PlanId, Request, ServiceId};
 use std::alloc::{AllocError, Global};
 
-// The method of a request of this kind.
-pub(crate) fn method_of(kind: Kind) -> &'static str
+/// The method of a request of this kind: `PUT`, `GET` or `DELETE` (sections Provisioning, Polling Last Operation
+/// for Service Instances and Deprovisioning). It takes no memory.
+pub fn method_of(kind: Kind) -> &'static str
     ensures method { result.now ≡ targets.method_of kind }
 {
     match kind {
@@ -118,8 +122,8 @@ fn check_ids(request: &Request)
     );
 }
 
-// The target of a request, with what the broker named its operation, where it named it.
-pub(crate) fn write_target(
+// The target, and that what it is made of are ids and a text.
+fn target_of(
     alloc: Global,
     prefix: &str,
     request: &Request,
@@ -138,5 +142,39 @@ pub(crate) fn write_target(
         return Ok(path);
     }
     let target = format!(in alloc; "{path}?{query}")?;
+    Ok(target)
+}
+
+/// The target of a request: the path, and the query where it has one.
+///
+/// It begins with the prefix: empty, or what the broker's own URL has before `/v2`, as a request line has it,
+/// with no `?`, `#`, blank or line end. It is written as it stands. The target names the operation where one is
+/// given, which is the broker's, from its answer; give one to a Poll alone. Sections Provisioning, Polling Last
+/// Operation for Service Instances and Deprovisioning of the standard.
+///
+/// [`read_request`](crate::read_request) gives the request back from it and from [`method_of`] its kind, whatever
+/// the body of a Provision is that names its service and its plan, as [`write_body`](crate::write_body) writes one.
+/// [`asked_operation`](crate::asked_operation) gives the operation back.
+///
+/// # Errors
+///
+/// [`Memory`] where an allocation failed. The same call may be made again.
+pub fn write_target(
+    alloc: Global,
+    prefix: &str,
+    request: &Request,
+    operation: Option<&str>,
+) -> Result<String, Memory>
+    ensures text { IfOk result (λ text. string_bytes text
+        ≡ targets.target_text prefix.now request.now (option_map (λ text. text.now) operation.entry)) }
+    ensures back { (longest : ℕ) (body : List ℕ) → All (λ b. b ≢ 63) prefix.now → length body ≤ longest
+        → provisions.Names request.now.kind body request.now.service request.now.plan
+        → IfOk result (λ text. requests.request_in prefix.now longest (targets.method_of request.now.kind)
+        (string_bytes text) body ≡ Ok (asking.asked_of request.now)) }
+    ensures operation { All (λ b. b ≢ 63) prefix.now → IfOk result (λ text.
+        targets.operation_asked (string_bytes text)
+        ≡ Ok (option_map (λ text. text.now) operation.entry)) }
+{
+    let target = target_of(alloc, prefix, request, operation)?;
     Ok(target)
 }

@@ -1,0 +1,55 @@
+//! Tells what the libraries make of each case on standard input. A line `of LIBRARY` says whose cases follow, and each
+//! line is then a case of that library. It is written again, and below it what came of it; so are empty lines, comments,
+//! which begin with `#`, and the lines that name a library, with nothing below.
+#![tactic(auto)]
+
+mod instance;
+mod network;
+mod platform;
+mod wire;
+mod words;
+
+use anyhow::Result;
+use platform::Left;
+
+// Whose cases follow.
+#[derive(Clone, Copy)]
+enum Library {
+    Instance,
+    Network,
+    Platform,
+    Wire,
+}
+
+// The library of this name.
+fn named(name: &str) -> Result<Library> {
+    match name {
+        "osb_instance" => Ok(Library::Instance),
+        "osb_network" => Ok(Library::Network),
+        "osb_platform" => Ok(Library::Platform),
+        "osb_wire" => Ok(Library::Wire),
+        _ => anyhow::bail!("no such library: {name}"),
+    }
+}
+
+fn main(rt: HostRuntime) -> Result<()> {
+    let mut of = Library::Wire;
+    let mut stepped = None;
+    let mut left = Left::new(rt.alloc());
+    for line in rt.lines(rt.alloc()) {
+        let line = line?;
+        let text = line.as_str();
+        println!(rt; "{text}")?;
+        if let Some(name) = text.strip_prefix("of ") {
+            of = named(name)?;
+        } else if !text.is_empty() && !text.starts_with('#') {
+            match of {
+                Library::Instance => instance::tell(&rt, rt.alloc(), text)?,
+                Library::Network => stepped = network::tell(&rt, rt.alloc(), stepped, text)?,
+                Library::Platform => platform::tell(&rt, rt.alloc(), &mut left, text)?,
+                Library::Wire => wire::tell(&rt, rt.alloc(), text)?,
+            }
+        }
+    }
+    Ok(())
+}

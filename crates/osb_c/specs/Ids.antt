@@ -1,7 +1,0 @@
--- An id as two halves of its number.
-use Rattle.std.specs.Prelude.{ℕ, ◌+◌, ◌*◌, ◌^◌}
-use Rattle.osb_c.specs.declared.ids.OsbId.{OsbId}
-
--- the number of an id
-abbrev pub number_of : OsbId → ℕ
-number_of id = id.high * 2 ^ 64 + id.low

@@ -1,0 +1,4 @@
+pub mod Holdings
+pub mod Records
+pub mod TextStatus
+pub mod Works

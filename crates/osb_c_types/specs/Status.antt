@@ -1,0 +1,80 @@
+-- The numbers that exports return. Each has one meaning, which is this project's choice.
+use Rattle.std.specs.Prelude.{ℕ, Bool, false, ◌||◌, ◌==◌, List, [], ◌∷◌}
+use Rattle.osb_c_types.specs.declared.status.Status.{Status}
+use Rattle.osb_c_types.specs.declared.status.Status.TheVariants.{Done, Memory, EmptyHandle, FullHandle, IdUsed, Unknown}
+use Rattle.osb_c_types.specs.declared.status.Status.TheVariants.{Busy, NothingDue, NoRequest, NotPolling, NotRemovable}
+use Rattle.osb_c_types.specs.declared.status.Status.TheVariants.{NothingRunning, NotHeld, PlanTwice, BadKind}
+use Rattle.osb_c_types.specs.declared.status.Status.TheVariants.{BadOutcome, NotAnId, TooSmall, NotUtf8, NotJson}
+use Rattle.osb_c_types.specs.declared.status.Status.TheVariants.{NotAnObject, BadVersion, BadOuter, BadKey, BadMember}
+use Rattle.osb_c_types.specs.declared.status.Status.TheVariants.{BadRecord, BadHolding, BadRow, BadAsked, BadMode}
+use Rattle.osb_c_types.specs.declared.status.Status.TheVariants.{AttemptsUsedUp, NotInFlight, NothingBegun, Impossible}
+use Rattle.osb_c_types.specs.declared.status.Status.TheVariants.{NoAnswer, NoOperation, NoSeconds, Unauthorized}
+use Rattle.osb_c_types.specs.declared.status.Status.TheVariants.{NotRefused, RefusedTarget, RefusedMethod}
+use Rattle.osb_c_types.specs.declared.status.Status.TheVariants.{RefusedVersion, RefusedLength, RefusedInstance}
+use Rattle.osb_c_types.specs.declared.status.Status.TheVariants.{RefusedRepeated, RefusedService, RefusedPlan}
+use Rattle.osb_c_types.specs.declared.status.Status.TheVariants.{RefusedAcceptsIncomplete, RefusedBody}
+use Rattle.osb_c_types.specs.declared.status.Status.TheVariants.{RefusedOrganization, RefusedSpace, NoServices}
+use Rattle.osb_c_types.specs.declared.status.Status.TheVariants.{BadService, NoPlans, BadPlan, BadPlanMode}
+
+abbrev pub code : Status → ℕ
+code Done = 0
+code Memory = 1
+code EmptyHandle = 2
+code FullHandle = 3
+code IdUsed = 4
+code Unknown = 5
+code Busy = 6
+code NothingDue = 7
+code NoRequest = 8
+code NotPolling = 9
+code NotRemovable = 10
+code NothingRunning = 11
+code NotHeld = 12
+code PlanTwice = 13
+code BadKind = 14
+code BadOutcome = 15
+code NotAnId = 16
+code TooSmall = 17
+code NotUtf8 = 18
+code NotJson = 19
+code NotAnObject = 20
+code BadVersion = 21
+code BadOuter = 22
+code BadKey = 23
+code BadMember = 24
+code BadRecord = 25
+code BadHolding = 26
+code BadRow = 27
+code BadAsked = 28
+code BadMode = 29
+code AttemptsUsedUp = 30
+code NotInFlight = 31
+code NothingBegun = 32
+code Impossible = 33
+code NoAnswer = 34
+code NoOperation = 35
+code NoSeconds = 36
+code Unauthorized = 37
+code NotRefused = 38
+code RefusedTarget = 39
+code RefusedMethod = 40
+code RefusedVersion = 41
+code RefusedLength = 42
+code RefusedInstance = 43
+code RefusedRepeated = 44
+code RefusedService = 45
+code RefusedPlan = 46
+code RefusedAcceptsIncomplete = 47
+code RefusedBody = 48
+code RefusedOrganization = 49
+code RefusedSpace = 50
+code NoServices = 51
+code BadService = 52
+code NoPlans = 53
+code BadPlan = 54
+code BadPlanMode = 55
+
+-- whether a number is one of those of the statuses
+abbrev pub is_one_of : List Status → ℕ → Bool
+is_one_of [] n = false
+is_one_of (s ∷ ss) n = (n == code s) || is_one_of ss n

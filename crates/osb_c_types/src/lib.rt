@@ -1,0 +1,30 @@
+//! What crosses to C: enums as numbers, ids as two halves, structs, and the statuses that calls return.
+//!
+//! The three static libraries that make up `libosb` stand on it: `osb_c` (the platform and the broker behind
+//! handles), `osb_c_instance` (one instance as a value) and `osb_c_wire` (HTTP and JSON). Each type here has its
+//! declaration in `include/osb.h`. All of it is this project's choice.
+#![tactic(auto)]
+
+mod answers;
+mod buffers;
+mod ids;
+mod kinds;
+mod modes;
+mod outcomes;
+mod plans;
+mod requests;
+mod rows;
+mod states;
+mod status;
+
+pub use answers::{OsbAnswer, answer_from, answer_out};
+pub use buffers::write_text;
+pub use ids::{OsbId, id_from, id_out};
+pub use kinds::{kind_from, kind_out, out_from, out_out};
+pub use modes::{mode_from, mode_if};
+pub use outcomes::outcome_from;
+pub use plans::{OsbPlan, plan_out};
+pub use requests::{OsbRequest, request_from, request_out};
+pub use rows::{OsbBrokerRow, OsbPlatformRow, record_from, record_out, row_from, row_out};
+pub use states::{NO_STATE, state_from, state_out};
+pub use status::Status;

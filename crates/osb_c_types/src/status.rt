@@ -1,0 +1,187 @@
+//! The statuses: what became of a call.
+ghost use Rattle.std.specs.Prelude.{◌≡◌};
+ghost use Rattle.osb_c_types.specs.Status.{code};
+
+/// What became of a call. Each has one meaning, whichever export returns it (this project's choice). No number ever
+/// changes.
+#[derive(Clone, Copy)]
+pub enum Status {
+    /// It was done.
+    Done,
+    /// Out of memory: an allocation failed.
+    Memory,
+    /// The handle is empty.
+    EmptyHandle,
+    /// The handle isn't empty.
+    FullHandle,
+    /// The id is recorded already, in any state.
+    IdUsed,
+    /// The id isn't recorded.
+    Unknown,
+    /// A request is in flight.
+    Busy,
+    /// No request is in flight, and none is due: the state is `ready`, `gone` or `unsettled`.
+    NothingDue,
+    /// No request of the instance is in flight.
+    NoRequest,
+    /// No request is in flight, and the state isn't `polling`.
+    NotPolling,
+    /// No request is in flight, and the state is none of `polling`, `ready` and `unsettled`.
+    NotRemovable,
+    /// The instance is neither being made nor being deleted.
+    NothingRunning,
+    /// The broker has no row of the instance.
+    NotHeld,
+    /// Two of the plans have the same service and plan.
+    PlanTwice,
+    /// The number stands for no kind of request.
+    BadKind,
+    /// The number stands for no outcome.
+    BadOutcome,
+    /// The text is no id's.
+    NotAnId,
+    /// The buffer is shorter than what goes into it.
+    TooSmall,
+    /// The text isn't UTF-8.
+    NotUtf8,
+    /// The text has no reading as JSON.
+    NotJson,
+    /// The value isn't an object.
+    NotAnObject,
+    /// The version in the text isn't that of its format.
+    BadVersion,
+    /// The members of the object aren't those of its format.
+    BadOuter,
+    /// Some instance's name isn't the text of an id in lower case.
+    BadKey,
+    /// Some member isn't what its format has there.
+    BadMember,
+    /// The struct is no record that a call gives.
+    BadRecord,
+    /// The struct is no holding that a call gives.
+    BadHolding,
+    /// The struct is no platform's row that a call gives.
+    BadRow,
+    /// The struct is nothing asked that a call gives.
+    BadAsked,
+    /// The number stands for no mode.
+    BadMode,
+    /// The latest request has the greatest number, 2^64 - 1.
+    AttemptsUsedUp,
+    /// No request is in flight, or one of another number.
+    NotInFlight,
+    /// No work is recorded.
+    NothingBegun,
+    /// Each member is one of its kind, and together they can't come about.
+    Impossible,
+    /// The response isn't surely the broker's: a timeout takes its place.
+    NoAnswer,
+    /// No operation is named.
+    NoOperation,
+    /// The value is no number of seconds.
+    NoSeconds,
+    /// The value doesn't name this user and this password.
+    Unauthorized,
+    /// The status is no refusal.
+    NotRefused,
+    /// Refused with 404: there is no such target.
+    RefusedTarget,
+    /// Refused with 405: the target has no such method.
+    RefusedMethod,
+    /// Refused with 412: the version isn't 2.x, or none is named.
+    RefusedVersion,
+    /// Refused with 413: the body is too long.
+    RefusedLength,
+    /// Refused with 400: the id of the instance is no GUID.
+    RefusedInstance,
+    /// Refused with 400: a parameter of the query stands twice.
+    RefusedRepeated,
+    /// Refused with 400: `service_id` is missing or no GUID.
+    RefusedService,
+    /// Refused with 400: `plan_id` is missing or no GUID.
+    RefusedPlan,
+    /// Refused with 400: `accepts_incomplete` is neither `true` nor `false`.
+    RefusedAcceptsIncomplete,
+    /// Refused with 400: the body isn't UTF-8, isn't JSON, or is no object.
+    RefusedBody,
+    /// Refused with 400: `organization_guid` is missing, no string, or empty.
+    RefusedOrganization,
+    /// Refused with 400: `space_guid` is missing, no string, or empty.
+    RefusedSpace,
+    /// The document has no list `services`.
+    NoServices,
+    /// The `id` of a service is missing or no GUID.
+    BadService,
+    /// A service has no list `plans`.
+    NoPlans,
+    /// The `id` of a plan is missing or no GUID.
+    BadPlan,
+    /// `asynchronous` of a plan is neither `true` nor `false`.
+    BadPlanMode,
+}
+
+impl Status {
+    /// Its number.
+    pub fn code(self) -> u32
+        ensures code { result ≡ code self }
+    {
+        match self {
+            Status::Done => 0,
+            Status::Memory => 1,
+            Status::EmptyHandle => 2,
+            Status::FullHandle => 3,
+            Status::IdUsed => 4,
+            Status::Unknown => 5,
+            Status::Busy => 6,
+            Status::NothingDue => 7,
+            Status::NoRequest => 8,
+            Status::NotPolling => 9,
+            Status::NotRemovable => 10,
+            Status::NothingRunning => 11,
+            Status::NotHeld => 12,
+            Status::PlanTwice => 13,
+            Status::BadKind => 14,
+            Status::BadOutcome => 15,
+            Status::NotAnId => 16,
+            Status::TooSmall => 17,
+            Status::NotUtf8 => 18,
+            Status::NotJson => 19,
+            Status::NotAnObject => 20,
+            Status::BadVersion => 21,
+            Status::BadOuter => 22,
+            Status::BadKey => 23,
+            Status::BadMember => 24,
+            Status::BadRecord => 25,
+            Status::BadHolding => 26,
+            Status::BadRow => 27,
+            Status::BadAsked => 28,
+            Status::BadMode => 29,
+            Status::AttemptsUsedUp => 30,
+            Status::NotInFlight => 31,
+            Status::NothingBegun => 32,
+            Status::Impossible => 33,
+            Status::NoAnswer => 34,
+            Status::NoOperation => 35,
+            Status::NoSeconds => 36,
+            Status::Unauthorized => 37,
+            Status::NotRefused => 38,
+            Status::RefusedTarget => 39,
+            Status::RefusedMethod => 40,
+            Status::RefusedVersion => 41,
+            Status::RefusedLength => 42,
+            Status::RefusedInstance => 43,
+            Status::RefusedRepeated => 44,
+            Status::RefusedService => 45,
+            Status::RefusedPlan => 46,
+            Status::RefusedAcceptsIncomplete => 47,
+            Status::RefusedBody => 48,
+            Status::RefusedOrganization => 49,
+            Status::RefusedSpace => 50,
+            Status::NoServices => 51,
+            Status::BadService => 52,
+            Status::NoPlans => 53,
+            Status::BadPlan => 54,
+            Status::BadPlanMode => 55,
+        }
+    }
+}

@@ -1,0 +1,29 @@
+-- What is known of a request and of the texts of Rust is known of what crossed and of what was written.
+use Rattle.std.proofs.Common.{◌≡◌, ℕ, ◌≤◌, List, length, Option, Some, Ok, IsSomeAnd, option_and_then, sym, subst}
+use Rattle.serde_json.specs.Find.{get}
+use Rattle.serde_json.specs.Read.{read}
+use Rattle.osb_message.specs.declared.messages.Kind.TheVariants.{Provision}
+use Rattle.osb_message.specs.declared.messages.Request.{Request}
+use Rattle.osb_wire.specs.Asking.{asked_of}
+use Rattle.osb_wire.specs.Provisions.{Names, IsFurther}
+use Rattle.osb_wire.specs.Requests.{request_in}
+use Rattle.osb_wire.specs.Targets.{method_of}
+
+pub as_crossed : (Is : List ℕ → List ℕ → Request → Type 0) (text given made written : List ℕ) (r : Request)
+    (crossed : Option Request) → text ≡ given → written ≡ made → Some r ≡ crossed → Is text made r
+    → IsSomeAnd crossed (Is given written)
+as_crossed Is text given made written r crossed same done is known =
+    subst (λ (o : Option Request). IsSomeAnd o (Is given written)) is
+    (subst (λ (t : List ℕ). Is t written r) same (subst (λ (t : List ℕ). Is text t r) (sym done) known))
+
+-- a target is read as the request, after a prefix
+abbrev pub IsReadAs : List ℕ → List ℕ → Request → Type 0
+IsReadAs prefix target r =
+    (longest : ℕ) (body : List ℕ) → length body ≤ longest → Names r.kind body r.service r.plan
+    → request_in prefix longest (method_of r.kind) target body ≡ Ok (asked_of r)
+
+-- the further members stand in a body
+abbrev pub IsKept : List ℕ → List ℕ → Request → Type 0
+IsKept further body r =
+    r.kind ≡ Provision → (name : List ℕ) → IsFurther name
+    → option_and_then (get name) (read body) ≡ option_and_then (get name) (read further)

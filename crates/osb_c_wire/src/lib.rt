@@ -1,0 +1,19 @@
+//! Requests and answers as HTTP and JSON have them, callable from C.
+//!
+//! Each export is one call of `osb_wire`, and its contract says again what that call's says, of what crossed: enums
+//! cross as numbers, ids as two halves, texts and lists as a pointer and a length. What can fail returns a number,
+//! one of a single list ([`Status`](osb_c_types::Status)) in which each has one meaning. A text goes to the front of a
+//! buffer of the caller's, and its length to `needed`.
+//!
+//! `include/osb.h` declares all of it, `docs/c.md` says how it is built, linked and called, and `docs/wire.md` what
+//! is written and read.
+#![tactic(auto)]
+
+mod answers;
+mod asking;
+mod bodies;
+mod catalogues;
+mod headers;
+mod refusals;
+mod requests;
+mod texts;
