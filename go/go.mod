@@ -1,0 +1,3 @@
+module pippinterm/osb
+
+go 1.19

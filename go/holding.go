@@ -1,0 +1,164 @@
+package osb
+
+// #include <osb.h>
+import "C"
+
+import "database/sql/driver"
+
+// A Holding is what a broker keeps of one instance, for a row of a database: a row or none, recorded work or none, and
+// a mark where the instance has ended. It is a value, may be copied and compared, and owns nothing. The zero Holding
+// holds nothing: an id that no request has come for has that. Each call gives the next holding, or with an error the
+// holding as it was.
+type Holding struct {
+	row                       BrokerRow
+	work                      Request
+	hasRow, hasWork, isMarked bool
+}
+
+// A BrokerRow is an instance that a broker holds.
+type BrokerRow struct {
+	Service, Plan ID
+	Phase         Phase
+}
+
+// A Begun is what comes of a request at once: an answer to send where Work is WorkNone, and else the work that is due,
+// and is recorded.
+type Begun struct {
+	Answer Answer
+	Work   Work
+}
+
+// Row is the instance that is held, and whether one is.
+func (h Holding) Row() (BrokerRow, bool) { return h.row, h.hasRow }
+
+// Work is the request whose work is recorded and hasn't ended, and whether there is one.
+func (h Holding) Work() (Request, bool) { return h.work, h.hasWork }
+
+// IsMarked is whether the instance has ended: none with this id is ever made again.
+func (h Holding) IsMarked() bool { return h.isMarked }
+
+// Fits is whether the holding can come about at a plan of the mode, that of the row's plan, or where there is no row
+// that of the recorded request's. A program asks it of each holding that comes from its database: at another mode End
+// would forget what was made.
+func (h Holding) Fits(mode Mode) bool {
+	holding := h.c()
+	return bool(C.osb_holding_fits(&holding, C.uint8_t(mode)))
+}
+
+// Begin begins with a request to this instance: it is answered, or recorded as work that is due. The mode is that of
+// the request's plan. What comes back is written to the database where it differs, before the work begins or the answer
+// is sent.
+//
+// Errors: ErrBadHolding, ErrBadMode, ErrBadKind.
+func (h Holding) Begin(mode Mode, request Request) (Holding, Begun, error) {
+	holding, asked := h.c(), request.c()
+	var begun C.struct_osb_begun
+	if err := done(C.osb_holding_begin(&holding, C.uint8_t(mode), &asked, &begun)); err != nil {
+		return h, Begun{}, err
+	}
+	return holdingOf(holding), begunOf(begun), nil
+}
+
+// End ends the recorded work with this outcome, and gives the answer to its request. The mode is that of the recorded
+// request's plan, and has to fit. What comes back is written to the database before the answer is sent.
+//
+// Errors: ErrBadHolding, ErrBadMode, ErrBadOutcome, ErrNothingBegun.
+func (h Holding) End(mode Mode, outcome Outcome) (Holding, Answer, error) {
+	holding := h.c()
+	var answer C.struct_osb_answer
+	if err := done(C.osb_holding_end(&holding, C.uint8_t(mode), C.uint8_t(outcome), &answer)); err != nil {
+		return h, Answer{}, err
+	}
+	return holdingOf(holding), answerOf(answer), nil
+}
+
+// Finish ends the operation that runs on the instance, well (ok) or badly. What comes back is written to the database
+// before anyone is told.
+//
+// Errors: ErrBadHolding, ErrNothingRunning.
+func (h Holding) Finish(ok bool) (Holding, error) {
+	holding := h.c()
+	if err := done(C.osb_holding_finish(&holding, C.bool(ok))); err != nil {
+		return h, err
+	}
+	return holdingOf(holding), nil
+}
+
+// Handle is Begin, and where work is due End with this outcome, with nothing between: for tests, and for brokers whose
+// work can't be interrupted.
+//
+// Errors: ErrBadHolding, ErrBadMode, ErrBadKind, ErrBadOutcome.
+func (h Holding) Handle(mode Mode, request Request, outcome Outcome) (Holding, Answer, error) {
+	holding, asked := h.c(), request.c()
+	var answer C.struct_osb_answer
+	status := C.osb_holding_handle(&holding, C.uint8_t(mode), &asked, C.uint8_t(outcome), &answer)
+	if err := done(status); err != nil {
+		return h, Answer{}, err
+	}
+	return holdingOf(holding), answerOf(answer), nil
+}
+
+// MarshalJSON writes the text of the holding, an object of JSON, for a column of a database.
+//
+// Errors: ErrBadHolding, ErrMemory.
+func (h Holding) MarshalJSON() ([]byte, error) {
+	holding := h.c()
+	return written(func(buffer *C.uint8_t, bytes C.size_t, needed *C.size_t) C.uint32_t {
+		return C.osb_holding_to_text(&holding, buffer, bytes, needed)
+	})
+}
+
+// UnmarshalJSON reads the text of a holding. Where it is refused the holding is as before.
+//
+// Errors: ErrNotUTF8, ErrNotJSON, ErrNotAnObject, ErrBadVersion, ErrBadOuter, ErrBadMember, ErrImpossible, ErrMemory.
+func (h *Holding) UnmarshalJSON(text []byte) error {
+	var holding C.struct_osb_holding
+	if err := done(C.osb_holding_from_text(pointer(text), size(text), &holding)); err != nil {
+		return err
+	}
+	*h = holdingOf(holding)
+	return nil
+}
+
+// Value is the holding's text, for a column of the type text, json or jsonb.
+func (h Holding) Value() (driver.Value, error) { return valueOf(h.MarshalJSON()) }
+
+// Scan reads the holding's text from a column. NULL is no holding's; the zero Holding has a text too.
+func (h *Holding) Scan(column any) error { return scan(column, h.UnmarshalJSON) }
+
+func (h Holding) c() C.struct_osb_holding {
+	return C.struct_osb_holding{
+		row:       h.row.c(),
+		work:      h.work.c(),
+		has_row:   C.bool(h.hasRow),
+		has_work:  C.bool(h.hasWork),
+		is_marked: C.bool(h.isMarked),
+	}
+}
+
+// holdingOf has zeroes where the library has them, in what doesn't count: holdings that are the same are equal.
+func holdingOf(h C.struct_osb_holding) Holding {
+	return Holding{
+		row:      brokerRowOf(h.row),
+		work:     requestOf(h.work),
+		hasRow:   bool(h.has_row),
+		hasWork:  bool(h.has_work),
+		isMarked: bool(h.is_marked),
+	}
+}
+
+func begunOf(b C.struct_osb_begun) Begun {
+	return Begun{Answer: answerOf(b.answer), Work: Work(b.work)}
+}
+
+func (row BrokerRow) c() C.struct_osb_broker_row {
+	return C.struct_osb_broker_row{
+		service: row.Service.c(),
+		plan:    row.Plan.c(),
+		phase:   C.uint8_t(row.Phase),
+	}
+}
+
+func brokerRowOf(row C.struct_osb_broker_row) BrokerRow {
+	return BrokerRow{Service: idOf(row.service), Plan: idOf(row.plan), Phase: Phase(row.phase)}
+}

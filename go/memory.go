@@ -1,0 +1,94 @@
+package osb
+
+import (
+	"context"
+	"sync"
+)
+
+// A MemoryStore is a Store for tests and examples. It forgets everything when the program ends, and with it the marks
+// and the recorded work on which the agreement of both sides rests: no broker that sells anything keeps its holdings
+// there.
+type MemoryStore struct {
+	turn     sync.Mutex
+	holdings map[ID]Holding
+}
+
+// NewMemoryStore is an empty one.
+func NewMemoryStore() *MemoryStore { return &MemoryStore{holdings: map[ID]Holding{}} }
+
+// Change is one transaction. One runs at a time.
+func (m *MemoryStore) Change(_ context.Context, id ID, step func(Holding) (Holding, error)) error {
+	m.turn.Lock()
+	defer m.turn.Unlock()
+	next, err := step(m.holdings[id])
+	if err != nil {
+		return err
+	}
+	m.holdings[id] = next
+	return nil
+}
+
+// Recorded lists the instances with recorded work.
+func (m *MemoryStore) Recorded(context.Context) ([]ID, error) {
+	m.turn.Lock()
+	defer m.turn.Unlock()
+	var ids []ID
+	for id, holding := range m.holdings {
+		if _, ok := holding.Work(); ok {
+			ids = append(ids, id)
+		}
+	}
+	return ids, nil
+}
+
+// Holding is what is held of an instance.
+func (m *MemoryStore) Holding(id ID) Holding {
+	m.turn.Lock()
+	defer m.turn.Unlock()
+	return m.holdings[id]
+}
+
+// A MemoryRecords is a RecordStore for tests and examples. It forgets everything when the program ends: no platform
+// that buys anything keeps its records there.
+type MemoryRecords struct {
+	turn    sync.Mutex
+	records map[ID]Stored
+}
+
+// NewMemoryRecords is an empty one.
+func NewMemoryRecords() *MemoryRecords { return &MemoryRecords{records: map[ID]Stored{}} }
+
+// Create writes the row of a new instance.
+func (m *MemoryRecords) Create(_ context.Context, id ID, first Stored) error {
+	m.turn.Lock()
+	defer m.turn.Unlock()
+	if _, ok := m.records[id]; ok {
+		return ErrIDUsed
+	}
+	m.records[id] = first
+	return nil
+}
+
+// Change is one transaction. One runs at a time.
+func (m *MemoryRecords) Change(_ context.Context, id ID, step func(Stored) (Stored, error)) error {
+	m.turn.Lock()
+	defer m.turn.Unlock()
+	stored, ok := m.records[id]
+	if !ok {
+		return ErrUnknown
+	}
+	next, err := step(stored)
+	if err != nil {
+		return err
+	}
+	m.records[id] = next
+	return nil
+}
+
+// Record is what is recorded of an instance, and whether it is.
+func (m *MemoryRecords) Record(id ID) (Stored, bool) {
+	m.turn.Lock()
+	defer m.turn.Unlock()
+	stored, ok := m.records[id]
+	return stored, ok
+}
