@@ -1,102 +1,139 @@
 #!/usr/bin/env python3
-"""wrapper.py: examples/python/osb.py has the numbers and the functions of include/osb.h, and each of them works.
+"""wrapper.py: the Python package has what include/osb.h has: each number by its name, each status with its meaning,
+each struct with its members, each function with its types, and it calls each of them.
 
-What is expected of a call stands here by hand, from docs/platform.md and docs/broker.md. What is wrong is written to
-standard error, and the status is 1 then. LIBOSB names the library.
+The package is the one that Python finds (PYTHONPATH); LIBOSB names the library. What is wrong is written to standard
+error, and the status is 1 then.
 """
+from __future__ import annotations
+
+import ctypes as c
+import enum
 import re
 import sys
+from pathlib import Path
+from typing import Any, Dict, List, Tuple, Type
 
-sys.path.insert(0, "examples/python")
 import osb
-from osb import Answer, Body, Broker, Id, Kind, Outcome, Phase, Plan, Platform, State, Status
+import osb.enums
+import osb.errors
+from osb import _lib, _structs
 
-wrong = 0
+HEADER = Path("include/osb.h").read_text(encoding="utf-8")
+DECLARED = re.sub(r"/\*.*?\*/", "", HEADER, flags=re.S)
+PLAIN: Dict[str, Any] = {"uint8_t": c.c_uint8, "uint16_t": c.c_uint16, "uint32_t": c.c_uint32, "uint64_t": c.c_uint64,
+                         "size_t": c.c_size_t, "bool": c.c_bool}
 
-
-def same(what, got, wanted):
-    global wrong
-    if got != wanted or type(got) is not type(wanted):
-        wrong += 1
-        print(f"{what}: {got!r}, and not {wanted!r}", file=sys.stderr)
-
-
-def refused(what, call, status):
-    try:
-        same(what, call(), status)
-    except osb.OsbError as error:
-        same(what, error.status, status)
+wrong: List[str] = []
 
 
-def header():
-    """The enums of the header and its functions, with what osb.py has of them."""
-    with open("include/osb.h", encoding="utf-8") as text:
-        declared = re.sub(r"/\*.*?\*/", "", text.read(), flags=re.S)
-    with open(osb.__file__, encoding="utf-8") as text:
-        wrapper = text.read()
-    enums = re.findall(r"enum osb_(\w+) \{(.*?)\};", declared, re.S)
-    same("the count of enums", len(enums), 6)
-    for name, body in enums:
-        numbers = {it: int(number) for it, number in re.findall(r"OSB_(\w+) = (\d+)", body)}
-        if name == "kind":
-            same("NO_KIND", osb.NO_KIND, numbers.pop("NO_KIND"))
-        if name == "state":
-            del numbers["NO_STATE"]  # a State is always one
-        same(name, {it.name: it.value for it in getattr(osb, name.capitalize())}, numbers)
-    functions = set(re.findall(r"\b(osb_\w+)\(", declared))
-    same("functions without a prototype", functions ^ set(re.findall(r'\("(osb_\w+)",', wrapper)), set())
-    same("functions that aren't called", functions ^ set(re.findall(r"_lib\.(osb_\w+)\(", wrapper)), set())
-    version = [int(it) for it in re.findall(r"#define OSB_VERSION_(?:MAJOR|MINOR|PATCH) (\d+)", declared)]
-    same("version", osb.version(), version[0] * 10000 + version[1] * 100 + version[2])
+def same(what: str, got: object, wanted: object) -> None:
+    if got != wanted:
+        wrong.append(f"{what}: {got!r}, and not {wanted!r}")
 
 
-def tables():
-    same("well_formed", osb.well_formed(Kind.POLL, Answer(200, Body.SUCCEEDED)), True)
-    same("well_formed, of another kind", osb.well_formed(Kind.PROVISION, Answer(200, Body.SUCCEEDED)), False)
-    same("mitigates", osb.mitigates(Answer(201, Body.MALFORMED)), True)
-    same("mitigates, not", osb.mitigates(Answer(200, Body.MALFORMED)), False)
-    same("decide_provision", osb.decide_provision(Answer(422, Body.ASYNC_REQUIRED)), State.GONE)
-    same("decide_deprovision", osb.decide_deprovision(Answer(202, Body.EMPTY)), State.CLEANING_POLLING)
-    same("decide_poll", osb.decide_poll(State.CLEANING_POLLING, Answer(200, Body.SUCCEEDED)), State.GONE)
-    same("decide_timeout", osb.decide_timeout(State.WANTED), State.CLEANING)
-    same("decide_restart", osb.decide_restart(State.UNSETTLED), State.UNSETTLED)
+def pascal(name: str) -> str:
+    return "".join(part.capitalize() for part in name.split("_"))
 
 
-def handles():
-    """An instance of two platforms: one has it deleted once it is made, the other gives up polling."""
-    texts = [f"00000000-0000-0000-0000-0000000000{end}" for end in ("01", "a0", "b2")]
-    one, service, plan = [Id.of(text) for text in texts]
-    same("an id", str(one), texts[0])
-    same("one id, twice", one == Id.of(texts[0]) and len({one, Id.of(texts[0])}) == 1, True)
-    same("two ids", one == service or one != Id.of(texts[0]), False)
-    refused("no id", lambda: Id.of("1"), Status.NOT_AN_ID)
-    with Broker([Plan(service, plan, True)]) as broker, Platform() as platform, Platform() as other:
-        for it in (platform, other):
-            request = it.create(one, service, plan, True)
-            same("create", (request.kind, str(request.id)), (int(Kind.PROVISION), texts[0]))
-            same("handle, of a Provision", broker.handle(request, Outcome.WORK_DONE).status, 202)
-            it.answer(one, Answer(202, Body.EMPTY))
-        refused("create, of a used id", lambda: platform.create(one, service, plan, True), Status.ID_USED)
-        broker.finish(one, True)
-        same("finish", Phase(broker.row(one).phase), Phase.MADE)
-        answer = broker.handle(platform.send(one), Outcome.WORK_DONE)
-        same("handle", (answer.status, Body(answer.body)), (200, Body.SUCCEEDED))
-        platform.answer(one, answer)
-        same("ids", platform.ids(), [one])
-        with Platform(platform.save()) as loaded:
-            same("load", State(loaded.row(one).state), State.READY)
-        platform.remove(one)
-        other.expire(one)
-        for it in (platform, other):
-            same("remove, expire", State(it.row(one).state), State.CLEANING)
-            same("send", Kind(it.send(one).kind), Kind.DEPROVISION)
-            same("the request that is out", it.row(one).out, int(Kind.DEPROVISION))
-            it.timeout(one)
-            same("timeout", it.row(one).out, osb.NO_KIND)
-    refused("create, of an empty handle", lambda: platform.create(one, service, plan, True), Status.EMPTY_HANDLE)
+# ---- What the header has.
 
 
-header()
-tables()
-handles()
+def header_enums() -> Dict[str, Dict[str, int]]:
+    """The numbers of each enum by their names, without OSB_ and what is the enum's own of the name."""
+    found = {}
+    for name, body in re.findall(r"enum osb_(\w+) \{(.*?)\};", DECLARED, re.S):
+        front = "" if name == "status" else name.upper() + "_"
+        found[name] = {it: int(number) for it, number in re.findall(rf"OSB_{front}(\w+) = (\d+)", body)}
+        same(f"the numbers of enum osb_{name}", len(found[name]), body.count("="))
+    return found
+
+
+def struct_type(name: str) -> Any:
+    return getattr(_structs, "C" + pascal(name), None)
+
+
+def header_structs() -> Dict[str, List[Tuple[str, Any]]]:
+    """The members of each struct, with the ctypes type of each."""
+    found = {}
+    for name, body in re.findall(r"struct osb_(\w+) \{(.*?)\};", DECLARED, re.S):
+        members: List[Tuple[str, Any]] = []
+        for kind, names in re.findall(r"((?:struct )?\w+) ([\w *,]+);", body):
+            for member in (it.strip() for it in names.split(",")):
+                members.append((member.lstrip("*"), c.c_void_p if member.startswith("*") else value_type(kind)))
+        found[name] = members
+    return found
+
+
+def value_type(kind: str) -> Any:
+    return struct_type(kind[len("struct osb_"):]) if kind.startswith("struct osb_") else PLAIN.get(kind)
+
+
+def parameter_type(text: str) -> Any:
+    """The ctypes type of a parameter: a pointer to bytes is a text, and any other one to what it is to."""
+    kind, name = re.fullmatch(r"(?:const )?((?:struct )?\w+) (\*?\w+(?:\[\d+\])?)", text).groups()  # type: ignore
+    is_pointer = name.startswith("*") or name.endswith("]")
+    if is_pointer and kind == "uint8_t":
+        return c.c_char_p
+    return c.POINTER(value_type(kind)) if is_pointer else value_type(kind)
+
+
+def header_functions() -> Dict[str, Tuple[Any, List[Any]]]:
+    """What each function gives and takes."""
+    found = {}
+    for given, name, taken in re.findall(r"^(\w+) (osb_\w+)\(([^)]*)\);", DECLARED, re.M | re.S):
+        parts = [" ".join(it.split()) for it in taken.split(",")]
+        found[name] = (PLAIN.get(given), [] if parts == ["void"] else [parameter_type(it) for it in parts])
+    same("the functions that are read", set(found), set(re.findall(r"\b(osb_\w+)\(", DECLARED)))
+    return found
+
+
+# ---- What the package has of it.
+
+
+def numbers() -> None:
+    enums = header_enums()
+    ours = {name.lower(): it for name, it in vars(osb.enums).items()
+            if isinstance(it, type) and issubclass(it, enum.IntEnum) and it is not enum.IntEnum}
+    same("enums", set(ours), set(enums))
+    for name, wanted in enums.items():
+        if name != "status" and "NONE" in wanted:
+            same(f"{name} of none", getattr(_structs, f"{name.upper()}_NONE"), wanted.pop("NONE"))
+        members: Type[enum.IntEnum] = ours[name]
+        same(name, {it.name: it.value for it in members}, wanted)
+    meanings = re.findall(r"OSB_(\w+) = \d+,?\s*/\* (.*?) \*/", re.search(
+        r"enum osb_status \{(.*?)\};", HEADER, re.S)[1], re.S)  # type: ignore
+    same("the meanings", {it.name: said for it, said in osb.errors.MEANINGS.items()}, dict(meanings))
+
+
+def structs() -> None:
+    wanted = header_structs()
+    ours = {name for name, it in vars(_structs).items() if isinstance(it, type) and issubclass(it, c.Structure)}
+    same("structs", ours, {"C" + pascal(name) for name in wanted})
+    for name, members in wanted.items():
+        same(f"struct osb_{name}", list(getattr(struct_type(name), "_fields_", [])), members)
+
+
+def functions() -> None:
+    wanted = header_functions()
+    same("functions", [it[0] for it in _lib.EXPORTS], list(wanted))
+    for name, given, taken in _lib.EXPORTS:
+        same(name, (given, taken), wanted.get(name))
+    sources = "".join(it.read_text(encoding="utf-8") for it in Path(osb.__file__).parent.glob("*.py"))
+    called = set(re.findall(r"\blib(?:rary)?\.(osb_\w+)\(", sources))
+    same("functions that are called", called, set(wanted))
+
+
+def versions() -> None:
+    parts = [int(it) for it in re.findall(r"#define OSB_VERSION_(?:MAJOR|MINOR|PATCH) (\d+)", DECLARED)]
+    number = parts[0] * 10000 + parts[1] * 100 + parts[2]
+    same("versions of the package and of the library", (_lib.VERSION, osb.version()), (number, number))
+    project = Path("python/pyproject.toml").read_text(encoding="utf-8")
+    same("version in pyproject.toml", re.findall(r'^version = "(.*)"', project, re.M), [".".join(map(str, parts))])
+
+
+for part in (numbers, structs, functions, versions):
+    part()
+for line in wrong:
+    print(line, file=sys.stderr)
 sys.exit(1 if wrong else 0)

@@ -1,7 +1,7 @@
 """One instance, by both sides: the answer to its Provision gets lost, the platform crashes, is loaded again, and
 cleans up. What it prints stands in story.out beside it. LIBOSB names the library where the system doesn't find it.
 """
-from osb import Broker, Id, Kind, OsbError, Outcome, Plan, Platform, State, Status
+from osb import Broker, Id, OsbError, Outcome, Plan, Platform, Status
 
 INSTANCE = Id.of("00000000-0000-0000-0000-000000000001")
 SERVICE = Id.of("00000000-0000-0000-0000-0000000000a0")
@@ -9,7 +9,7 @@ PLAN = Id.of("00000000-0000-0000-0000-0000000000b1")
 
 
 def show(platform: Platform, broker: Broker) -> None:
-    state = State(platform.row(INSTANCE).state).name.lower().replace("_", "-")
+    state = platform.row(INSTANCE).state.name.lower().replace("_", "-")
     print(f"recorded: {state}, held: {'no' if broker.row(INSTANCE) is None else 'yes'}")
 
 
@@ -18,8 +18,8 @@ with Broker([Plan(SERVICE, PLAN, False)]) as broker:
         # The Provision is recorded and saved before it is sent.
         request = platform.create(INSTANCE, SERVICE, PLAN, False)
         saved = platform.save()
-        answer = broker.handle(request, Outcome.WORK_DONE)
-        print(f"{Kind(request.kind).name.capitalize()}: {answer.status}, and the answer gets lost")
+        answer = broker.handle(request, Outcome.DONE)
+        print(f"{request.kind.name.capitalize()}: {answer.status}, and the answer gets lost")
         show(platform, broker)
 
     print("the platform crashes, and is loaded again")
@@ -30,10 +30,10 @@ with Broker([Plan(SERVICE, PLAN, False)]) as broker:
             while True:
                 request = platform.send(INSTANCE)
                 saved = platform.save()
-                answer = broker.handle(request, Outcome.WORK_DONE)
+                answer = broker.handle(request, Outcome.DONE)
                 platform.answer(INSTANCE, answer)
                 saved = platform.save()
-                print(f"{Kind(request.kind).name.capitalize()}: {answer.status}")
+                print(f"{request.kind.name.capitalize()}: {answer.status}")
         except OsbError as end:
             if end.status != Status.NOTHING_DUE:
                 raise

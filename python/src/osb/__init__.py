@@ -1,0 +1,25 @@
+"""The life of a service instance under the Open Service Broker API 2.17, for both ends, over the proved library libosb.
+
+- `Record` and `Holding`: one instance as a value, as a platform and as a broker keep it in a database.
+- `osb.wire`: requests and answers as HTTP and JSON have them.
+- `osb.wsgi.BrokerApplication`: a broker as a WSGI application. `osb.client.Client`: a platform over HTTP.
+- `Platform` and `Broker`: all instances in one process, behind handles; `osb.tables`: the platform's tables.
+
+The environment variable LIBOSB names the library's file; else libosb.so.0 is loaded, as the system finds it. What isn't
+done raises `OsbError`. docs/python.md has a first program.
+"""
+from __future__ import annotations
+
+from osb._lib import version
+from osb.broker import Broker
+from osb.enums import Body, Kind, Mode, Outcome, Phase, State, Status, Work
+from osb.errors import OsbError, Refusal
+from osb.holding import Holding, work_of
+from osb.ids import Id
+from osb.messages import Answer, BrokerRow, Plan, PlatformRow, Request
+from osb.platform import Platform
+from osb.record import Record
+
+__all__ = ["Answer", "Body", "Broker", "BrokerRow", "Holding", "Id", "Kind", "Mode", "OsbError", "Outcome", "Phase",
+           "Plan", "Platform", "PlatformRow", "Record", "Refusal", "Request", "State", "Status", "Work", "version",
+           "work_of"]

@@ -1,0 +1,71 @@
+"""Values as the structs that cross to the library, and back."""
+from __future__ import annotations
+
+from typing import Optional
+
+from osb._structs import (KIND_NONE, MODE_NONE, CAnswer, CBrokerRow, CId, CPlan, CPlatformRow, CRequest)
+from osb.enums import Body, Kind, Mode, Phase, State
+from osb.ids import Id
+from osb.messages import Answer, BrokerRow, Plan, PlatformRow, Request
+
+
+def id_to(id: Id) -> CId:
+    return CId(id.high, id.low)
+
+
+def id_from(id: CId) -> Id:
+    return Id(id.high, id.low)
+
+
+def kind_to(kind: Optional[Kind]) -> int:
+    return KIND_NONE if kind is None else Kind(kind).value
+
+
+def kind_from(kind: int) -> Optional[Kind]:
+    return None if kind == KIND_NONE else Kind(kind)
+
+
+def mode_to(mode: Optional[Mode]) -> int:
+    return MODE_NONE if mode is None else Mode(mode).value
+
+
+def request_to(request: Request) -> CRequest:
+    return CRequest(Kind(request.kind).value, bool(request.accepts_incomplete), id_to(request.id),
+                    id_to(request.service), id_to(request.plan))
+
+
+def request_from(request: CRequest) -> Request:
+    return Request(Kind(request.kind), bool(request.accepts_incomplete), id_from(request.id),
+                   id_from(request.service), id_from(request.plan))
+
+
+def answer_to(answer: Answer) -> CAnswer:
+    return CAnswer(answer.status, Body(answer.body).value)
+
+
+def answer_from(answer: CAnswer) -> Answer:
+    return Answer(answer.status, Body(answer.body))
+
+
+def platform_row_to(row: PlatformRow) -> CPlatformRow:
+    return CPlatformRow(id_to(row.service), id_to(row.plan), State(row.state).value, kind_to(row.out))
+
+
+def platform_row_from(row: CPlatformRow) -> PlatformRow:
+    return PlatformRow(id_from(row.service), id_from(row.plan), State(row.state), kind_from(row.out))
+
+
+def plan_to(plan: Plan) -> CPlan:
+    return CPlan(id_to(plan.service), id_to(plan.plan), bool(plan.is_asynchronous))
+
+
+def plan_from(plan: CPlan) -> Plan:
+    return Plan(id_from(plan.service), id_from(plan.plan), bool(plan.is_asynchronous))
+
+
+def broker_row_to(row: BrokerRow) -> CBrokerRow:
+    return CBrokerRow(id_to(row.service), id_to(row.plan), Phase(row.phase).value)
+
+
+def broker_row_from(row: CBrokerRow) -> BrokerRow:
+    return BrokerRow(id_from(row.service), id_from(row.plan), Phase(row.phase))

@@ -1,0 +1,25 @@
+"""Texts that cross: what a call writes into a buffer, and strings as bytes."""
+from __future__ import annotations
+
+import ctypes as c
+from typing import Any, Callable, Tuple
+
+from osb.enums import Status
+
+# What most texts go into at once: a holding's has 351 bytes at most.
+_FIRST = 1024
+
+
+def written(call: Callable[[Any, int, Any], int]) -> Tuple[int, bytes]:
+    """The status of a call that writes a text, and that text. It is called again where the buffer was too short."""
+    room, needed = c.create_string_buffer(_FIRST), c.c_size_t(0)
+    status = call(room, len(room), needed)
+    while status == Status.TOO_SMALL:
+        room = c.create_string_buffer(needed.value)
+        status = call(room, len(room), needed)
+    return status, room.raw[:needed.value]
+
+
+def utf8(text: str) -> bytes:
+    """The bytes of a string. A lone surrogate comes out as bytes that the library refuses as not UTF-8."""
+    return text.encode("utf-8", "surrogatepass")

@@ -1,0 +1,175 @@
+"""A platform over HTTP: what is written, sent and taken, and in which order.
+
+Each exchange goes these ways (docs/instance.md):
+
+1. In a transaction: the record takes `create` or `send`, and is written, with the request in flight.
+2. The request is sent once, outside of any transaction, and its response is awaited for a limited time.
+3. In a second transaction: the record takes `answer`, or `timeout` where no response came that is surely the broker's.
+
+A crash leaves a request in flight, which `give_up` gives up.
+"""
+from __future__ import annotations
+
+import base64
+import logging
+import ssl
+from dataclasses import dataclass
+from typing import Callable, Optional, Tuple, TypeVar
+
+from osb._exchange import Address, FarEnd, Response
+from osb._texts import utf8
+from osb.enums import Kind, Status
+from osb.errors import OsbError
+from osb.ids import Id
+from osb.messages import Answer, Request
+from osb.record import Record
+from osb.records import Kept, RecordStore
+from osb.wire import (API_VERSION, CONTENT_TYPE, read_answer, read_operation, retry_after, write_body, write_method,
+                      write_target)
+
+T = TypeVar("T")
+
+_log = logging.getLogger("osb.client")
+
+
+@dataclass(frozen=True)
+class Exchanged:
+    """What came of an exchange."""
+
+    record: Record
+    """The record as it is written now."""
+    answer: Optional[Answer]
+    """The broker's answer, or None where none came that is surely the broker's."""
+    retry_after: Optional[int]
+    """The seconds that the broker asks to be left alone for, or None."""
+
+
+@dataclass(frozen=True)
+class _Sent:
+    request: Request
+    attempt: int
+    """The number of the request: it stays with the connection."""
+    operation: Optional[str]
+
+
+@dataclass(frozen=True)
+class _Heard:
+    answer: Answer
+    operation: Optional[str]
+    """What the Polls from now on are about."""
+
+
+class Client:
+    """A platform's side of one broker. Any number of threads may use it, as far as the store allows it."""
+
+    def __init__(self, url: str, user: str, password: str, records: RecordStore, *, organization: str, space: str,
+                 seconds: float = 60.0, longest_body: int = 1 << 20, tls: Optional[ssl.SSLContext] = None) -> None:
+        """`url` is the broker's, without /v2. `seconds` is the limit on the time of each exchange, `longest_body` that
+        on the bytes of a response's body. Raises ValueError where the URL is no broker's, the user has a colon, or the
+        organization or the space is empty.
+        """
+        if ":" in user:
+            raise ValueError("HTTP's Basic scheme knows no user with a colon")
+        if not organization or not space:
+            raise ValueError("the organization and the space aren't empty")
+        token = base64.b64encode(utf8(f"{user}:{password}")).decode()
+        self._headers = {"Authorization": f"Basic {token}", "X-Broker-API-Version": API_VERSION,
+                         "Accept": CONTENT_TYPE, "Connection": "close"}
+        self._far_end = FarEnd(Address.of(url), tls or ssl.create_default_context(), seconds, longest_body)
+        self._records, self._organization, self._space = records, organization, space
+
+    def create(self, id: Id, service: Id, plan: Id, accepts_incomplete: bool = True,
+               further: str = "{}") -> Exchanged:
+        """Records a new instance, and sends its Provision. `further` is the text of an object with the members that the
+        body has besides, as parameters. Raises ID_USED, NOT_JSON, NOT_AN_OBJECT, NOT_UTF8: nothing is then recorded or
+        sent.
+        """
+        record, request = Record.create(id, service, plan, accepts_incomplete)
+        body = write_body(request, self._organization, self._space, further)
+        self._records.insert(id, Kept(record))
+        return self._exchange(_Sent(request, record.attempt, None), body)
+
+    def step(self, id: Id) -> Exchanged:
+        """Sends the request that is due: a Poll or a Deprovision. Raises UNKNOWN, BUSY, NOTHING_DUE,
+        ATTEMPTS_USED_UP: nothing is then sent.
+        """
+        def sent(kept: Kept) -> Tuple[Kept, _Sent]:
+            record, request = kept.record.send(id)
+            operation = kept.operation if request.kind == Kind.POLL else None
+            return Kept(record, kept.operation), _Sent(request, record.attempt, operation)
+        return self._exchange(self._records.update(id, sent), b"")
+
+    def remove(self, id: Id) -> Record:
+        """Has the instance deleted, as an operator asks: its Deprovision is then due. Raises UNKNOWN, BUSY,
+        NOT_REMOVABLE.
+        """
+        return self._changed(id, Record.remove)
+
+    def expire(self, id: Id) -> Record:
+        """Gives up polling, as the maximum polling duration has passed: a Deprovision is then due. Raises UNKNOWN,
+        BUSY, NOT_POLLING.
+        """
+        return self._changed(id, Record.expire)
+
+    def give_up(self, id: Id) -> Record:
+        """Gives up the request in flight, as what a crash left there: it may be done or not, and what is due then finds
+        out. Where none is in flight, nothing changes. Raises UNKNOWN.
+        """
+        return self._changed(id, lambda record: record if record.out is None else record.timeout(record.attempt))
+
+    def record(self, id: Id) -> Record:
+        """What is recorded of the instance. Raises UNKNOWN."""
+        return self._changed(id, lambda record: record)
+
+    def _changed(self, id: Id, call: Callable[[Record], Record]) -> Record:
+        def changed(kept: Kept) -> Tuple[Kept, Record]:
+            record = call(kept.record)
+            return Kept(record, kept.operation), record
+        return self._records.update(id, changed)
+
+    def _exchange(self, sent: _Sent, body: bytes) -> Exchanged:
+        response = self._response(sent.request, sent.operation, body)
+        heard = None if response is None else _heard(sent.request.kind, response)
+        record = self._records.update(sent.request.id, lambda kept: _taken(kept, sent, heard))
+        named = None if response is None else response.retry_after
+        return Exchanged(record, None if heard is None else heard.answer, None if named is None else retry_after(named))
+
+    def _response(self, request: Request, operation: Optional[str], body: bytes) -> Optional[Response]:
+        headers = {**self._headers, "Content-Type": CONTENT_TYPE} if body else self._headers
+        target = _unless_memory(lambda: write_target(request, operation, self._far_end.address.prefix))
+        if target is None:
+            return None
+        return self._far_end.exchange(write_method(request.kind), target, body, headers)
+
+
+def _unless_memory(call: Callable[[], T]) -> Optional[T]:
+    """What a call gives. Want of memory is as if no answer came, since a timeout is always right."""
+    try:
+        return call()
+    except OsbError as error:
+        if error.status != Status.MEMORY:
+            raise
+        return None
+
+
+def _heard(kind: Kind, response: Response) -> Optional[_Heard]:
+    """What a response says, or None where it isn't surely the broker's."""
+    def read() -> Optional[_Heard]:
+        answer = read_answer(kind, response.status, response.body)
+        if answer is None:
+            _log.warning("an answer of %d to a %s isn't surely the broker's", response.status, kind.name.lower())
+            return None
+        return _Heard(answer, read_operation(response.body) if response.status == 202 else None)
+    return _unless_memory(read)
+
+
+def _taken(kept: Kept, sent: _Sent, heard: Optional[_Heard]) -> Tuple[Kept, Record]:
+    """What is kept after the answer or the timeout. It is as before where the request was given up meanwhile."""
+    if kept.record.out is None or kept.record.attempt != sent.attempt:
+        return kept, kept.record
+    if heard is None:
+        record, operation = kept.record.timeout(sent.attempt), kept.operation
+    else:
+        record = kept.record.answer(sent.attempt, heard.answer)
+        operation = kept.operation if sent.request.kind == Kind.POLL else heard.operation
+    return Kept(record, operation), record

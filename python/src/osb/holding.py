@@ -1,0 +1,116 @@
+"""What a broker holds of one instance, as a value, for a row of a database (docs/instance.md)."""
+from __future__ import annotations
+
+from dataclasses import dataclass
+from typing import ClassVar, Optional, Tuple, Union
+
+from osb._crossing import (answer_from, broker_row_from, broker_row_to, kind_to, mode_to, request_from, request_to)
+from osb._lib import lib
+from osb._structs import WORK_NONE, CAnswer, CBegun, CHolding
+from osb._texts import utf8
+from osb.enums import Kind, Mode, Outcome, Phase, Work
+from osb.errors import check, text_of
+from osb.messages import Answer, BrokerRow, Request
+
+
+@dataclass(frozen=True)
+class Holding:
+    """What a broker holds of an instance. Each call gives the next holding, and changes none.
+
+    A holding doesn't know how its plan works: each call takes the mode of the request's plan, None where the plan isn't
+    on sale. A holding that no call gives is refused with BAD_HOLDING.
+    """
+
+    row: Optional[BrokerRow] = None
+    work: Optional[Request] = None
+    """The request whose work is recorded and hasn't ended, or None."""
+    is_marked: bool = False
+    """Whether the instance has ended: none with this id is ever made again."""
+
+    NONE: ClassVar[Holding]
+    """What is held of an id that no request has come for."""
+
+    @property
+    def is_unfinished(self) -> bool:
+        """Whether somebody has to go on with it: work is recorded, or an operation runs."""
+        running = self.row is not None and self.row.phase in (Phase.MAKING, Phase.DELETING)
+        return running or self.work is not None
+
+    def fits(self, mode: Optional[Mode]) -> bool:
+        """Whether the holding can come about at a plan of the mode. Asked of each that comes from a database, with the
+        mode of the row's plan, or of the recorded request's where there is no row.
+        """
+        return bool(lib.osb_holding_fits(_to(self), mode_to(mode)))
+
+    def begin(self, mode: Optional[Mode], request: Request) -> Tuple[Holding, Union[Answer, Work]]:
+        """Begins with a request to this instance: gives the answer to send, or the work that is due and is recorded.
+
+        The holding is written to the database where it differs, before the work begins or the answer is sent.
+        """
+        holding, begun = _to(self), CBegun()
+        check(lib.osb_holding_begin(holding, mode_to(mode), request_to(request), begun))
+        due: Union[Answer, Work] = answer_from(begun.answer) if begun.work == WORK_NONE else Work(begun.work)
+        return _from(holding), due
+
+    def end(self, mode: Optional[Mode], outcome: Outcome) -> Tuple[Holding, Answer]:
+        """Ends the recorded work with this outcome, and gives the answer to its request. The mode has to fit. The
+        holding is written to the database before the answer is sent. Raises NOTHING_BEGUN.
+        """
+        holding, answer = _to(self), CAnswer()
+        check(lib.osb_holding_end(holding, mode_to(mode), Outcome(outcome).value, answer))
+        return _from(holding), answer_from(answer)
+
+    def finish(self, ok: bool) -> Holding:
+        """Ends the operation that runs on the instance, well (ok) or badly. Raises NOTHING_RUNNING."""
+        holding = _to(self)
+        check(lib.osb_holding_finish(holding, ok))
+        return _from(holding)
+
+    def handle(self, mode: Optional[Mode], request: Request, outcome: Outcome) -> Tuple[Holding, Answer]:
+        """`begin`, and where work is due `end` with this outcome, with nothing between: for tests, and for brokers
+        whose work can't be interrupted.
+        """
+        holding, answer = _to(self), CAnswer()
+        check(lib.osb_holding_handle(holding, mode_to(mode), request_to(request), Outcome(outcome).value, answer))
+        return _from(holding), answer_from(answer)
+
+    def to_text(self) -> str:
+        """The text of the holding, for a column of a database."""
+        holding = _to(self)
+        return text_of(lambda room, length, needed: int(
+            lib.osb_holding_to_text(holding, room, length, needed))).decode()
+
+    @classmethod
+    def from_text(cls, text: str) -> Holding:
+        """Reads the text of a holding. Raises NOT_UTF8, NOT_JSON, NOT_AN_OBJECT, BAD_VERSION, BAD_OUTER, BAD_MEMBER,
+        IMPOSSIBLE.
+        """
+        holding, given = CHolding(), utf8(text)
+        check(lib.osb_holding_from_text(given, len(given), holding))
+        return _from(holding)
+
+
+Holding.NONE = Holding()
+
+
+def work_of(kind: Kind, mode: Optional[Mode]) -> Optional[Work]:
+    """The work that a request of the kind means at a plan of the mode: what a broker that starts again asks of recorded
+    work. None of a Poll, and where the plan isn't on sale.
+    """
+    work = lib.osb_work_of(kind_to(kind), mode_to(mode))
+    return None if work == WORK_NONE else Work(work)
+
+
+def _to(holding: Holding) -> CHolding:
+    made = CHolding(has_row=holding.row is not None, has_work=holding.work is not None,
+                    is_marked=bool(holding.is_marked))
+    if holding.row is not None:
+        made.row = broker_row_to(holding.row)
+    if holding.work is not None:
+        made.work = request_to(holding.work)
+    return made
+
+
+def _from(holding: CHolding) -> Holding:
+    return Holding(broker_row_from(holding.row) if holding.has_row else None,
+                   request_from(holding.work) if holding.has_work else None, bool(holding.is_marked))

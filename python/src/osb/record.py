@@ -1,0 +1,118 @@
+"""What a platform records of one instance, as a value, for a row of a database (docs/instance.md)."""
+from __future__ import annotations
+
+from dataclasses import dataclass
+from typing import Optional, Tuple
+
+from osb._crossing import answer_to, id_from, id_to, kind_from, kind_to, platform_row_to, request_from
+from osb._lib import lib
+from osb._structs import CRecord, CRequest
+from osb._texts import utf8
+from osb.enums import Kind, State
+from osb.errors import check, text_of
+from osb.ids import Id
+from osb.messages import Answer, PlatformRow, Request
+
+
+@dataclass(frozen=True)
+class Record:
+    """What a platform records of an instance. Each call gives the next record, and changes none.
+
+    A record that no call gives is refused with BAD_RECORD.
+    """
+
+    service: Id
+    plan: Id
+    attempt: int
+    """The number of the latest request, and 0 before the first."""
+    state: State
+    out: Optional[Kind]
+    """The kind of the request in flight, or None."""
+
+    def __post_init__(self) -> None:
+        _in_range(self.attempt)
+
+    @classmethod
+    def create(cls, id: Id, service: Id, plan: Id, accepts_incomplete: bool) -> Tuple[Record, Request]:
+        """A new instance, wanted, and its Provision, which is then in flight with the number 1.
+
+        The record is written to the database under the id before the request is sent, and never deleted; the database
+        has to refuse an id that is there.
+        """
+        record, request = CRecord(), CRequest()
+        lib.osb_record_create(id_to(id), id_to(service), id_to(plan), accepts_incomplete, record, request)
+        return _from(record), request_from(request)
+
+    @classmethod
+    def from_platform_row(cls, row: PlatformRow) -> Record:
+        """The first record of an instance that a `Platform` has recorded until now, as after a restart. Called once
+        for an instance, as a platform moves to a database. Raises BAD_ROW.
+        """
+        record = CRecord()
+        check(lib.osb_record_from_row(platform_row_to(row), record))
+        return _from(record)
+
+    def send(self, id: Id) -> Tuple[Record, Request]:
+        """The request that is due, which is then in flight with the next number. `id` is the key of the record's row.
+        Raises BUSY, NOTHING_DUE, ATTEMPTS_USED_UP.
+        """
+        record, request = _to(self), CRequest()
+        check(lib.osb_record_send(record, id_to(id), request))
+        return _from(record), request_from(request)
+
+    def answer(self, attempt: int, answer: Answer) -> Record:
+        """Takes the answer to the request of this number. Raises NOT_IN_FLIGHT."""
+        record = _to(self)
+        check(lib.osb_record_answer(record, _in_range(attempt), answer_to(answer)))
+        return _from(record)
+
+    def timeout(self, attempt: int) -> Record:
+        """Gives up the request of this number: wanted becomes cleaning, every other state stays. So is done with what
+        was in flight when a platform crashed. Raises NOT_IN_FLIGHT.
+        """
+        record = _to(self)
+        check(lib.osb_record_timeout(record, _in_range(attempt)))
+        return _from(record)
+
+    def expire(self) -> Record:
+        """Gives up polling, as the maximum polling duration has passed. Raises BUSY, NOT_POLLING."""
+        record = _to(self)
+        check(lib.osb_record_expire(record))
+        return _from(record)
+
+    def remove(self) -> Record:
+        """Has the instance deleted, as an operator asks. Raises BUSY, NOT_REMOVABLE."""
+        record = _to(self)
+        check(lib.osb_record_remove(record))
+        return _from(record)
+
+    def to_text(self) -> str:
+        """The text of the record, for a column of a database."""
+        record = _to(self)
+        return text_of(lambda room, length, needed: int(
+            lib.osb_record_to_text(record, room, length, needed))).decode()
+
+    @classmethod
+    def from_text(cls, text: str) -> Record:
+        """Reads the text of a record. Raises NOT_UTF8, NOT_JSON, NOT_AN_OBJECT, BAD_VERSION, BAD_OUTER, BAD_MEMBER,
+        IMPOSSIBLE.
+        """
+        record, given = CRecord(), utf8(text)
+        check(lib.osb_record_from_text(given, len(given), record))
+        return _from(record)
+
+
+def _in_range(attempt: int) -> int:
+    if attempt not in range(2**64):
+        raise ValueError("an attempt is a number from 0 to 2^64 - 1")
+    return attempt
+
+
+def _to(record: Record) -> CRecord:
+    return CRecord(id_to(record.service), id_to(record.plan), record.attempt, State(record.state).value,
+                   kind_to(record.out))
+
+
+def _from(record: CRecord) -> Record:
+    return Record(id_from(record.service), id_from(record.plan), record.attempt, State(record.state),
+                  kind_from(record.out))

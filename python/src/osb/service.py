@@ -1,0 +1,143 @@
+"""A broker over a store and a worker, without HTTP: what is written, worked and answered, and in which order.
+
+A request goes these ways (docs/instance.md):
+
+1. In a transaction: what is held is read, judged by `fits` and handed to `begin`; what comes back is written.
+2. Where work is due: the worker does it, outside of any transaction.
+3. In a second transaction: what is held is read again and handed to `end`; what comes back is written.
+4. The answer is given.
+
+Whatever is raised on the way ends the request; what was committed until then stays, and `resume` goes on with it.
+"""
+from __future__ import annotations
+
+import contextlib
+import logging
+from typing import Callable, ContextManager, Dict, Iterable, List, Optional, Protocol, Tuple, Union
+
+from osb.enums import Mode, Outcome, Phase, Work
+from osb.holding import Holding, work_of
+from osb.ids import Id
+from osb.messages import Answer, BrokerRow, Plan, Request
+from osb.stores import Store
+from osb.wire import Asked
+
+_log = logging.getLogger("osb.service")
+
+Lock = Callable[[Id], ContextManager[object]]
+"""Gives what is entered while somebody works at the instance, and waits there until nobody else does."""
+
+
+class Worker(Protocol):
+    """What does the work behind requests."""
+
+    def work(self, work: Work, request: Request) -> Outcome:
+        """Does the work of a request, and tells how it went.
+
+        It may be a request whose work was begun before and broken off: so look whether the thing is there, and make it
+        whole or take it away. START_MAKING and START_DELETING are done once the operation is sure to go on; it ends by
+        `finish`. Raise where nobody knows how the work went: it stays recorded, and the requester is told 500.
+        """
+        ...
+
+
+class Misfit(Exception):
+    """What is held can't come about at its plan: a hand has changed the row, or the catalogue has changed under it. An
+    operator has to look; nothing was changed.
+    """
+
+
+class LostWork(Exception):
+    """The work that was to be done isn't what is recorded any more: two have worked at one instance, or waited to."""
+
+
+class BrokerService:
+    """A broker of these plans. Any number of threads may use it, as far as the store and the worker allow it."""
+
+    def __init__(self, plans: Iterable[Plan], store: Store, worker: Worker, lock: Optional[Lock] = None) -> None:
+        """`lock`: held by who works at an instance, from before what is recorded is read until its end is written.
+        Without one, nothing keeps `resume` from working where a request's work is being done.
+        """
+        self._modes = {(it.service, it.plan): Mode.ASYNC if it.is_asynchronous else Mode.SYNC for it in plans}
+        self._store, self._worker, self._lock = store, worker, lock
+
+    def mode(self, service: Id, plan: Id) -> Optional[Mode]:
+        """How the plan works, or None where it isn't on sale."""
+        return self._modes.get((service, plan))
+
+    def handle(self, asked: Asked) -> Answer:
+        """Handles what is asked, with the work that it means, and gives the answer to send."""
+        request, begun = self._store.update(asked.id, lambda holding: self._begin(holding, asked))
+        if isinstance(begun, Answer):
+            return begun
+        if self._lock is None:
+            return self._work(begun, request)
+        with self._lock(asked.id):
+            # whoever had the lock before may have done this work
+            if self._store.update(asked.id, lambda holding: (holding, holding.work)) != request:
+                raise LostWork(f"the work of {asked.id} was done by another")
+            return self._work(begun, request)
+
+    def finish(self, id: Id, ok: bool) -> None:
+        """Ends the operation that runs on the instance, well (ok) or badly. Said once, of the operation that runs now.
+        Raises NOTHING_RUNNING, also where the start of the operation isn't written yet: then it is called again.
+        """
+        def finished(holding: Holding) -> Tuple[Holding, None]:
+            self._check(id, holding)
+            return holding.finish(ok), None
+        self._store.update(id, finished)
+
+    def resume(self) -> List[Id]:
+        """Does the recorded work that nobody works at any more, as at the start of a program. Gives the instances whose
+        work is recorded still, since nobody knows how it went; why is logged.
+
+        One worker at a time works at an instance. So without a lock this is called where nobody else works: before the
+        first request is served, and by one process alone.
+        """
+        left: List[Id] = []
+        for id in self._store.unfinished():
+            try:
+                self._take_up(id)
+            except Exception:
+                _log.exception("the recorded work of instance %s wasn't ended", id)
+                left.append(id)
+        return left
+
+    def running(self) -> Dict[Id, BrokerRow]:
+        """The instances on which an operation runs, with what is held of them: each goes on until `finish`."""
+        rows = {id: self._store.update(id, lambda holding: (holding, holding.row)) for id in self._store.unfinished()}
+        return {id: row for id, row in rows.items()
+                if row is not None and row.phase in (Phase.MAKING, Phase.DELETING)}
+
+    def _begin(self, holding: Holding, asked: Asked) -> Tuple[Holding, Tuple[Request, Union[Answer, Work]]]:
+        self._check(asked.id, holding)
+        row = holding.row
+        request = asked.request(None if row is None else (row.service, row.plan))
+        after, begun = holding.begin(self.mode(request.service, request.plan), request)
+        return after, (request, begun)
+
+    def _work(self, work: Work, request: Request) -> Answer:
+        outcome = Outcome(self._worker.work(work, request))
+
+        def ended(holding: Holding) -> Tuple[Holding, Answer]:
+            self._check(request.id, holding)
+            if holding.work != request:
+                raise LostWork(f"the work of {request.id} was ended by another")
+            return holding.end(self.mode(request.service, request.plan), outcome)
+        return self._store.update(request.id, ended)
+
+    def _take_up(self, id: Id) -> None:
+        def recorded(holding: Holding) -> Tuple[Holding, Optional[Request]]:
+            self._check(id, holding)
+            return holding, holding.work
+        with contextlib.nullcontext() if self._lock is None else self._lock(id):
+            request = self._store.update(id, recorded)
+            work = None if request is None else work_of(request.kind, self.mode(request.service, request.plan))
+            if request is not None and work is not None:
+                self._work(work, request)
+
+    def _check(self, id: Id, holding: Holding) -> None:
+        named = holding.row or holding.work
+        mode = None if named is None else self.mode(named.service, named.plan)
+        if not holding.fits(mode) or holding.work is not None and holding.work.id != id:
+            raise Misfit(f"what is held of {id} can't come about at its plan")

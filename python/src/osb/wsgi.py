@@ -1,0 +1,157 @@
+"""A broker as a WSGI application, for any server (wsgiref, waitress, gunicorn ..). HTTP is the server's, the standard's
+rules are the library's, and what is written when is `BrokerService`'s.
+"""
+from __future__ import annotations
+
+import http
+import logging
+from typing import Any, Callable, Dict, Iterable, List, NamedTuple, Optional, Tuple
+from urllib.parse import quote
+
+from osb.enums import Body, Status
+from osb.errors import OsbError, Refusal
+from osb.ids import Id
+from osb.messages import Answer, BrokerRow
+from osb.service import BrokerService, Lock, Worker
+from osb.stores import Store
+from osb.wire import CONTENT_TYPE, api_version, basic_auth, catalogue_plans, read_request, write_answer
+
+_log = logging.getLogger("osb.wsgi")
+
+Environ = Dict[str, Any]
+Headers = List[Tuple[str, str]]
+
+
+class _Reply(NamedTuple):
+    status: int
+    body: bytes
+    headers: Headers = []
+
+
+class BrokerApplication:
+    """A broker that answers GET /v2/catalog, and PUT, DELETE and GET last_operation of instances.
+
+    Any number of threads may call it, as far as the store and the worker allow it.
+    """
+
+    def __init__(self, catalogue: bytes, store: Store, worker: Worker, user: str, password: str, *, prefix: str = "",
+                 longest_body: int = 1 << 20, lock: Optional[Lock] = None) -> None:
+        """`catalogue` is the document that GET /v2/catalog answers; it raises as `catalogue_plans` does. `prefix` is
+        what the target of a request has before /v2, `longest_body` the bytes that a body may have. `lock` is
+        `BrokerService`'s. The user has no colon.
+        """
+        if ":" in user:
+            raise ValueError("HTTP's Basic scheme knows no user with a colon")
+        self._service = BrokerService(catalogue_plans(catalogue), store, worker, lock)
+        self._catalogue, self._user, self._password = catalogue, user, password
+        self._prefix, self._longest_body = prefix, longest_body
+
+    def __call__(self, environ: Environ, start_response: Callable[..., Any]) -> Iterable[bytes]:
+        """Answers a request, as WSGI has it. What is raised on the way is logged, and answered with 500."""
+        try:
+            reply = self._reply(environ)
+        except Refusal as refusal:
+            reply = _Reply(refusal.http_status, refusal.body)
+        except Exception as error:
+            _log.exception("a request to %s wasn't done", environ.get("PATH_INFO", ""))
+            reply = _failed(error)
+        headers = [("Content-Type", CONTENT_TYPE), ("Content-Length", str(len(reply.body))), *reply.headers]
+        start_response(_line(reply.status), headers)
+        return [reply.body]
+
+    def finish(self, id: Id, ok: bool) -> None:
+        """Ends the operation that runs on the instance, as `BrokerService.finish` does."""
+        self._service.finish(id, ok)
+
+    def resume(self) -> List[Id]:
+        """Does the recorded work that nobody works at any more, as `BrokerService.resume` does."""
+        return self._service.resume()
+
+    def running(self) -> Dict[Id, BrokerRow]:
+        """The instances on which an operation runs, as `BrokerService.running` gives them."""
+        return self._service.running()
+
+    def _reply(self, environ: Environ) -> _Reply:
+        if not basic_auth(environ.get("HTTP_AUTHORIZATION"), self._user, self._password):
+            return _error(401, ("WWW-Authenticate", 'Basic realm="broker"'))
+        api_version(environ.get("HTTP_X_BROKER_API_VERSION"))
+        method, target = str(environ["REQUEST_METHOD"]), _target(environ)
+        path = target.partition(b"?")[0]
+        if path == (self._prefix + "/v2/catalog").encode():
+            return _Reply(200, self._catalogue) if method == "GET" else _not_allowed("GET")
+        body = _body(environ, self._longest_body)
+        if body is None:
+            return _error(408)
+        try:
+            asked = read_request(method, target, body, self._longest_body, self._prefix)
+        except Refusal as refusal:
+            if refusal.status != Status.REFUSED_METHOD:
+                raise
+            rest = path[len((self._prefix + "/v2/service_instances/").encode()):]
+            return _not_allowed("GET" if b"/" in rest else "PUT, DELETE")
+        answer = self._service.handle(asked)
+        return _Reply(answer.status, write_answer(answer))
+
+
+def _target(environ: Environ) -> bytes:
+    """Path and query as the request line has them, where the server tells. Where it doesn't, the path is written again
+    from what the server has decoded: so an escape in it that needn't be one is as if it weren't.
+    """
+    for name in ("REQUEST_URI", "RAW_URI"):
+        if environ.get(name):
+            return str(environ[name]).encode("latin-1")
+    decoded = environ.get("SCRIPT_NAME", "") + environ.get("PATH_INFO", "")
+    path, query = quote(decoded, safe="/:@!$&'()*+,;=-._~", encoding="latin-1"), environ.get("QUERY_STRING", "")
+    return (f"{path}?{query}" if query else path).encode("latin-1")
+
+
+def _body(environ: Environ, longest: int) -> Optional[bytes]:
+    """The body, of which at most one byte more is read than it may have; or None where it didn't arrive whole, or where
+    its end can't be told: then the platform may send the same request again and be heard.
+    """
+    given, ends = str(environ.get("CONTENT_LENGTH") or ""), bool(environ.get("wsgi.input_terminated"))
+    if given and not (given.isascii() and given.isdigit()):
+        return None
+    if not given and not ends:
+        return None if environ.get("HTTP_TRANSFER_ENCODING") else b""
+    wanted = min(int(given), longest + 1) if given else longest + 1
+    try:
+        body = _read(environ["wsgi.input"], wanted)
+    except OSError:
+        return None
+    return body if len(body) == wanted or not given else None
+
+
+def _read(stream: Any, wanted: int) -> bytes:
+    pieces, left = [], wanted
+    while left > 0:
+        piece = stream.read(left)
+        if not piece:
+            break
+        pieces.append(piece)
+        left -= len(piece)
+    return b"".join(pieces)
+
+
+def _error(status: int, *headers: Tuple[str, str]) -> _Reply:
+    return _Reply(status, write_answer(Answer(status, Body.OTHER_ERROR)), list(headers))
+
+
+def _not_allowed(methods: str) -> _Reply:
+    refusal = Refusal(Status.REFUSED_METHOD)
+    return _Reply(refusal.http_status, refusal.body, [("Allow", methods)])
+
+
+def _failed(error: Exception) -> _Reply:
+    """500, or 503 where the library is out of memory. Neither takes memory from it."""
+    if isinstance(error, OsbError) and error.status == Status.MEMORY:
+        refusal = Refusal(Status.MEMORY)
+        return _Reply(refusal.http_status, refusal.body)
+    return _Reply(500, b'{"description":"The request failed, and may be sent again.","error":"InternalServerError"}')
+
+
+def _line(status: int) -> str:
+    try:
+        return f"{status} {http.HTTPStatus(status).phrase}"
+    except ValueError:
+        return f"{status} Status"
