@@ -268,11 +268,12 @@ uint32_t osb_platform_load(struct osb_platform *platform, const uint8_t *text, s
 
 /* ---- The broker: what it answers, and what it holds. */
 
-/* How the work behind a request goes. It counts where the work would be done at all. */
+/* How the work behind a request goes. It counts where the work would be done at all. Work that is half done is none of
+ * these: undo it and say BEFORE, finish it and say DONE, or say nothing until it is known. */
 enum osb_outcome {
     OSB_OUTCOME_DONE = 0,   /* it is done, or at an asynchronous plan started */
-    OSB_OUTCOME_BEFORE = 1, /* it fails before anything was changed */
-    OSB_OUTCOME_AFTER = 2   /* it fails after the change was made */
+    OSB_OUTCOME_BEFORE = 1, /* it failed, and all is as it was: nothing was made, or nothing was deleted */
+    OSB_OUTCOME_AFTER = 2   /* it failed, and yet all of it was done: the whole thing is there, or nothing is left */
 };
 
 enum osb_phase {
@@ -473,8 +474,8 @@ uint32_t osb_read_operation(const uint8_t *body, size_t length, uint8_t *buffer,
 uint32_t osb_write_method(uint8_t kind, uint8_t *buffer, size_t bytes, size_t *needed);
 
 /* Writes the target of a request: the path, which begins with the prefix (empty, or what the broker's URL has before
- * /v2, with no `?`), and the query. The operation counts where has_operation is true, and is the broker's; give one
- * to a Poll alone.
+ * /v2, with no `?`, `#`, blank or line end: it is written as it stands), and the query. The operation counts where
+ * has_operation is true, and is the broker's; give one to a Poll alone.
  * OSB_DONE, OSB_NOT_UTF8 (prefix or operation), OSB_BAD_KIND, OSB_TOO_SMALL, OSB_MEMORY. */
 uint32_t osb_write_target(const uint8_t *prefix, size_t prefix_length, const struct osb_request *request,
                           bool has_operation, const uint8_t *operation, size_t operation_length, uint8_t *buffer,
@@ -535,8 +536,9 @@ uint32_t osb_refusal_body(uint32_t refusal, uint8_t *buffer, size_t bytes, size_
  * OSB_DONE, OSB_REFUSED_VERSION. */
 uint32_t osb_api_version(bool has_value, const uint8_t *value, size_t length);
 
-/* Judges whether the header Authorization names this user and this password, by HTTP's Basic scheme. The time that it
- * takes doesn't tell where they differ, as the code is written.
+/* Judges whether the header Authorization names this user and this password, by HTTP's Basic scheme. The user must
+ * have no colon, since another user and password would read the same. The time that it takes doesn't tell where they
+ * differ, as the code is written.
  * OSB_DONE, OSB_NOT_UTF8 (any of the three), OSB_UNAUTHORIZED, OSB_MEMORY. */
 uint32_t osb_basic_auth(const uint8_t *value, size_t length, const uint8_t *user, size_t user_length,
                         const uint8_t *password, size_t password_length);

@@ -6,7 +6,7 @@ ghost use Rattle.osb_message.specs.declared.messages.Kind.TheVariants.{Provision
 ghost use Rattle.osb_broker.specs.Finished.{finished, is_running};
 ghost use Rattle.osb_broker.specs.Handled.{handled_by, makes_row};
 ghost use Rattle.osb_broker.specs.Held.{IsHeld, IsHeldAt};
-ghost use Rattle.osb_c_types.specs.Answers.{answer_of};
+ghost use Rattle.osb_c_types.specs.Answers.{IsNumbered, answer_of};
 ghost use Rattle.osb_c.specs.Handles.{row_at, sold_by};
 ghost use Rattle.osb_c_types.specs.Ids.{number_of};
 ghost use Rattle.osb_c_types.specs.Kinds.{kind_of};
@@ -91,6 +91,7 @@ pub extern "C" fn osb_broker_handle(
     ensures others { (id : ℕ) → id ≢ number_of request.now.id
         → row_at broker.new.held id ≡ row_at broker.old.held id }
     ensures catalogue { sold_by broker.new.held ≡ sold_by broker.old.held }
+    ensures numbered { result ≡ code Status.Done → IsNumbered answer.new }
 
     ensures empty_handle { (result ≡ code Status.EmptyHandle) ↔ IsNone broker.old.held }
     ensures bad_kind { (result ≡ code Status.BadKind)

@@ -8,13 +8,13 @@ use Rattle.osb_broker.specs.declared.row.BrokerRow.{BrokerRow}
 use Rattle.osb_instance.specs.Held.{Held}
 use Rattle.osb_instance.specs.HoldingText.{possible}
 use Rattle.osb_instance.specs.declared.work.Begun.{Begun}
-use Rattle.osb_c_types.specs.Answers.{answer_of}
+use Rattle.osb_c_types.specs.Answers.{IsNumbered, answer_of}
+use Rattle.osb_c_types.specs.Ids.{zero_id}
 use Rattle.osb_c_types.specs.Modes.{mode_of}
 use Rattle.osb_c_types.specs.Outcomes.{outcome_of}
 use Rattle.osb_c_types.specs.Requests.{request_of}
 use Rattle.osb_c_types.specs.Rows.{row_of}
 use Rattle.osb_c_types.specs.declared.answers.OsbAnswer.{OsbAnswer}
-use Rattle.osb_c_types.specs.declared.ids.OsbId.{OsbId}
 use Rattle.osb_c_types.specs.declared.requests.OsbRequest.{OsbRequest}
 use Rattle.osb_c_types.specs.declared.rows.OsbBrokerRow.{OsbBrokerRow}
 use Rattle.osb_c_instance.specs.Works.{work_numbered}
@@ -42,9 +42,6 @@ held_of h = option_and_then (λ row. option_and_then (held_as h.is_marked row) (
 
 -- ---- members that don't count
 
-abbrev pub zero_id : OsbId
-zero_id = record { high = 0; low = 0 }
-
 abbrev pub zero_row : OsbBrokerRow
 zero_row = record { service = zero_id; plan = zero_id; phase = 0 }
 
@@ -66,9 +63,9 @@ abbrev pub begun_of : OsbBegun → Option Begun
 begun_of b =
     if b.work == 0 then Some (Begun.Answered (answer_of b.answer)) else option_map Begun.Work (work_numbered b.work)
 
--- an answer that doesn't count is zeroes
+-- an answer that doesn't count is zeroes, and the number of each has a name
 abbrev pub IsPlainBegun : OsbBegun → Type 0
-IsPlainBegun b = b.work ≢ 0 → b.answer ≡ zero_answer
+IsPlainBegun b = (b.work ≢ 0 → b.answer ≡ zero_answer) × IsNumbered b.answer
 
 -- ---- what a call was given
 

@@ -13,7 +13,7 @@ ghost use Rattle.osb_instance.specs.Begin.{at_once, begun, busy, is_provision, w
 ghost use Rattle.osb_instance.specs.Due.{IsDue};
 ghost use Rattle.osb_instance.specs.Fits.{fits};
 ghost use Rattle.osb_instance.specs.declared.work.Begun.{Begun};
-ghost use Rattle.osb_c_types.specs.Answers.{answer_of};
+ghost use Rattle.osb_c_types.specs.Answers.{IsNumbered, answer_of};
 ghost use Rattle.osb_c_types.specs.Kinds.{kind_of};
 ghost use Rattle.osb_c_types.specs.Modes.{mode_of};
 ghost use Rattle.osb_c_types.specs.Outcomes.{outcome_of};
@@ -124,6 +124,7 @@ pub extern "C" fn osb_holding_end(
         fits m held ≡ true → o ≢ Outcome.Before → asked.kind ≡ Provision → holding.new.has_row ≡ true) }
     ensures marked { IsSomeAnd (held_of holding.old) (λ held. held.marked ≡ true) → result ≢ code Status.Done }
     ensures plain { result ≡ code Status.Done → IsPlain holding.new }
+    ensures numbered { result ≡ code Status.Done → IsNumbered answer.new }
 
     ensures bad_holding { (result ≡ code Status.BadHolding) ↔ IsNone (held_of holding.old) }
     ensures bad_mode { (result ≡ code Status.BadMode)
@@ -224,6 +225,7 @@ pub extern "C" fn osb_holding_handle(
         → IsSomeAnd (held_of holding.new) (λ after. after.row ≡ (handled catalogue held.row asked o).row)
         × (answer_of answer.new ≡ (handled catalogue held.row asked o).answer))) }
     ensures plain { result ≡ code Status.Done → IsPlain holding.new }
+    ensures numbered { result ≡ code Status.Done → IsNumbered answer.new }
 
     ensures bad_holding { (result ≡ code Status.BadHolding) ↔ IsNone (held_of holding.old) }
     ensures bad_mode { (result ≡ code Status.BadMode)

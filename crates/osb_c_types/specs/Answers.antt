@@ -1,5 +1,5 @@
 -- The numbers that stand for the body of an answer.
-use Rattle.std.specs.Prelude.{ℕ, ◌==◌, if◌then◌else◌}
+use Rattle.std.specs.Prelude.{◌≡◌, ℕ, ◌==◌, if◌then◌else◌}
 use Rattle.osb_message.specs.declared.messages.Answer.{Answer}
 use Rattle.osb_message.specs.declared.messages.Body.{Body}
 use Rattle.osb_message.specs.declared.messages.LastState.TheVariants.{InProgress, Succeeded, Failed}
@@ -32,3 +32,7 @@ body_code (Body.State Failed) = 4
 body_code (Body.Error AsyncRequired) = 5
 body_code (Body.Error ConcurrencyError) = 6
 body_code (Body.Error Other) = 7
+
+-- the number of its body has a name: of the numbers that stand for a body that can't be read, it is the first
+abbrev pub IsNumbered : OsbAnswer → Type 0
+IsNumbered a = a.body ≡ body_code (body_of a.body)

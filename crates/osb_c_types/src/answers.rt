@@ -1,6 +1,6 @@
 //! Answers, and the numbers that stand for their bodies.
 ghost use Rattle.std.specs.Prelude.{◌≡◌};
-ghost use Rattle.osb_c_types.specs.Answers.{answer_of, body_code, body_of};
+ghost use Rattle.osb_c_types.specs.Answers.{IsNumbered, answer_of, body_code, body_of};
 
 use osb_message::{Answer, Body, ErrorCode, LastState};
 
@@ -34,6 +34,7 @@ fn body_from(code: u8) -> Body
 // The number of a body.
 fn body_out(body: Body) -> u8
     ensures code { result ≡ body_code body }
+    ensures body { body_of result ≡ body }
 {
     match body {
         Body::Malformed => 0,
@@ -60,6 +61,7 @@ pub fn answer_from(answer: OsbAnswer) -> Answer
 /// The answer as it crosses.
 pub fn answer_out(answer: Answer) -> OsbAnswer
     ensures answer { answer_of result ≡ answer }
+    ensures numbered { IsNumbered result }
 {
     OsbAnswer {
         status: answer.status,

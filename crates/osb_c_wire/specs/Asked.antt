@@ -1,9 +1,9 @@
 -- What a request asks of a broker, as it crosses.
-use Rattle.std.specs.Prelude.{ℕ, Bool, true, false, ◌&&◌, if◌then◌else◌, Option, Some, None, option_and_then}
+use Rattle.std.specs.Prelude.{◌≡◌, ℕ, Bool, true, false, ◌&&◌, if◌then◌else◌, Option, Some, None, option_and_then}
 use Rattle.osb_message.specs.declared.messages.Kind.{Kind}
 use Rattle.osb_message.specs.declared.messages.Kind.TheVariants.{Provision, Poll, Deprovision}
 use Rattle.osb_wire.specs.declared.asked.Asked.{Asked}
-use Rattle.osb_c_types.specs.Ids.{number_of}
+use Rattle.osb_c_types.specs.Ids.{number_of, zero_id}
 use Rattle.osb_c_types.specs.Kinds.{kind_of}
 use Rattle.osb_c_types.specs.declared.ids.OsbId.{OsbId}
 use Rattle.osb_c_wire.specs.declared.asking.OsbAsked.{OsbAsked}
@@ -29,6 +29,10 @@ asked_as a Deprovision =
 -- what is asked, if it is something that a request can ask
 abbrev pub asked_of : OsbAsked → Option Asked
 asked_of a = option_and_then (asked_as a) (kind_of a.kind)
+
+-- an id that doesn't count is zeroes: so what asks the same are equal structs
+abbrev pub IsPlainAsked : OsbAsked → Type 0
+IsPlainAsked a = (a.has_service ≡ false → a.service ≡ zero_id) × (a.has_plan ≡ false → a.plan ≡ zero_id)
 
 -- the service and the plan that a broker holds, which count where a flag says so
 abbrev pub held_if : Bool → OsbId → OsbId → Option (ℕ × ℕ)

@@ -6,7 +6,7 @@ ghost use Rattle.osb_message.specs.declared.messages.Kind.{Kind};
 ghost use Rattle.osb_wire.specs.Answers.{answer_in, if_short, operation_in};
 ghost use Rattle.osb_wire.specs.Bodies.{object_in};
 ghost use Rattle.osb_wire.specs.WrittenAnswers as written;
-ghost use Rattle.osb_c_types.specs.Answers.{answer_of, body_of};
+ghost use Rattle.osb_c_types.specs.Answers.{IsNumbered, answer_of, body_of};
 ghost use Rattle.osb_c_types.specs.Kinds.{kind_of};
 ghost use Rattle.osb_c_types.specs.Status.{code, is_one_of};
 ghost use Rattle.osb_c_wire.specs.Texts as texts;
@@ -34,6 +34,7 @@ pub extern "C" fn osb_read_answer(
 ) -> u32
     ensures answer { result ≡ code Status.Done → IsSomeAnd (kind_of kind) (λ k.
         answer_in k status body.now ≡ Some (answer_of answer.new)) }
+    ensures numbered { result ≡ code Status.Done → IsNumbered answer.new }
     ensures no_answer { result ≡ code Status.NoAnswer → IsSomeAnd (kind_of kind) (λ k.
         answer_in k status body.now ≡ None) }
     ensures bad_kind { (result ≡ code Status.BadKind) ↔ IsNone (kind_of kind) }

@@ -5,7 +5,7 @@ ghost use Rattle.std.specs.Str.{IsUtf8};
 ghost use Rattle.osb_wire.specs.Asking as asking;
 ghost use Rattle.osb_wire.specs.Requests.{instance_asked, request_in};
 ghost use Rattle.osb_wire.specs.Targets.{operation_asked};
-ghost use Rattle.osb_c_types.specs.Ids.{number_of};
+ghost use Rattle.osb_c_types.specs.Ids.{number_of, zero_id};
 ghost use Rattle.osb_c_types.specs.Requests.{request_of};
 ghost use Rattle.osb_c_types.specs.Status.{code, is_one_of};
 ghost use Rattle.osb_c_wire.specs.Asked as crossed;
@@ -43,6 +43,7 @@ pub struct OsbAsked {
 // An id that may be missing, as it crosses: zeroes where it is.
 fn id_or_zeroes<K>(id: Option<Id<K>>) -> OsbId
     ensures id { crossed.id_if (is_some id) result ≡ id }
+    ensures none { IsNone id → result ≡ zero_id }
 {
     match id {
         Some(id) => id_out(id),
@@ -53,6 +54,7 @@ fn id_or_zeroes<K>(id: Option<Id<K>>) -> OsbId
 // What is asked, as it crosses.
 fn asked_out(it: Asked) -> OsbAsked
     ensures asked { crossed.asked_of result ≡ Some it }
+    ensures plain { crossed.IsPlainAsked result }
 {
     match it {
         Asked::Provision {
@@ -160,6 +162,7 @@ pub extern "C" fn osb_read_request(
 ) -> u32
     ensures asked { result ≡ code Status.Done → IsSomeAnd (crossed.asked_of asked.new) (λ it.
         request_in prefix.now longest_body method.now target.now body.now ≡ Ok it) }
+    ensures plain { result ≡ code Status.Done → crossed.IsPlainAsked asked.new }
     ensures refused { (fault : Refusal) → fault ≢ Refusal.Memory → result ≡ code (refusal_status fault)
         → request_in prefix.now longest_body method.now target.now body.now ≡ Err fault }
     ensures instance { IsUtf8 prefix.now → IsUtf8 method.now → (fault : Refusal)
