@@ -39,6 +39,9 @@ type Broker struct {
 
 // NewBroker makes a broker. It reads the catalogue, and refuses it as CataloguePlans does.
 func NewBroker(config BrokerConfig) (*Broker, error) {
+	if err := checkVersion(Version()); err != nil {
+		return nil, err
+	}
 	plans, err := CataloguePlans(config.Catalogue)
 	if err != nil {
 		return nil, fmt.Errorf("the catalogue: %w", err)

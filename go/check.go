@@ -2,9 +2,18 @@ package osb
 
 import (
 	"errors"
+	"fmt"
 	"strings"
 	"unicode/utf8"
 )
+
+// checkVersion refuses a library that has another interface than the header: below 1.0, one of another 0.x.
+func checkVersion(library uint32) error {
+	if library/100 != HeaderVersion/100 {
+		return fmt.Errorf("osb: the library has the version %d, and osb.h had %d", library, HeaderVersion)
+	}
+	return nil
+}
 
 // checkLogin refuses a user and a password that HTTP's Basic scheme can't carry. No error names them.
 func checkLogin(user, password string) error {

@@ -17,8 +17,8 @@ type ClientConfig struct {
 	Organization, Space string // organization_guid and space_guid of each Provision
 	Store               RecordStore
 
-	// HTTP makes the exchanges. Its Timeout is the limit on time of a whole one; where it is 0, or HTTP is nil, it is
-	// one minute. No redirect is followed, whatever it says.
+	// HTTP makes the exchanges. Its Timeout is the limit on time of a whole one; where it isn't above 0, or HTTP is nil,
+	// it is one minute. No redirect is followed, whatever it says.
 	HTTP *http.Client
 
 	LongestAnswer int // the greatest length of a body that is read, in bytes; 0 is 1 MiB. A longer one is a timeout
@@ -28,8 +28,10 @@ type ClientConfig struct {
 // is sent, what is taken from an answer and what is recorded is the library's.
 //
 // The record is committed before a request is sent, and before anything is told. Nothing is sent twice by the Client:
-// a request that got no answer is given up, and Step sends what is due then. net/http may send a Poll again, over a new
-// connection in place of one that had ended, which does no harm. Any number of processes may serve.
+// a request that got no answer is given up, and Step sends what is due then. net/http may send a request again, over
+// HTTP/1 a Poll whose connection had ended, and a PUT or DELETE of which nothing was written, over HTTP/2 any that the
+// server refused unprocessed; it does no harm, since it is the same request, with the same number. Any number of
+// processes may serve.
 type Client struct {
 	config ClientConfig
 	http   http.Client
@@ -40,13 +42,16 @@ type Client struct {
 // A Standing is where an instance stands.
 type Standing struct {
 	State      State
-	Answer     Answer        // the answer that was taken, where one was
+	Answer     Answer        // the answer that was taken, and the zero Answer where none was
 	RetryAfter time.Duration // how long the broker asks to wait before the next Step; 0 where it doesn't say
 	Lost       error         // why no answer was taken, so that a timeout was; nil where one was taken
 }
 
 // NewClient makes a client.
 func NewClient(config ClientConfig) (*Client, error) {
+	if err := checkVersion(Version()); err != nil {
+		return nil, err
+	}
 	broker, err := url.Parse(config.URL)
 	if err != nil {
 		return nil, errors.New("osb: the broker's URL is none") // err would tell what stands in it
@@ -83,7 +88,7 @@ func exchanger(given *http.Client) http.Client {
 	if given != nil {
 		client = *given
 	}
-	if client.Timeout == 0 {
+	if client.Timeout <= 0 { // net/http takes one below 0 for none
 		client.Timeout = time.Minute
 	}
 	client.CheckRedirect = func(*http.Request, []*http.Request) error { return http.ErrUseLastResponse }
@@ -93,8 +98,8 @@ func exchanger(given *http.Client) http.Client {
 // Create orders a new instance: its record is written, its Provision sent, and the answer taken. The id must never have
 // been used. A broker may answer before the instance is made.
 //
-// Errors: ErrIDUsed, and then nothing was sent; those of the Store. After another error than ErrIDUsed the Provision
-// may be in flight: GiveUp gives it up.
+// Errors: ErrIDUsed, and then nothing was sent; ErrNotInFlight where the Provision was given up by GiveUp before its
+// answer came; those of the Store. Where the Store fails the Provision may stay in flight: GiveUp gives it up.
 func (c *Client) Create(ctx context.Context, id, service, plan ID) (Standing, error) {
 	return c.CreateWith(ctx, id, service, plan, nil)
 }
@@ -120,7 +125,9 @@ func (c *Client) CreateWith(ctx context.Context, id, service, plan ID, further [
 // time that the broker asks for between, until it returns ErrNothingDue: the instance is ready, gone or unsettled.
 //
 // Errors: ErrNothingDue, with the state; ErrBusy, with the state, where a request is in flight; ErrNotInFlight where
-// the request was given up by GiveUp before its answer came; ErrUnknown; ErrAttemptsUsedUp; those of the Store.
+// the request was given up by GiveUp before its answer came; ErrUnknown; ErrAttemptsUsedUp; those of the Store. Where
+// the Store fails, in the transaction before the request or the one after it, the request may stay in flight, and the
+// next Step gives ErrBusy: GiveUp gives it up.
 func (c *Client) Step(ctx context.Context, id ID) (Standing, error) {
 	var sent Sent
 	var operation *string
@@ -142,9 +149,9 @@ func (c *Client) Step(ctx context.Context, id ID) (Standing, error) {
 	return c.exchange(ctx, sent, outgoing)
 }
 
-// GiveUp gives up the request that is in flight, as a platform that was killed left it: a timeout takes the place of
-// its answer. Nothing is sent; Step is called next. While the process that sent the request lives, its own limit on
-// time does this.
+// GiveUp gives up the request that is in flight, as it was left by a platform that was killed, or by a Create or a Step
+// whose Store failed: a timeout takes the place of its answer. Nothing is sent; Step is called next. While the call
+// that sent the request hasn't returned, its own limit on time does this.
 //
 // Errors: ErrNotInFlight, with the state, where nothing is in flight; ErrUnknown; those of the Store.
 func (c *Client) GiveUp(ctx context.Context, id ID) (Standing, error) {

@@ -34,7 +34,45 @@ func TestLost(t *testing.T) {
 		if (standing.Lost != nil) != row.lost {
 			t.Errorf("%s: %v", what, standing.Lost)
 		}
+		if (standing.Answer == osb.Answer{}) != row.lost {
+			t.Errorf("%s: %v", what, standing.Answer)
+		}
 		p.stands(standing, err, row.state, none, 0)
+	}
+}
+
+// A 101 is no answer, and what comes after it isn't read: it would be the connection, which doesn't end.
+func TestSwitchingProtocols(t *testing.T) {
+	p := newPair(t)
+	p.become(func(w http.ResponseWriter, _ *http.Request, _ http.Handler) {
+		connection, _, err := w.(http.Hijacker).Hijack()
+		if err != nil {
+			t.Error(err)
+			return
+		}
+		defer connection.Close()
+		_, _ = io.WriteString(connection, "HTTP/1.1 101 Switching Protocols\r\nConnection: Upgrade\r\nUpgrade: x\r\n\r\n")
+		_, _ = io.Copy(io.Discard, connection) // until the client closes it
+	})
+	standing, err := p.client.Create(context.Background(), instance, service, plan)
+	if !errors.Is(standing.Lost, osb.ErrNoAnswer) {
+		t.Error(standing.Lost)
+	}
+	p.stands(standing, err, osb.StateCleaning, none, 0)
+}
+
+// An answer that comes once its request was given up isn't taken, and isn't told.
+func TestGivenUpMeanwhile(t *testing.T) {
+	p, ctx := newPair(t), context.Background()
+	p.become(func(w http.ResponseWriter, r *http.Request, broker http.Handler) {
+		if _, err := p.client.GiveUp(ctx, instance); err != nil {
+			t.Error(err)
+		}
+		broker.ServeHTTP(w, r)
+	})
+	standing, err := p.client.Create(ctx, instance, service, plan)
+	if !errors.Is(err, osb.ErrNotInFlight) || standing.State != osb.StateCleaning || standing.Answer != (osb.Answer{}) {
+		t.Error(standing, err)
 	}
 }
 

@@ -64,6 +64,9 @@ func (c *Client) send(ctx context.Context, kind Kind, out outgoing) incoming {
 		return incoming{lost: err}
 	}
 	defer response.Body.Close()
+	if response.StatusCode < http.StatusOK { // after a 101 the body would be the connection, which doesn't end
+		return incoming{lost: fmt.Errorf("status %d: %w", response.StatusCode, ErrNoAnswer)}
+	}
 	body, err := readAtMost(response.Body, c.config.LongestAnswer)
 	switch {
 	case err != nil:
@@ -118,6 +121,9 @@ func (c *Client) take(ctx context.Context, sent Sent, in incoming) (Standing, er
 		}
 		return s, err
 	})
-	standing.Answer, standing.RetryAfter, standing.Lost = in.answer, in.retryAfter, in.lost
+	standing.RetryAfter, standing.Lost = in.retryAfter, in.lost
+	if err == nil && in.lost == nil {
+		standing.Answer = in.answer
+	}
 	return standing, err
 }

@@ -126,6 +126,9 @@ func (h Holding) Value() (driver.Value, error) { return valueOf(h.MarshalJSON())
 // Scan reads the holding's text from a column. NULL is no holding's; the zero Holding has a text too.
 func (h *Holding) Scan(column any) error { return scan(column, h.UnmarshalJSON) }
 
+// String is the holding's text, or where it is none what is wrong with it.
+func (h Holding) String() string { return stringOf(h.MarshalJSON()) }
+
 func (h Holding) c() C.struct_osb_holding {
 	return C.struct_osb_holding{
 		row:       h.row.c(),

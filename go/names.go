@@ -88,11 +88,12 @@ func (p Phase) String() string {
 // An Outcome is how the work behind a request went.
 type Outcome uint8
 
-// The outcomes of work. One that nobody knows is none of them.
+// The outcomes of work. Half done is none of them: a worker undoes it and tells OutcomeBefore, finishes it and tells
+// OutcomeDone, or returns an error. Nor is one that nobody knows: it is an error.
 const (
 	OutcomeDone   Outcome = C.OSB_OUTCOME_DONE   // it is done, or at an asynchronous plan started
-	OutcomeBefore Outcome = C.OSB_OUTCOME_BEFORE // it failed before anything was changed
-	OutcomeAfter  Outcome = C.OSB_OUTCOME_AFTER  // it failed after the change was made
+	OutcomeBefore Outcome = C.OSB_OUTCOME_BEFORE // it failed, and nothing is there; of a deletion, all is there still
+	OutcomeAfter  Outcome = C.OSB_OUTCOME_AFTER  // it failed, and yet all is there; of a deletion, nothing is left
 )
 
 // String names the outcome.

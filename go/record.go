@@ -144,12 +144,23 @@ func (r Record) Value() (driver.Value, error) { return valueOf(r.MarshalJSON()) 
 // Scan reads the record's text from a column. NULL is no record's.
 func (r *Record) Scan(column any) error { return scan(column, r.UnmarshalJSON) }
 
+// String is the record's text, or where it is none what is wrong with it.
+func (r Record) String() string { return stringOf(r.MarshalJSON()) }
+
 // valueOf is a text as a column takes it.
 func valueOf(text []byte, err error) (driver.Value, error) {
 	if err != nil {
 		return nil, err
 	}
 	return string(text), nil
+}
+
+// stringOf is a text as a person reads it.
+func stringOf(text []byte, err error) string {
+	if err != nil {
+		return err.Error()
+	}
+	return string(text)
 }
 
 func (r Record) c() C.struct_osb_record {

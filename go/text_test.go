@@ -6,6 +6,7 @@ import (
 	"encoding"
 	"encoding/json"
 	"errors"
+	"fmt"
 	"math"
 	"testing"
 
@@ -88,6 +89,9 @@ func TestRoundTrips(t *testing.T) {
 		if err != nil || column != row.text || !driver.IsValue(column) {
 			t.Errorf("%v, %v", column, err)
 		}
+		if said := fmt.Sprint(row.value); said != row.text {
+			t.Errorf("%s is printed as %s", row.text, said)
+		}
 		for _, column := range []any{row.text, []byte(row.text)} {
 			scanner, read := row.fresh()
 			if err := scanner.Scan(column); err != nil || read() != row.value {
@@ -99,6 +103,13 @@ func TestRoundTrips(t *testing.T) {
 				t.Errorf("%v was read", column)
 			}
 		}
+	}
+}
+
+// What is no record prints why.
+func TestStringOfNone(t *testing.T) {
+	if said := (osb.Record{}).String(); said != osb.ErrBadRecord.Error() {
+		t.Error(said)
 	}
 }
 

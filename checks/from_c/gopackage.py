@@ -41,7 +41,8 @@ def meanings(header: str) -> typing.Dict[str, str]:
     """The words of each status. What is a struct to C is a value to Go."""
     body = re.findall(r"enum osb_status \{(.*?)\};", header, re.S)[0]
     words = re.findall(r"OSB_(\w+) = \d+,?\s*/\* (.*?) \*/", body)
-    return {"Err" + camel(name): text.replace("the struct is", "the value is") for name, text in words if name != "DONE"}
+    errors = [(name, text) for name, text in words if name != "DONE"]
+    return {"Err" + camel(name): text.replace("the struct is", "the value is") for name, text in errors}
 
 
 def members(header: str) -> typing.Dict[str, typing.Set[str]]:

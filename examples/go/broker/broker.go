@@ -18,7 +18,7 @@ import (
 var catalogue []byte
 
 // The folder in which the folders are.
-const top = "instances"
+const top = "build/instances"
 
 // work does what a request means. It looks at what is there, so it may be done again.
 func work(_ context.Context, task osb.Task) (osb.Outcome, error) {
@@ -44,10 +44,12 @@ func main() {
 	if err != nil {
 		log.Fatal(err)
 	}
-	// What was begun and hasn't ended, as by a broker that was killed.
-	if err := broker.Resume(context.Background()); err != nil {
-		log.Print("some of it hasn't ended yet: ", err)
-	}
+	// What was begun and hasn't ended, as by a broker that was killed or a worker's error, is done again: now, and later.
+	go func() {
+		for again := time.NewTicker(time.Minute); ; <-again.C {
+			_ = broker.Resume(context.Background()) // Log is told
+		}
+	}()
 	server := &http.Server{Addr: "127.0.0.1:" + os.Getenv("PORT"), Handler: broker, ReadTimeout: 10 * time.Second}
 	log.Fatal(server.ListenAndServe())
 }

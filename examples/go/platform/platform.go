@@ -44,7 +44,11 @@ func settle(ctx context.Context, client *osb.Client, standing osb.Standing, err 
 	for err == nil {
 		fmt.Println(standing.State)
 		if standing, err = client.Step(ctx, instance); err == nil {
-			time.Sleep(time.Second + standing.RetryAfter)
+			wait := standing.RetryAfter
+			if wait > time.Minute { // a broker may ask for years
+				wait = time.Minute
+			}
+			time.Sleep(time.Second + wait)
 		}
 	}
 	if !errors.Is(err, osb.ErrNothingDue) {

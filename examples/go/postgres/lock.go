@@ -8,12 +8,17 @@ import (
 	"pippinterm/osb"
 )
 
+// Locks has the Lock of a Locker. Its DB is opened for it alone, and isn't that of Holdings: where one pool with a
+// greatest number of connections served both, locks could take all of them, and each of them wait for ever for one
+// more, to read the row.
+type Locks struct{ DB *sql.DB }
+
 type sessionKey struct{}
 
-// Lock is that of a Locker: it waits for an advisory lock of the instance, on a session of its own. The lock goes with
-// the session, and so with the work that is done on it.
-func Lock(ctx context.Context, db *sql.DB, id osb.ID) (context.Context, func(), error) {
-	session, err := db.Conn(ctx)
+// Lock waits for an advisory lock of the instance, on a session of its own. The lock goes with the session, and so with
+// the work that is done on it.
+func (l Locks) Lock(ctx context.Context, id osb.ID) (context.Context, func(), error) {
+	session, err := l.DB.Conn(ctx)
 	if err != nil {
 		return ctx, nil, err
 	}

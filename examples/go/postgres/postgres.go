@@ -58,6 +58,27 @@ func (h Holdings) Recorded(ctx context.Context) ([]osb.ID, error) {
 	return ids, rows.Err()
 }
 
+// Running gives the holdings of the instances on which an operation of an asynchronous plan runs, to go on with after a
+// restart.
+func (h Holdings) Running(ctx context.Context) (map[osb.ID]osb.Holding, error) {
+	rows, err := h.DB.QueryContext(ctx,
+		`SELECT id, holding FROM holdings WHERE holding -> 'row' ->> 'phase' IN ('making', 'deleting')`)
+	if err != nil {
+		return nil, err
+	}
+	defer rows.Close()
+	running := map[osb.ID]osb.Holding{}
+	for rows.Next() {
+		var id osb.ID
+		var holding osb.Holding
+		if err := rows.Scan(&id, &holding); err != nil {
+			return nil, err
+		}
+		running[id] = holding
+	}
+	return running, rows.Err()
+}
+
 // Records is a RecordStore.
 type Records struct{ DB *sql.DB }
 
