@@ -94,7 +94,8 @@ def header_functions() -> Dict[str, Tuple[Any, List[Any]]]:
 def numbers() -> None:
     enums = header_enums()
     ours = {name.lower(): it for name, it in vars(osb.enums).items()
-            if isinstance(it, type) and issubclass(it, enum.IntEnum) and it is not enum.IntEnum}
+            if isinstance(it, type) and issubclass(it, enum.IntEnum) and it is not enum.IntEnum
+            and not name.startswith("_")}
     same("enums", set(ours), set(enums))
     for name, wanted in enums.items():
         if name != "status" and "NONE" in wanted:

@@ -1,14 +1,17 @@
 """A broker that sells folders of this machine: `BROKER_PASSWORD=.. python3 broker.py FOLDER [PORT]`."""
+import contextlib
 import json
 import os
 import shutil
 import sys
-from pathlib import Path
+import threading
+import time
 from socketserver import ThreadingMixIn
 from wsgiref.simple_server import WSGIServer, make_server
 
-from osb import Outcome, Request, Work
+from osb import Outcome, Work
 from osb.locks import FileLocks
+from osb.service import Task
 from osb.stores import SqliteStore
 from osb.wsgi import BrokerApplication
 
@@ -20,26 +23,30 @@ SERVICE = {"id": "00000000-0000-0000-0000-0000000000a0", "name": "folder", "desc
 class Folders:
     """The worker: the thing behind an instance is a folder that is named by its id."""
 
-    def __init__(self, top: Path) -> None:
+    def __init__(self, top: str) -> None:
         self._top = top
 
-    def work(self, work: Work, request: Request) -> Outcome:
-        folder = self._top / str(request.id)
-        if work == Work.MAKE:
-            folder.mkdir(exist_ok=True)  # it may be there, where a broker was killed in the middle of this work
-        elif folder.exists():
+    def work(self, task: Task) -> Outcome:
+        folder = os.path.join(self._top, str(task.request.id))
+        if task.work == Work.MAKE:
+            os.makedirs(folder, exist_ok=True)  # it may be there, where a broker was killed in the middle of this work
+        elif os.path.exists(folder):
             shutil.rmtree(folder)
         return Outcome.DONE  # what raises an exception stays recorded, and is done again by resume
 
 
 def application(top: str) -> BrokerApplication:
-    folder = Path(top)
-    (folder / "things").mkdir(parents=True, exist_ok=True)
-    made = BrokerApplication(json.dumps({"services": [SERVICE]}).encode(), SqliteStore(folder / "holdings.sqlite"),
-                             Folders(folder / "things"), "platform", os.environ["BROKER_PASSWORD"],
-                             lock=FileLocks(folder / "locks"))
-    made.resume()
-    return made
+    locks = FileLocks(f"{top}/locks")  # it makes the folder too
+    broker = BrokerApplication(json.dumps({"services": [SERVICE]}).encode(), SqliteStore(f"{top}/holdings.sqlite"),
+                               Folders(f"{top}/things"), "platform", os.environ["BROKER_PASSWORD"], lock=locks)
+
+    def keep_on() -> None:
+        while True:
+            with contextlib.suppress(Exception):  # the store's, which requests meet and log too: the next round, then
+                broker.resume()  # what a killed broker left, and what raised an exception
+            time.sleep(10)
+    threading.Thread(target=keep_on, daemon=True).start()
+    return broker
 
 
 class Server(ThreadingMixIn, WSGIServer):

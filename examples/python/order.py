@@ -15,9 +15,9 @@ def settle(client: Client, id: Id) -> State:
     """Sends what is due until nothing is."""
     while client.record(id).state not in (State.READY, State.GONE, State.UNSETTLED):
         exchanged = client.step(id)
-        print(f"{exchanged.record.state.name.lower()} ({exchanged.record.attempt})")
+        print(f"{exchanged.record.state} ({exchanged.record.attempt})")
         if exchanged.record.state not in (State.READY, State.GONE):
-            time.sleep(exchanged.retry_after or 1)
+            time.sleep(min(exchanged.retry_after or 1, 60))  # the broker names any number of seconds
     return client.record(id).state
 
 
@@ -29,7 +29,7 @@ for left in records.pending():  # what a crash left
     settle(client, left)
 
 instance = Id.new()
-print(f"create: {client.create(instance, SERVICE, PLAN).record.state.name.lower()} (1)")
+print(f"create: {client.create(instance, SERVICE, PLAN).record.state} (1)")
 if settle(client, instance) == State.READY:
-    print(f"remove: {client.remove(instance).state.name.lower()} (1)")
+    print(f"remove: {client.remove(instance).state} (1)")
     settle(client, instance)

@@ -9,8 +9,7 @@ PLAN = Id.of("00000000-0000-0000-0000-0000000000b1")
 
 
 def show(platform: Platform, broker: Broker) -> None:
-    state = platform.row(INSTANCE).state.name.lower().replace("_", "-")
-    print(f"recorded: {state}, held: {'no' if broker.row(INSTANCE) is None else 'yes'}")
+    print(f"recorded: {platform.row(INSTANCE).state}, held: {'no' if broker.row(INSTANCE) is None else 'yes'}")
 
 
 with Broker([Plan(SERVICE, PLAN, False)]) as broker:

@@ -6,8 +6,9 @@ import time
 from pathlib import Path
 from wsgiref.simple_server import make_server
 
-from osb import Outcome, Request, Work
+from osb import Outcome, Work
 from osb.locks import FileLocks
+from osb.service import Task
 from osb.stores import SqliteStore
 from osb.wsgi import BrokerApplication
 from tests.support import CATALOGUE, PASSWORD, USER, Handler
@@ -19,9 +20,9 @@ class Halves:
     def __init__(self, folder: Path, is_stuck: bool) -> None:
         self._folder, self._is_stuck = folder, is_stuck
 
-    def work(self, work: Work, request: Request) -> Outcome:
+    def work(self, task: Task) -> Outcome:
         for name in ("first", "second"):
-            if work == Work.MAKE:
+            if task.work == Work.MAKE:
                 (self._folder / name).touch()
             else:
                 (self._folder / name).unlink(missing_ok=True)

@@ -11,6 +11,7 @@ from typing import Any, Callable, Dict, Iterator, List, NamedTuple, Optional, Se
 from wsgiref.simple_server import WSGIRequestHandler, WSGIServer, make_server
 
 from osb import Id, Kind, Outcome, Request, Work
+from osb.service import Task
 from osb.wsgi import BrokerApplication
 
 ONE = Id.of("00000000-0000-0000-0000-000000000001")
@@ -32,20 +33,20 @@ def request(kind: Kind, plan: Id = SYNC, accepts: bool = True, id: Id = ONE) -> 
 class Things:
     """A worker. `things` are those that are there; `before` is called before any work is done."""
 
-    def __init__(self, before: Optional[Callable[[Work, Request], None]] = None,
+    def __init__(self, before: Optional[Callable[[Task], None]] = None,
                  outcome: Outcome = Outcome.DONE) -> None:
         self.things: Set[Id] = set()
         self.done: List[Work] = []
         self.before, self.outcome = before, outcome
 
-    def work(self, work: Work, request: Request) -> Outcome:
+    def work(self, task: Task) -> Outcome:
         if self.before is not None:
-            self.before(work, request)
-        self.done.append(work)
-        if work in (Work.MAKE, Work.START_MAKING):
-            self.things.add(request.id)
-        elif work == Work.DELETE:
-            self.things.discard(request.id)
+            self.before(task)
+        self.done.append(task.work)
+        if task.work in (Work.MAKE, Work.START_MAKING):
+            self.things.add(task.request.id)
+        elif task.work == Work.DELETE:
+            self.things.discard(task.request.id)
         return self.outcome
 
 

@@ -8,9 +8,9 @@ import socket
 import threading
 import time
 import unittest
-from typing import Callable, Iterator, List, Optional, Tuple
+from typing import Any, Callable, Dict, Iterator, List, Optional, Tuple
 
-from osb import Answer, Body, Kind, OsbError, Record, State, Status
+from osb import Answer, Body, Id, Kind, OsbError, Record, State, Status
 from osb.client import Client, Exchanged
 from osb.records import Kept, MemoryRecords
 from tests.support import ONE, PASSWORD, SERVICE, SYNC, TWO, USER, authorization
@@ -149,8 +149,15 @@ class Sent(Quiet):
         for url in ("ftp://a", "a", "http://", "http://u:p@a", "http://a/?b", "http://a/#b", "http://a/é",
                     "http://a b", "http://a/b c", "http://a/?", "http://a:x"):
             self.assertRaises(ValueError, client, url)
-        self.assertRaises(ValueError, Client, "http://a", "a:b", "", MemoryRecords(), organization="o", space="s")
-        self.assertRaises(ValueError, Client, "http://a", "a", "", MemoryRecords(), organization="", space="s")
+
+    def test_what_can_not_do_at_the_start(self) -> None:
+        good: Dict[str, Any] = {"user": USER, "password": PASSWORD, "organization": "o", "space": "s"}
+        Client("http://a", records=MemoryRecords(), **good)
+        no_texts: List[Dict[str, Any]] = [{name: it} for name in good for it in ("", "\ud800")]
+        for bad in [*no_texts, {"user": "a:b"}, {"longest_body": 0}]:
+            with self.assertRaises(ValueError, msg=bad) as raised:
+                Client("http://a", records=MemoryRecords(), **{**good, **bad})
+            self.assertNotIn(PASSWORD, str(raised.exception))
 
 
 class NoAnswer(Quiet):
@@ -223,7 +230,25 @@ class GivenUp(Quiet):
             connection.sendall(response(200, b'{"state":"succeeded"}'))
         with far_end([], late) as url:
             said = client(url, records).step(ONE)
-        self.assertEqual(said.record, Record(SERVICE, SYNC, 3, State.CLEANING, Kind.DEPROVISION))
+        self.assertEqual(said, Exchanged(Record(SERVICE, SYNC, 3, State.CLEANING, Kind.DEPROVISION), None, None))
+
+    def test_last_transaction_that_failed(self) -> None:
+        """The request stays in flight, and is given up: what is due then finds out."""
+        class Failing(MemoryRecords):
+            left = 1
+
+            def update(self, id: Id, change: Callable[[Kept], Tuple[Kept, Any]]) -> Any:
+                if self.left == 0:
+                    raise OSError("the disk is full")
+                self.left -= 1
+                return super().update(id, change)
+        records = Failing()
+        records.insert(ONE, Kept(Record(SERVICE, SYNC, 1, State.CLEANING, None)))
+        with far_end([], saying(response(200))) as url:
+            self.assertRaises(OSError, client(url, records).step, ONE)
+        records.left = 100
+        self.assertEqual(client("http://127.0.0.1:9", records).give_up(ONE),
+                         Record(SERVICE, SYNC, 2, State.CLEANING, None))
 
     def test_expire(self) -> None:
         made = client("http://127.0.0.1:9", kept_as(State.POLLING))

@@ -50,6 +50,16 @@ class Ids(unittest.TestCase):
             self.assertEqual((text[14], text[19] in "89ab"), ("4", True), text)
 
 
+class Names(unittest.TestCase):
+    def test_shown(self) -> None:
+        """By `print` and in f-strings, alike in every Python; a number is what it was."""
+        for it, name in ((State.READY, "ready"), (State.CLEANING_POLLING, "cleaning-polling"), (Kind.POLL, "poll"),
+                         (Phase.DELETE_FAILED, "delete-failed"), (Status.NOT_UTF8, "not-utf8"), (Mode.SYNC, "sync"),
+                         (Body.EMPTY, "empty"), (Outcome.AFTER, "after"), (Work.START_MAKING, "start-making")):
+            self.assertEqual((str(it), f"{it}", f"{it:>20}"), (name, name, name.rjust(20)))
+        self.assertEqual((int(State.READY), State(2), f"{State.READY.value:02}"), (2, State.READY, "02"))
+
+
 class Records(unittest.TestCase):
     def test_create(self) -> None:
         made, asked = Record.create(ONE, SERVICE, SYNC, False)

@@ -8,8 +8,10 @@ import logging
 import unittest
 from typing import Any, Callable, Dict, Iterator, List, Optional, Tuple
 
-from osb import BrokerRow, Holding, Id, Kind, OsbError, Outcome, Phase, Request, Status, Work
+from osb import Answer, Body, BrokerRow, Holding, Id, Kind, OsbError, Outcome, Phase, Refusal, Status, Work
+from osb.service import StillRecorded, Task
 from osb.stores import MemoryStore
+from osb.wire import write_answer
 from osb.wsgi import BrokerApplication
 from tests.support import (ASYNC, CATALOGUE, ONE, PASSWORD, SERVICE, SYNC, TWO, UNSOLD, USER, Reply, Things,
                            authorization, call, deprovision, poll, provision, provision_body, request, target)
@@ -88,13 +90,77 @@ class Requests(Quiet):
         store = MemoryStore()
         seen: List[Tuple[Holding, Tuple[int, str], Tuple[int, str], int]] = []
 
-        def look(work: Work, asked: Request) -> None:
+        def look(task: Task) -> None:
             both = [(it.status, it.error) for it in (provision(made), deprovision(made))]
             seen.append((held(store), both[0], both[1], poll(made).status))
         made = application(store, Things(before=look))
         self.assertEqual(provision(made).status, 201)
         self.assertEqual(seen, [(Holding(work=request(Kind.PROVISION)), (503, "ServiceUnavailable"),
                                  (422, "ConcurrencyError"), 200)])
+
+    def test_tasks(self) -> None:
+        """The worker is given the body as it was read, whole and byte for byte; taken up again, work has none."""
+        given: List[Task] = []
+
+        def broken(task: Task) -> None:
+            given.append(task)
+            if not task.again:
+                raise ConnectionError
+        made = application(worker=Things(before=broken))
+        body = provision_body()[:-1] + b', "parameters" : {"size":3, "name":"\xc3\xa9"}}\n'
+        self.assertEqual(call(made, "PUT", target(plan=None), body).status, 500)
+        self.assertEqual(made.resume(), [])
+        self.assertEqual(call(made, "DELETE", target(), b"{}").status, 500)
+        self.assertEqual(made.resume(), [])
+        making, deleting = request(Kind.PROVISION, accepts=False), request(Kind.DEPROVISION)
+        self.assertEqual(given, [Task(Work.MAKE, making, body, False), Task(Work.MAKE, making, None, True),
+                                 Task(Work.DELETE, deleting, b"{}", False), Task(Work.DELETE, deleting, None, True)])
+
+    def test_tasks_in_chunks(self) -> None:
+        given: List[Task] = []
+        chunked: Dict[str, Any] = {"CONTENT_LENGTH": None, "HTTP_TRANSFER_ENCODING": "chunked",
+                                   "wsgi.input_terminated": True}
+        made = application(worker=Things(before=given.append))
+        self.assertEqual(call(made, "PUT", target(plan=None), provision_body(ASYNC), **chunked).error, "AsyncRequired")
+        self.assertEqual(call(made, "PUT", target(plan=None), provision_body(), **chunked).status, 201)
+        self.assertEqual([it.body for it in given], [provision_body()])
+
+    def test_operation_that_ends_before_its_start_is_written(self) -> None:
+        """Until then `finish` is to be called again; where no operation runs, it isn't."""
+        raised: List[type] = []
+
+        def quick(task: Task) -> None:
+            try:
+                made.finish(ONE, True)
+            except StillRecorded as error:
+                raised.append(type(error))
+        store = MemoryStore()
+        made = application(store, Things(before=quick))
+        self.assertEqual((provision(made, plan=ASYNC).status, raised), (202, [StillRecorded]))
+        made.finish(ONE, True)
+        self.assertEqual(held(store), Holding(BrokerRow(SERVICE, ASYNC, Phase.READY)))
+        for id in (ONE, TWO):
+            with self.assertRaises(OsbError) as refused:
+                made.finish(id, True)
+            self.assertEqual(refused.exception.status, Status.NOTHING_RUNNING)
+
+    def test_operations_by_what_is_running(self) -> None:
+        """As docs/python.md has it: the work is nothing, and what the rows say is made and deleted by another hand."""
+        class Slow:
+            def work(self, task: Task) -> Outcome:
+                return Outcome.DONE
+        made = BrokerApplication(CATALOGUE, MemoryStore(), Slow(), USER, PASSWORD)
+        things = {Phase.MAKING: True, Phase.DELETING: False}
+
+        def turn() -> None:
+            for id, row in made.running().items():
+                made.finish(id, row.phase in things)
+        self.assertEqual(provision(made, plan=ASYNC).status, 202)
+        turn()
+        self.assertEqual(json.loads(poll(made, plan=ASYNC).body), {"state": "succeeded"})
+        self.assertEqual(deprovision(made, plan=ASYNC).status, 202)
+        turn()
+        self.assertEqual((poll(made, plan=ASYNC).status, made.running()), (410, {}))
 
     def test_plan_that_is_not_on_sale(self) -> None:
         store = MemoryStore()
@@ -176,27 +242,64 @@ class Refused(Quiet):
         reply = call(application(prefix="/a"), "PUT", rest, provision_body(), SCRIPT_NAME=front)
         self.assertEqual(reply.status, 201)
 
-    def test_user_with_a_colon(self) -> None:
-        self.assertRaises(ValueError, BrokerApplication, CATALOGUE, MemoryStore(), Things(), "a:b", PASSWORD)
+    def test_what_can_not_do_at_the_start(self) -> None:
+        given: List[Tuple[str, str, Dict[str, Any]]] = [
+            ("a:b", PASSWORD, {}), ("", PASSWORD, {}), (USER, "", {}), ("\ud800", PASSWORD, {}), (USER, "\ud800", {}),
+            *[(USER, PASSWORD, {"prefix": it})
+              for it in ("a", "/", "/a/", "/a?b", "/a#b", "/a b", "/a\n", "/a\r", "/a\tb", "/\ud800")],
+            (USER, PASSWORD, {"longest_body": 0}), (USER, PASSWORD, {"longest_body": -1})]
+        for user, password, named in given:
+            with self.assertRaises(ValueError, msg=(user, password, named)) as raised:
+                BrokerApplication(CATALOGUE, MemoryStore(), Things(), user, password, **named)
+            self.assertNotIn(PASSWORD, str(raised.exception))
+        BrokerApplication(CATALOGUE, MemoryStore(), Things(), USER, PASSWORD, prefix="/a/b", longest_body=1)
 
 
 class Faults(Quiet):
     def test_outcome_that_nobody_knows(self) -> None:
-        def broken(work: Work, asked: Request) -> None:
+        def broken(task: Task) -> None:
             raise ConnectionError("the backend is away")
         store, worker = MemoryStore(), Things(before=broken)
         made = application(store, worker)
         reply = provision(made)
-        self.assertEqual((reply.status, reply.error), (500, "InternalServerError"))
+        self.assertEqual((reply.status, reply.body), (500, write_answer(Answer(500, Body.OTHER_ERROR))))
+        self.assertEqual((provision(made).status, deprovision(made).status), (503, 422))
+        self.assertEqual(json.loads(poll(made).body), {"state": "in progress"})
         self.assertEqual(held(store), Holding(work=request(Kind.PROVISION)))
         self.assertEqual((deprovision(made).error, made.resume()), ("ConcurrencyError", [ONE]))
         worker.before = None
         self.assertEqual((made.resume(), held(store), worker.things), ([], READY, {ONE}))
         self.assertEqual((made.resume(), worker.done), ([], [Work.MAKE]))
 
+    def test_refusals_of_others(self) -> None:
+        """A Refusal that the worker, the store or the lock raises, as by a request of its own, isn't this request's:
+        it is answered with 500, or with 503 where memory was wanting, and what was recorded stays.
+        """
+        recorded = Holding(work=request(Kind.PROVISION))
+        for status, answered in ((Status.REFUSED_BODY, 500), (Status.REFUSED_METHOD, 500), (Status.MEMORY, 503)):
+            def refuse(*_: object) -> Any:
+                raise Refusal(status)
+
+            class Refusing(MemoryStore):
+                left = 0
+
+                def update(self, id: Id, change: Callable[[Holding], Tuple[Holding, Any]]) -> Any:
+                    self.left -= 1
+                    return refuse() if self.left == -1 else super().update(id, change)
+            store = MemoryStore()
+            self.assertEqual((provision(application(store, Things(before=refuse))).status, held(store)),
+                             (answered, recorded), status)
+            store, worker = MemoryStore(), Things()
+            self.assertEqual((provision(application(store, worker, lock=refuse)).status, held(store), worker.done),
+                             (answered, recorded, []), status)
+            for left, kept in ((0, Holding.NONE), (1, recorded)):
+                refusing = Refusing()
+                refusing.left = left
+                self.assertEqual((provision(application(refusing)).status, held(refusing)), (answered, kept), status)
+
     def test_outcome_that_is_none(self) -> None:
         class Silent:
-            def work(self, work: Work, request: Request) -> Any:
+            def work(self, task: Task) -> Any:
                 return None
         store = MemoryStore()
         made = BrokerApplication(CATALOGUE, store, Silent(), USER, PASSWORD)
@@ -248,7 +351,7 @@ class Faults(Quiet):
 
     def test_work_that_another_ended(self) -> None:
         store = MemoryStore()
-        made = application(store, Things(before=lambda work, asked: put(store, READY)))
+        made = application(store, Things(before=lambda task: put(store, READY)))
         self.assertEqual((provision(made).status, held(store)), (500, READY))
 
     def test_lock(self) -> None:
@@ -261,7 +364,7 @@ class Faults(Quiet):
             said.append(f"locked {held(store, id).work is not None}")
             yield
             said.append(f"unlocked {held(store, id).work is not None}")
-        worker = Things(before=lambda work, asked: said.append("work"))
+        worker = Things(before=lambda task: said.append("work"))
         made = application(store, worker, lock=lock)
         self.assertEqual(provision(made).status, 201)
         put(store, Holding(work=request(Kind.PROVISION, id=TWO)), TWO)

@@ -16,6 +16,7 @@ import ssl
 from dataclasses import dataclass
 from typing import Callable, Optional, Tuple, TypeVar
 
+from osb._checks import check_login, check_longest, check_texts
 from osb._exchange import Address, FarEnd, Response
 from osb._texts import utf8
 from osb.enums import Kind, Status
@@ -39,7 +40,7 @@ class Exchanged:
     record: Record
     """The record as it is written now."""
     answer: Optional[Answer]
-    """The broker's answer, or None where none came that is surely the broker's."""
+    """The answer that was taken, or None: none came that is surely the broker's, or the request was given up before."""
     retry_after: Optional[int]
     """The seconds that the broker asks to be left alone for, or None."""
 
@@ -65,13 +66,14 @@ class Client:
     def __init__(self, url: str, user: str, password: str, records: RecordStore, *, organization: str, space: str,
                  seconds: float = 60.0, longest_body: int = 1 << 20, tls: Optional[ssl.SSLContext] = None) -> None:
         """`url` is the broker's, without /v2. `seconds` is the limit on the time of each exchange, `longest_body` that
-        on the bytes of a response's body. Raises ValueError where the URL is no broker's, the user has a colon, or the
-        organization or the space is empty.
+        on the bytes of a response's body. Raises ValueError where the URL is no broker's, the user has a colon, one of
+        the user, the password, the organization and the space is empty or isn't UTF-8, or `longest_body` is below 1.
         """
-        if ":" in user:
-            raise ValueError("HTTP's Basic scheme knows no user with a colon")
+        check_login(user, password)
         if not organization or not space:
             raise ValueError("the organization and the space aren't empty")
+        check_texts("the organization or the space", organization, space)
+        check_longest(longest_body)
         token = base64.b64encode(utf8(f"{user}:{password}")).decode()
         self._headers = {"Authorization": f"Basic {token}", "X-Broker-API-Version": API_VERSION,
                          "Accept": CONTENT_TYPE, "Connection": "close"}
@@ -112,8 +114,9 @@ class Client:
         return self._changed(id, Record.expire)
 
     def give_up(self, id: Id) -> Record:
-        """Gives up the request in flight, as what a crash left there: it may be done or not, and what is due then finds
-        out. Where none is in flight, nothing changes. Raises UNKNOWN.
+        """Gives up the request in flight, as what a crash left there, or a `create` or a `step` whose last transaction
+        failed in the store: it may be done or not, and what is due then finds out. Where none is in flight, nothing
+        changes. Raises UNKNOWN.
         """
         return self._changed(id, lambda record: record if record.out is None else record.timeout(record.attempt))
 
@@ -130,9 +133,9 @@ class Client:
     def _exchange(self, sent: _Sent, body: bytes) -> Exchanged:
         response = self._response(sent.request, sent.operation, body)
         heard = None if response is None else _heard(sent.request.kind, response)
-        record = self._records.update(sent.request.id, lambda kept: _taken(kept, sent, heard))
+        record, answer = self._records.update(sent.request.id, lambda kept: _taken(kept, sent, heard))
         named = None if response is None else response.retry_after
-        return Exchanged(record, None if heard is None else heard.answer, None if named is None else retry_after(named))
+        return Exchanged(record, answer, None if named is None else retry_after(named))
 
     def _response(self, request: Request, operation: Optional[str], body: bytes) -> Optional[Response]:
         headers = {**self._headers, "Content-Type": CONTENT_TYPE} if body else self._headers
@@ -163,13 +166,15 @@ def _heard(kind: Kind, response: Response) -> Optional[_Heard]:
     return _unless_memory(read)
 
 
-def _taken(kept: Kept, sent: _Sent, heard: Optional[_Heard]) -> Tuple[Kept, Record]:
-    """What is kept after the answer or the timeout. It is as before where the request was given up meanwhile."""
+def _taken(kept: Kept, sent: _Sent, heard: Optional[_Heard]) -> Tuple[Kept, Tuple[Record, Optional[Answer]]]:
+    """What is kept after the answer or the timeout, and the answer that was taken. Where the request was given up
+    meanwhile, what is kept is as before, and no answer is taken.
+    """
     if kept.record.out is None or kept.record.attempt != sent.attempt:
-        return kept, kept.record
+        return kept, (kept.record, None)
     if heard is None:
-        record, operation = kept.record.timeout(sent.attempt), kept.operation
-    else:
-        record = kept.record.answer(sent.attempt, heard.answer)
-        operation = kept.operation if sent.request.kind == Kind.POLL else heard.operation
-    return Kept(record, operation), record
+        record = kept.record.timeout(sent.attempt)
+        return Kept(record, kept.operation), (record, None)
+    record = kept.record.answer(sent.attempt, heard.answer)
+    operation = kept.operation if sent.request.kind == Kind.POLL else heard.operation
+    return Kept(record, operation), (record, heard.answer)

@@ -1,5 +1,7 @@
 """The numbers that cross to the library, each with its name: the enums of include/osb.h.
 
+`str` and `print` show the name, in lower case with hyphens; `int` is the number.
+
 What a number for none stands for there (OSB_KIND_NONE, OSB_STATE_NONE, OSB_MODE_NONE, OSB_WORK_NONE) is None here.
 """
 from __future__ import annotations
@@ -7,7 +9,17 @@ from __future__ import annotations
 import enum
 
 
-class Status(enum.IntEnum):
+class _Named(enum.IntEnum):
+    """Numbers that show by their names, as `cleaning-polling`."""
+
+    def __str__(self) -> str:
+        return self.name.lower().replace("_", "-")
+
+    def __format__(self, format_spec: str) -> str:
+        return format(str(self), format_spec)
+
+
+class Status(_Named):
     """What became of a call. `OsbError` has the meaning of each."""
 
     DONE = 0
@@ -68,7 +80,7 @@ class Status(enum.IntEnum):
     BAD_PLAN_MODE = 55
 
 
-class Kind(enum.IntEnum):
+class Kind(_Named):
     """The kind of a request."""
 
     PROVISION = 0
@@ -79,7 +91,7 @@ class Kind(enum.IntEnum):
     """DELETE on the instance."""
 
 
-class Body(enum.IntEnum):
+class Body(_Named):
     """What can be read of an answer's body."""
 
     MALFORMED = 0
@@ -95,7 +107,7 @@ class Body(enum.IntEnum):
     """Any other error."""
 
 
-class State(enum.IntEnum):
+class State(_Named):
     """What a platform records of an instance."""
 
     WANTED = 0
@@ -114,7 +126,7 @@ class State(enum.IntEnum):
     """The Provision failed, and an operator has to look."""
 
 
-class Phase(enum.IntEnum):
+class Phase(_Named):
     """How far an instance is that a broker holds."""
 
     MAKING = 0
@@ -126,18 +138,18 @@ class Phase(enum.IntEnum):
     """It could not be deleted."""
 
 
-class Outcome(enum.IntEnum):
+class Outcome(_Named):
     """How the work behind a request went."""
 
     DONE = 0
     """It is done, or at an asynchronous plan started."""
     BEFORE = 1
-    """It failed before anything was changed."""
+    """It failed, and nothing is there; of a deletion, all is there still."""
     AFTER = 2
-    """It failed after the change was made."""
+    """It failed, and yet the whole thing is there; of a deletion, nothing is left."""
 
 
-class Mode(enum.IntEnum):
+class Mode(_Named):
     """How a plan on sale works."""
 
     SYNC = 0
@@ -146,7 +158,7 @@ class Mode(enum.IntEnum):
     """The broker answers at once and works on."""
 
 
-class Work(enum.IntEnum):
+class Work(_Named):
     """The work that a request means."""
 
     MAKE = 1

@@ -13,6 +13,7 @@ from __future__ import annotations
 
 import contextlib
 import logging
+from dataclasses import dataclass
 from typing import Callable, ContextManager, Dict, Iterable, List, Optional, Protocol, Tuple, Union
 
 from osb.enums import Mode, Outcome, Phase, Work
@@ -28,15 +29,33 @@ Lock = Callable[[Id], ContextManager[object]]
 """Gives what is entered while somebody works at the instance, and waits there until nobody else does."""
 
 
+@dataclass(frozen=True)
+class Task:
+    """Work that is recorded, for a worker to do."""
+
+    work: Work
+    request: Request
+    body: Optional[bytes]
+    """The body of the request as it was read: of a Provision, with its parameters. It isn't recorded, so it is None
+    where the work is taken up again: a worker that needs some of it keeps that before it begins to make the thing.
+    """
+    again: bool
+    """Whether the work is taken up again by `resume`: it may have been begun before, and broken off."""
+
+
 class Worker(Protocol):
     """What does the work behind requests."""
 
-    def work(self, work: Work, request: Request) -> Outcome:
-        """Does the work of a request, and tells how it went.
+    def work(self, task: Task) -> Outcome:
+        """Does the work of a task, and tells truly how it went.
 
-        It may be a request whose work was begun before and broken off: so look whether the thing is there, and make it
-        whole or take it away. START_MAKING and START_DELETING are done once the operation is sure to go on; it ends by
-        `finish`. Raise where nobody knows how the work went: it stays recorded, and the requester is told 500.
+        It may have been begun before and broken off (`again`): so look whether the thing is there, and make it whole or
+        take it away. START_MAKING and START_DELETING are done once the operation is sure to go on; it ends by `finish`.
+
+        DONE: it is done, or at an asynchronous plan started. BEFORE: it failed, and nothing is there; of a deletion,
+        all is there still. AFTER: it failed, and yet the whole thing is there; of a deletion, nothing is left. Half
+        done is neither: undo it and tell BEFORE, or finish it and tell DONE. Raise where nobody knows how the work
+        went: it stays recorded, and the requester is told 500.
         """
         ...
 
@@ -45,6 +64,10 @@ class Misfit(Exception):
     """What is held can't come about at its plan: a hand has changed the row, or the catalogue has changed under it. An
     operator has to look; nothing was changed.
     """
+
+
+class StillRecorded(Exception):
+    """The work that starts the operation is still recorded: `finish` is to be called again, a little later."""
 
 
 class LostWork(Exception):
@@ -65,25 +88,32 @@ class BrokerService:
         """How the plan works, or None where it isn't on sale."""
         return self._modes.get((service, plan))
 
-    def handle(self, asked: Asked) -> Answer:
-        """Handles what is asked, with the work that it means, and gives the answer to send."""
+    def handle(self, asked: Asked, body: bytes) -> Answer:
+        """Handles what is asked, with the work that it means, and gives the answer to send. `body` is the request's, as
+        it was read.
+        """
         request, begun = self._store.update(asked.id, lambda holding: self._begin(holding, asked))
         if isinstance(begun, Answer):
             return begun
+        task = Task(begun, request, body, False)
         if self._lock is None:
-            return self._work(begun, request)
+            return self._work(task)
         with self._lock(asked.id):
             # whoever had the lock before may have done this work
             if self._store.update(asked.id, lambda holding: (holding, holding.work)) != request:
                 raise LostWork(f"the work of {asked.id} was done by another")
-            return self._work(begun, request)
+            return self._work(task)
 
     def finish(self, id: Id, ok: bool) -> None:
         """Ends the operation that runs on the instance, well (ok) or badly. Said once, of the operation that runs now.
-        Raises NOTHING_RUNNING, also where the start of the operation isn't written yet: then it is called again.
+
+        Raises `StillRecorded` while the work that starts the operation is recorded: then it is called again. Raises
+        NOTHING_RUNNING where no operation runs: then it isn't.
         """
         def finished(holding: Holding) -> Tuple[Holding, None]:
             self._check(id, holding)
+            if holding.work is not None:
+                raise StillRecorded(f"the work that starts the operation on {id} is still recorded")
             return holding.finish(ok), None
         self._store.update(id, finished)
 
@@ -116,8 +146,8 @@ class BrokerService:
         after, begun = holding.begin(self.mode(request.service, request.plan), request)
         return after, (request, begun)
 
-    def _work(self, work: Work, request: Request) -> Answer:
-        outcome = Outcome(self._worker.work(work, request))
+    def _work(self, task: Task) -> Answer:
+        outcome, request = Outcome(self._worker.work(task)), task.request
 
         def ended(holding: Holding) -> Tuple[Holding, Answer]:
             self._check(request.id, holding)
@@ -134,7 +164,7 @@ class BrokerService:
             request = self._store.update(id, recorded)
             work = None if request is None else work_of(request.kind, self.mode(request.service, request.plan))
             if request is not None and work is not None:
-                self._work(work, request)
+                self._work(Task(work, request, None, True))
 
     def _check(self, id: Id, holding: Holding) -> None:
         named = holding.row or holding.work

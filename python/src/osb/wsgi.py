@@ -8,6 +8,7 @@ import logging
 from typing import Any, Callable, Dict, Iterable, List, NamedTuple, Optional, Tuple
 from urllib.parse import quote
 
+from osb._checks import check_login, check_longest, check_prefix
 from osb.enums import Body, Status
 from osb.errors import OsbError, Refusal
 from osb.ids import Id
@@ -37,21 +38,23 @@ class BrokerApplication:
     def __init__(self, catalogue: bytes, store: Store, worker: Worker, user: str, password: str, *, prefix: str = "",
                  longest_body: int = 1 << 20, lock: Optional[Lock] = None) -> None:
         """`catalogue` is the document that GET /v2/catalog answers; it raises as `catalogue_plans` does. `prefix` is
-        what the target of a request has before /v2, `longest_body` the bytes that a body may have. `lock` is
-        `BrokerService`'s. The user has no colon.
+        what the target of a request has before /v2, as /postgres, or nothing; `longest_body` the bytes that a body may
+        have. `lock` is `BrokerService`'s. Raises ValueError where the user or the password is empty or the user has a
+        colon, where the prefix is no path, where one of these isn't UTF-8, and where `longest_body` is below 1.
         """
-        if ":" in user:
-            raise ValueError("HTTP's Basic scheme knows no user with a colon")
+        check_login(user, password)
+        check_prefix(prefix)
+        check_longest(longest_body)
         self._service = BrokerService(catalogue_plans(catalogue), store, worker, lock)
         self._catalogue, self._user, self._password = catalogue, user, password
         self._prefix, self._longest_body = prefix, longest_body
 
     def __call__(self, environ: Environ, start_response: Callable[..., Any]) -> Iterable[bytes]:
-        """Answers a request, as WSGI has it. What is raised on the way is logged, and answered with 500."""
+        """Answers a request, as WSGI has it. What is raised on the way, as by the store, the worker or the lock, is
+        logged, and answered with 500, or with 503 where memory was wanting.
+        """
         try:
             reply = self._reply(environ)
-        except Refusal as refusal:
-            reply = _Reply(refusal.http_status, refusal.body)
         except Exception as error:
             _log.exception("a request to %s wasn't done", environ.get("PATH_INFO", ""))
             reply = _failed(error)
@@ -60,7 +63,7 @@ class BrokerApplication:
         return [reply.body]
 
     def finish(self, id: Id, ok: bool) -> None:
-        """Ends the operation that runs on the instance, as `BrokerService.finish` does."""
+        """Ends the operation that runs on the instance, as `BrokerService.finish` does. Raises `StillRecorded`."""
         self._service.finish(id, ok)
 
     def resume(self) -> List[Id]:
@@ -74,7 +77,10 @@ class BrokerApplication:
     def _reply(self, environ: Environ) -> _Reply:
         if not basic_auth(environ.get("HTTP_AUTHORIZATION"), self._user, self._password):
             return _error(401, ("WWW-Authenticate", 'Basic realm="broker"'))
-        api_version(environ.get("HTTP_X_BROKER_API_VERSION"))
+        try:
+            api_version(environ.get("HTTP_X_BROKER_API_VERSION"))
+        except Refusal as refusal:
+            return _refused(refusal)
         method, target = str(environ["REQUEST_METHOD"]), _target(environ)
         path = target.partition(b"?")[0]
         if path == (self._prefix + "/v2/catalog").encode():
@@ -86,10 +92,11 @@ class BrokerApplication:
             asked = read_request(method, target, body, self._longest_body, self._prefix)
         except Refusal as refusal:
             if refusal.status != Status.REFUSED_METHOD:
-                raise
+                return _refused(refusal)
             rest = path[len((self._prefix + "/v2/service_instances/").encode()):]
             return _not_allowed("GET" if b"/" in rest else "PUT, DELETE")
-        answer = self._service.handle(asked)
+        # A Refusal from here on isn't this request's: it was raised by the worker, the store or the lock.
+        answer = self._service.handle(asked, body)
         return _Reply(answer.status, write_answer(answer))
 
 
@@ -137,17 +144,19 @@ def _error(status: int, *headers: Tuple[str, str]) -> _Reply:
     return _Reply(status, write_answer(Answer(status, Body.OTHER_ERROR)), list(headers))
 
 
+def _refused(refusal: Refusal, *headers: Tuple[str, str]) -> _Reply:
+    return _Reply(refusal.http_status, refusal.body, list(headers))
+
+
 def _not_allowed(methods: str) -> _Reply:
-    refusal = Refusal(Status.REFUSED_METHOD)
-    return _Reply(refusal.http_status, refusal.body, [("Allow", methods)])
+    return _refused(Refusal(Status.REFUSED_METHOD), ("Allow", methods))
 
 
 def _failed(error: Exception) -> _Reply:
     """500, or 503 where the library is out of memory. Neither takes memory from it."""
     if isinstance(error, OsbError) and error.status == Status.MEMORY:
-        refusal = Refusal(Status.MEMORY)
-        return _Reply(refusal.http_status, refusal.body)
-    return _Reply(500, b'{"description":"The request failed, and may be sent again.","error":"InternalServerError"}')
+        return _refused(Refusal(Status.MEMORY))
+    return _Reply(500, b'{"description":"The operation failed.","error":"InternalServerError"}')
 
 
 def _line(status: int) -> str:
