@@ -150,17 +150,19 @@ class Requests(Quiet):
             def work(self, task: Task) -> Outcome:
                 return Outcome.DONE
         made = BrokerApplication(CATALOGUE, MemoryStore(), Slow(), USER, PASSWORD)
-        things = {Phase.MAKING: True, Phase.DELETING: False}
+        hand = Things()
 
         def turn() -> None:
             for id, row in made.running().items():
-                made.finish(id, row.phase in things)
+                work, kind = ((Work.MAKE, Kind.PROVISION) if row.phase == Phase.MAKING
+                              else (Work.DELETE, Kind.DEPROVISION))
+                made.finish(id, hand.work(Task(work, request(kind, ASYNC, id=id), None, False)) == Outcome.DONE)
         self.assertEqual(provision(made, plan=ASYNC).status, 202)
         turn()
-        self.assertEqual(json.loads(poll(made, plan=ASYNC).body), {"state": "succeeded"})
+        self.assertEqual((json.loads(poll(made, plan=ASYNC).body), hand.things), ({"state": "succeeded"}, {ONE}))
         self.assertEqual(deprovision(made, plan=ASYNC).status, 202)
         turn()
-        self.assertEqual((poll(made, plan=ASYNC).status, made.running()), (410, {}))
+        self.assertEqual((poll(made, plan=ASYNC).status, made.running(), hand.things), (410, {}, set()))
 
     def test_plan_that_is_not_on_sale(self) -> None:
         store = MemoryStore()

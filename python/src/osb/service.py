@@ -53,9 +53,10 @@ class Worker(Protocol):
         take it away. START_MAKING and START_DELETING are done once the operation is sure to go on; it ends by `finish`.
 
         DONE: it is done, or at an asynchronous plan started. BEFORE: it failed, and nothing is there; of a deletion,
-        all is there still. AFTER: it failed, and yet the whole thing is there; of a deletion, nothing is left. Half
-        done is neither: undo it and tell BEFORE, or finish it and tell DONE. Raise where nobody knows how the work
-        went: it stays recorded, and the requester is told 500.
+        all is there still; at an asynchronous plan, nothing is started. AFTER: it failed, and yet the whole thing is
+        there; of a deletion, nothing is left; at an asynchronous plan, it is started. Half done is neither: undo it
+        and tell BEFORE, or finish it and tell DONE. Raise where nobody knows how the work went: it stays recorded, and
+        the requester is told 500.
         """
         ...
 
@@ -108,7 +109,8 @@ class BrokerService:
         """Ends the operation that runs on the instance, well (ok) or badly. Said once, of the operation that runs now.
 
         Raises `StillRecorded` while the work that starts the operation is recorded: then it is called again. Raises
-        NOTHING_RUNNING where no operation runs: then it isn't.
+        NOTHING_RUNNING where no operation runs: then it isn't. After an error of the store, `running` tells whether the
+        end was written.
         """
         def finished(holding: Holding) -> Tuple[Holding, None]:
             self._check(id, holding)
