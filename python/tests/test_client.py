@@ -145,6 +145,16 @@ class Sent(Quiet):
             nowhere.record(TWO)
         self.assertEqual(raised.exception.status, Status.UNKNOWN)
 
+    def test_catalogue(self) -> None:
+        """The document as it came, with its status; none where it didn't come whole."""
+        document, came = b'{"services":[]}', []  # type: bytes, List[bytes]
+        with far_end(came, saying(response(200, document)), saying(response(500, document)),
+                     saying(response(200, document)[:-1])) as url:
+            made = client(url + "/a/")
+            self.assertEqual([made.catalogue() for _ in range(3)], [(200, document), (500, document), None])
+        self.assertTrue(came[0].startswith(b"GET /a/v2/catalog HTTP/1.1\r\n"))
+        self.assertIn(authorization().encode(), came[0])
+
     def test_urls(self) -> None:
         for url in ("ftp://a", "a", "http://", "http://u:p@a", "http://a/?b", "http://a/#b", "http://a/é",
                     "http://a b", "http://a/b c", "http://a/?", "http://a:x"):

@@ -137,6 +137,15 @@ class Locks(InFolder):
         at_once(20, work)
         self.assertEqual(most, [1] * 20)
 
+    def test_attempt(self) -> None:
+        locks = FileLocks(self.folder)
+        with locks.attempt(ONE) as first, locks.attempt(ONE) as second, locks.attempt(TWO) as other:
+            self.assertEqual((first, second, other), (True, False, True))
+        with locks(ONE), locks.attempt(ONE) as third:
+            self.assertFalse(third)
+        with locks.attempt(ONE) as again:
+            self.assertTrue(again)
+
     def test_each_has_its_own(self) -> None:
         locks = FileLocks(self.folder / "new")
         with locks(ONE), locks(TWO):

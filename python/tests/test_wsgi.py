@@ -6,7 +6,7 @@ import io
 import json
 import logging
 import unittest
-from typing import Any, Callable, Dict, Iterator, List, Optional, Tuple
+from typing import Any, Callable, ContextManager, Dict, Iterator, List, Optional, Tuple
 
 from osb import Answer, Body, BrokerRow, Holding, Id, Kind, OsbError, Outcome, Phase, Refusal, Status, Work
 from osb.service import StillRecorded, Task
@@ -381,7 +381,20 @@ class Faults(Quiet):
             put(store, READY, id)  # while this one waited, another did the work
             yield
         made = application(store, worker, lock=lock)
-        self.assertEqual((provision(made).status, worker.done), (500, []))
+        self.assertEqual((provision(made).status, worker.done), (200, []))
+
+    def test_take_up(self) -> None:
+        """The recorded work of one instance is done, without the lock, and that of no other."""
+        store, worker = MemoryStore(), Things()
+        put(store, Holding(work=request(Kind.PROVISION)))
+        put(store, Holding(work=request(Kind.PROVISION, id=TWO)), TWO)
+
+        def lock(id: Id) -> ContextManager[None]:
+            raise AssertionError("the caller has it")
+        made = application(store, worker, lock=lock)
+        for _ in range(2):
+            made.take_up(ONE)
+            self.assertEqual((held(store), held(store, TWO).work is None, worker.done), (READY, False, [Work.MAKE]))
 
     def test_log(self) -> None:
         """Errors are told with the instance, and no password."""

@@ -120,6 +120,14 @@ class Client:
         """
         return self._changed(id, lambda record: record if record.out is None else record.timeout(record.attempt))
 
+    def catalogue(self) -> Optional[Tuple[int, bytes]]:
+        """Asks the broker for its catalogue: the status of its answer, and the body, which with 200 is the document; or
+        None where none came whole. Nothing is recorded.
+        """
+        target = self._far_end.address.prefix + "/v2/catalog"
+        response = self._far_end.exchange("GET", target, b"", self._headers)
+        return None if response is None else (response.status, response.body)
+
     def record(self, id: Id) -> Record:
         """What is recorded of the instance. Raises UNKNOWN."""
         return self._changed(id, lambda record: record)

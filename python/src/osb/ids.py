@@ -2,6 +2,7 @@
 from __future__ import annotations
 
 import ctypes as c
+import functools
 import secrets
 from dataclasses import dataclass
 
@@ -41,9 +42,15 @@ class Id:
         return cls(high & ~0xF000 | 0x4000, low & ~(0b11 << 62) | 0b10 << 62)
 
     def __str__(self) -> str:
-        text = c.create_string_buffer(36)
-        lib.osb_id_to_text(CId(self.high, self.low), text)
-        return text.raw.decode()
+        return _text(self.high, self.low)
 
     def __repr__(self) -> str:
         return f"Id.of({str(self)!r})"
+
+
+@functools.lru_cache(1024)
+def _text(high: int, low: int) -> str:
+    """The text of an id, which is asked for many times while one request is handled."""
+    text = c.create_string_buffer(36)
+    lib.osb_id_to_text(CId(high, low), text)
+    return text.raw.decode()

@@ -23,6 +23,17 @@ class FileLocks:
         return self._locked(id)
 
     @contextlib.contextmanager
+    def attempt(self, id: Id) -> Iterator[bool]:
+        """The same without waiting: whether the lock was had, which is held in the block where it was."""
+        with open(self._folder / str(id), "ab") as file:
+            try:
+                fcntl.flock(file, fcntl.LOCK_EX | fcntl.LOCK_NB)
+            except BlockingIOError:
+                yield False
+                return
+            yield True
+
+    @contextlib.contextmanager
     def _locked(self, id: Id) -> Iterator[None]:
         with open(self._folder / str(id), "ab") as file:
             fcntl.flock(file, fcntl.LOCK_EX)

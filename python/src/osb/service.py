@@ -72,7 +72,7 @@ class StillRecorded(Exception):
 
 
 class LostWork(Exception):
-    """The work that was to be done isn't what is recorded any more: two have worked at one instance, or waited to."""
+    """The work that was done isn't what is recorded any more: two have worked at one instance."""
 
 
 class BrokerService:
@@ -93,17 +93,17 @@ class BrokerService:
         """Handles what is asked, with the work that it means, and gives the answer to send. `body` is the request's, as
         it was read.
         """
-        request, begun = self._store.update(asked.id, lambda holding: self._begin(holding, asked))
-        if isinstance(begun, Answer):
-            return begun
-        task = Task(begun, request, body, False)
-        if self._lock is None:
-            return self._work(task)
-        with self._lock(asked.id):
-            # whoever had the lock before may have done this work
-            if self._store.update(asked.id, lambda holding: (holding, holding.work)) != request:
-                raise LostWork(f"the work of {asked.id} was done by another")
-            return self._work(task)
+        while True:
+            request, begun = self._store.update(asked.id, lambda holding: self._begin(holding, asked))
+            if isinstance(begun, Answer):
+                return begun
+            task = Task(begun, request, body, False)
+            if self._lock is None:
+                return self._work(task)
+            with self._lock(asked.id):
+                if self._store.update(asked.id, lambda holding: (holding, holding.work)) == request:
+                    return self._work(task)
+            # Whoever had the lock before has done this work: then it is as if the request arrived again.
 
     def finish(self, id: Id, ok: bool) -> None:
         """Ends the operation that runs on the instance, well (ok) or badly. Said once, of the operation that runs now.
@@ -129,11 +129,24 @@ class BrokerService:
         left: List[Id] = []
         for id in self._store.unfinished():
             try:
-                self._take_up(id)
+                with contextlib.nullcontext() if self._lock is None else self._lock(id):
+                    self.take_up(id)
             except Exception:
                 _log.exception("the recorded work of instance %s wasn't ended", id)
                 left.append(id)
         return left
+
+    def take_up(self, id: Id) -> None:
+        """Does the recorded work of one instance, where there is any, without the lock: who calls this holds it, or
+        knows that nobody else works at the instance. Raises where nobody knows how the work went, which stays recorded.
+        """
+        def recorded(holding: Holding) -> Tuple[Holding, Optional[Request]]:
+            self._check(id, holding)
+            return holding, holding.work
+        request = self._store.update(id, recorded)
+        work = None if request is None else work_of(request.kind, self.mode(request.service, request.plan))
+        if request is not None and work is not None:
+            self._work(Task(work, request, None, True))
 
     def running(self) -> Dict[Id, BrokerRow]:
         """The instances on which an operation runs, with what is held of them: each goes on until `finish`."""
@@ -157,16 +170,6 @@ class BrokerService:
                 raise LostWork(f"the work of {request.id} was ended by another")
             return holding.end(self.mode(request.service, request.plan), outcome)
         return self._store.update(request.id, ended)
-
-    def _take_up(self, id: Id) -> None:
-        def recorded(holding: Holding) -> Tuple[Holding, Optional[Request]]:
-            self._check(id, holding)
-            return holding, holding.work
-        with contextlib.nullcontext() if self._lock is None else self._lock(id):
-            request = self._store.update(id, recorded)
-            work = None if request is None else work_of(request.kind, self.mode(request.service, request.plan))
-            if request is not None and work is not None:
-                self._work(Task(work, request, None, True))
 
     def _check(self, id: Id, holding: Holding) -> None:
         named = holding.row or holding.work

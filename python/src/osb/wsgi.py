@@ -70,6 +70,10 @@ class BrokerApplication:
         """Does the recorded work that nobody works at any more, as `BrokerService.resume` does."""
         return self._service.resume()
 
+    def take_up(self, id: Id) -> None:
+        """Does the recorded work of one instance, whose lock the caller holds, as `BrokerService.take_up` does."""
+        self._service.take_up(id)
+
     def running(self) -> Dict[Id, BrokerRow]:
         """The instances on which an operation runs, as `BrokerService.running` gives them."""
         return self._service.running()

@@ -1,0 +1,64 @@
+"""The broker with a part of the design taken out, to see that the storm finds it: `python -m storming.without_broker
+PART serve ..`. PART is `marks`, `work` or `busy`.
+"""
+from __future__ import annotations
+
+import sys
+from dataclasses import replace
+from typing import Any, Optional, Tuple, Union
+
+from osb import Answer, Holding, Mode, Outcome, Request, Work
+from osb.service import BrokerService, Task
+from osb.wire import Asked
+from osb_broker.__main__ import main
+
+_begin, _end, _finish = Holding.begin, Holding.end, Holding.finish
+
+
+def _without_marks() -> None:
+    """No mark is kept of an instance that has ended."""
+    def begin(self: Holding, mode: Optional[Mode], request: Request) -> Tuple[Holding, Union[Answer, Work]]:
+        after, begun = _begin(self, mode, request)
+        return replace(after, is_marked=False), begun
+
+    def end(self: Holding, mode: Optional[Mode], outcome: Outcome) -> Tuple[Holding, Answer]:
+        after, answer = _end(self, mode, outcome)
+        return replace(after, is_marked=False), answer
+
+    def finish(self: Holding, ok: bool) -> Holding:
+        return replace(_finish(self, ok), is_marked=False)
+    _patch(Holding, begin=begin, end=end, finish=finish)
+
+
+def _without_busy() -> None:
+    """While work is recorded, other requests are judged as if none were."""
+    def begin(self: Holding, mode: Optional[Mode], request: Request) -> Tuple[Holding, Union[Answer, Work]]:
+        return _begin(replace(self, work=None), mode, request)
+    _patch(Holding, begin=begin)
+
+
+def _without_work() -> None:
+    """Work isn't recorded before it begins: it is done, and then written down."""
+    def handle(self: Any, asked: Asked, body: bytes) -> Answer:
+        def looked(holding: Holding) -> Tuple[Holding, Tuple[Request, Union[Answer, Work]]]:
+            after, (request, begun) = self._begin(holding, asked)
+            return (after if isinstance(begun, Answer) else holding), (request, begun)
+        request, begun = self._store.update(asked.id, looked)
+        if isinstance(begun, Answer):
+            return begun
+        outcome = self._worker.work(Task(begun, request, body, False))
+        mode = self.mode(request.service, request.plan)
+        ended: Answer = self._store.update(
+            asked.id, lambda holding: replace(holding, work=request).end(mode, outcome))
+        return ended
+    _patch(BrokerService, handle=handle)
+
+
+def _patch(of: Any, **methods: Any) -> None:
+    for name, method in methods.items():
+        setattr(of, name, method)
+
+
+if __name__ == "__main__":
+    {"marks": _without_marks, "work": _without_work, "busy": _without_busy}[sys.argv[1]]()
+    sys.exit(main(sys.argv[2:]))

@@ -1,0 +1,75 @@
+"""A backend that sells folders of this machine."""
+from __future__ import annotations
+
+import json
+import os
+import shutil
+from pathlib import Path
+
+from osb import Id, Request
+from osb_broker.backend import There
+from osb_broker.locks import RangeLocks
+from osb_program.crash import crash
+
+
+class Folders:
+    """The thing behind an instance is a folder that is named by its id, in one folder for all of them.
+
+    It is made under another name, and has its own once it is whole; so it loses its own before it is taken apart.
+    """
+
+    def __init__(self, top: Path) -> None:
+        self._top = top
+        top.mkdir(parents=True, exist_ok=True)
+        self.locks = RangeLocks(top / ".locks")
+        """Whoever has the folder has the locks too. The work ends with its process, and so do they."""
+
+    def look(self, id: Id) -> There:
+        """As `Backend` says."""
+        if self._whole(id).exists():
+            return There.WHOLE
+        return There.PART if self._part(id).exists() else There.NONE
+
+    def make(self, id: Id, request: Request) -> None:
+        """As `Backend` says."""
+        part = self._part(id)
+        if part.exists():
+            shutil.rmtree(part)
+        part.mkdir()
+        named = {"instance": str(id), "plan": str(request.plan), "service": str(request.service)}
+        with open(part / "instance.json", "w", encoding="utf-8") as file:
+            json.dump(named, file)
+            file.write("\n")
+            file.flush()
+            os.fsync(file.fileno())
+        _written(part)
+        crash("work-half")
+        part.rename(self._whole(id))
+        _written(self._top)
+
+    def delete(self, id: Id) -> None:
+        """As `Backend` says."""
+        part, whole = self._part(id), self._whole(id)
+        if whole.exists():
+            if part.exists():
+                shutil.rmtree(part)
+            whole.rename(part)
+            _written(self._top)
+        crash("work-half")
+        shutil.rmtree(part)
+        _written(self._top)
+
+    def _whole(self, id: Id) -> Path:
+        return self._top / str(id)
+
+    def _part(self, id: Id) -> Path:
+        return self._top / f".part-{id}"
+
+
+def _written(folder: Path) -> None:
+    """Returns once what stands in the folder is on disk, names and all."""
+    descriptor = os.open(folder, os.O_RDONLY | os.O_DIRECTORY)
+    try:
+        os.fsync(descriptor)
+    finally:
+        os.close(descriptor)

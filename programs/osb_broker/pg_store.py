@@ -1,0 +1,77 @@
+"""Holdings in PostgreSQL: one row an instance, and any number of brokers over it."""
+from __future__ import annotations
+
+from typing import Any, Callable, List, Optional, Tuple, TypeVar
+
+from osb import Holding, Id
+from osb_program.pg import Sessions
+
+T = TypeVar("T")
+
+_TABLE = """
+CREATE TABLE IF NOT EXISTS osb_holdings (id uuid PRIMARY KEY, holding text NOT NULL, unfinished boolean NOT NULL);
+CREATE INDEX IF NOT EXISTS osb_unfinished_holdings ON osb_holdings (id) WHERE unfinished
+"""
+# A number of our own, for those who make the table at once: IF NOT EXISTS is no lock.
+_TABLE_LOCK = 0x6F73625F686F6C64
+
+
+class PgStore:
+    """A store in the database that a URL names. Any number of threads, processes and machines may use it."""
+
+    def __init__(self, url: str, most: int) -> None:
+        """`most`: how many transactions run at once."""
+        self._sessions = Sessions(url, most)
+        with self._sessions.session() as session, session.cursor() as cursor:
+            cursor.execute("SELECT to_regclass('osb_unfinished_holdings') IS NOT NULL")
+            if cursor.fetchone() == (True,):
+                return
+            cursor.execute("BEGIN")
+            cursor.execute("SELECT pg_advisory_xact_lock(%s)", [_TABLE_LOCK])
+            cursor.execute(_TABLE)
+            cursor.execute("COMMIT")
+
+    def update(self, id: Id, change: Callable[[Holding], Tuple[Holding, T]]) -> T:
+        """As `Store` says. What changes nothing is read, and locks nothing. A row that was made to be locked is there
+        for others only where something is held in it.
+        """
+        with self._sessions.session() as session, session.cursor() as cursor:
+            seen = _read(cursor, id, "") or Holding.NONE
+            after, given = change(seen)
+            if after == seen:
+                return given
+            cursor.execute("BEGIN")
+            held = _locked(cursor, id)
+            if held is None:
+                cursor.execute("INSERT INTO osb_holdings VALUES (%s, %s, false) ON CONFLICT DO NOTHING",
+                               [str(id), Holding.NONE.to_text()])
+                held = _locked(cursor, id) or Holding.NONE
+            after, given = change(held)
+            if after == held:
+                cursor.execute("ROLLBACK")
+                return given
+            cursor.execute("UPDATE osb_holdings SET holding = %s, unfinished = %s WHERE id = %s",
+                           [after.to_text(), after.is_unfinished, str(id)])
+            if cursor.rowcount != 1:
+                raise RuntimeError(f"the row of {id} is gone: somebody deletes rows")
+            cursor.execute("COMMIT")
+            if cursor.statusmessage != "COMMIT":
+                raise RuntimeError(f"the change of {id} was rolled back")
+            return given
+
+    def unfinished(self) -> List[Id]:
+        """As `Store` says."""
+        with self._sessions.session() as session, session.cursor() as cursor:
+            cursor.execute("SELECT id::text FROM osb_holdings WHERE unfinished ORDER BY id")
+            return [Id.of(text) for (text,) in cursor.fetchall()]
+
+
+def _locked(cursor: Any, id: Id) -> Optional[Holding]:
+    """The instance's row, which is locked until the transaction ends, or None where there is none."""
+    return _read(cursor, id, " FOR UPDATE")
+
+
+def _read(cursor: Any, id: Id, how: str) -> Optional[Holding]:
+    cursor.execute(f"SELECT holding FROM osb_holdings WHERE id = %s{how}", [str(id)])
+    found = cursor.fetchone()
+    return None if found is None else Holding.from_text(found[0])

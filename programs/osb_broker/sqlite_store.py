@@ -1,0 +1,125 @@
+"""Holdings in a file of SQLite, for many requests at once."""
+from __future__ import annotations
+
+import contextlib
+import functools
+import os
+import sqlite3
+import threading
+from typing import Any, Callable, List, Optional, Tuple, TypeVar, Union
+
+from osb import Holding, Id
+from osb.stores import Change
+
+T = TypeVar("T")
+
+
+class _Asked:
+    """A change that waits to be written, and then what came of it."""
+
+    def __init__(self, id: Id, change: Change[Any]) -> None:
+        self.id, self.change = id, change
+        self.is_done = False
+        self.given: Any = None
+        self.error: Optional[BaseException] = None
+
+
+class SqliteStore:
+    """A store in a file of SQLite. Any number of threads, and of processes of one machine, may use it.
+
+    What changes nothing is read, and waits for nobody. Changes that come while others are being written are written
+    together: the next thread to write takes all that wait, and one commit puts them on disk. None is given back before
+    that commit has returned.
+    """
+
+    def __init__(self, path: Union[str, "os.PathLike[str]"], seconds: float = 30.0) -> None:
+        """`seconds`: how long a transaction waits for those of other processes, before it raises
+        sqlite3.OperationalError.
+        """
+        self._path, self._seconds = path, seconds
+        self._guard, self._writing = threading.Lock(), threading.Lock()
+        self._waiting: List[_Asked] = []
+        self._threads = threading.local()
+        self._writer = self._opened()
+        self._writer.execute("CREATE TABLE IF NOT EXISTS holdings (id TEXT PRIMARY KEY, holding TEXT NOT NULL, "
+                             "unfinished INTEGER NOT NULL) WITHOUT ROWID")
+        self._writer.execute("CREATE INDEX IF NOT EXISTS unfinished_holdings ON holdings (id) WHERE unfinished")
+
+    def update(self, id: Id, change: Callable[[Holding], Tuple[Holding, T]]) -> T:
+        """As `Store` says."""
+        held = _held(self._reader(), id)
+        after, given = change(held)
+        if after == held:
+            return given
+        asked = _Asked(id, change)
+        with self._guard:
+            self._waiting.append(asked)
+        with self._writing:
+            if not asked.is_done:
+                with self._guard:
+                    together, self._waiting = self._waiting, []
+                self._write(together)
+        if asked.error is not None:
+            raise asked.error
+        written: T = asked.given
+        return written
+
+    def unfinished(self) -> List[Id]:
+        """As `Store` says."""
+        found = self._reader().execute("SELECT id FROM holdings WHERE unfinished ORDER BY id").fetchall()
+        return [Id.of(text) for (text,) in found]
+
+    def _write(self, together: List[_Asked]) -> None:
+        """Writes these changes in one transaction. A change that raises is left out of it; where the transaction
+        itself fails, none is written.
+        """
+        try:
+            self._writer.execute("BEGIN IMMEDIATE")
+            for asked in together:
+                self._step(asked)
+            self._writer.execute("COMMIT")
+        except BaseException as error:
+            with contextlib.suppress(sqlite3.Error):
+                self._writer.execute("ROLLBACK")
+            for asked in together:
+                asked.error = error
+        for asked in together:
+            asked.is_done = True
+
+    def _step(self, asked: _Asked) -> None:
+        try:
+            held = _held(self._writer, asked.id)
+            after, asked.given = asked.change(held)
+            text, is_unfinished = after.to_text(), after.is_unfinished
+        except sqlite3.Error:
+            raise
+        except Exception as error:
+            asked.error = error
+            return
+        if after != held:
+            self._writer.execute(
+                "INSERT INTO holdings VALUES (?, ?, ?) ON CONFLICT (id) "
+                "DO UPDATE SET holding = excluded.holding, unfinished = excluded.unfinished",
+                [str(asked.id), text, is_unfinished])
+
+    def _reader(self) -> sqlite3.Connection:
+        """The connection of this thread, which reads what is committed."""
+        found: Optional[sqlite3.Connection] = getattr(self._threads, "reader", None)
+        if found is None:
+            found = self._threads.reader = self._opened()
+        return found
+
+    def _opened(self) -> sqlite3.Connection:
+        made = sqlite3.connect(self._path, timeout=self._seconds, isolation_level=None, check_same_thread=False)
+        made.execute("PRAGMA journal_mode = WAL")
+        made.execute("PRAGMA synchronous = FULL")  # a commit that has returned is on disk
+        return made
+
+
+# Holdings that are read again and again are those at rest, which name no instance: few have another text.
+_read = functools.lru_cache(1024)(Holding.from_text)
+
+
+def _held(database: sqlite3.Connection, id: Id) -> Holding:
+    found: Optional[Tuple[str]] = database.execute("SELECT holding FROM holdings WHERE id = ?", [str(id)]).fetchone()
+    return Holding.NONE if found is None else _read(found[0])

@@ -1,0 +1,62 @@
+"""The table in a file of SQLite: any number of processes of one machine, one writing transaction at a time."""
+from __future__ import annotations
+
+import contextlib
+import fcntl
+import sqlite3
+import threading
+import time
+from pathlib import Path
+from typing import Any, Iterator, List, Sequence, Tuple
+
+from osb_platform.instances import Execute
+
+
+class SqliteDatabase:
+    """A file of SQLite. Threads of this process write through one connection, in turn."""
+
+    locking = skipping = ""  # BEGIN IMMEDIATE keeps all others from writing
+
+    def __init__(self, path: Path, seconds: float = 60.0) -> None:
+        """`seconds`: how long a transaction waits for those of other processes, before it raises
+        sqlite3.OperationalError.
+        """
+        self._path, self._guard = path, threading.Lock()
+        self._connection = sqlite3.connect(path, timeout=seconds, isolation_level=None, check_same_thread=False)
+        self._connection.execute("PRAGMA journal_mode = WAL")
+        self._connection.execute("PRAGMA synchronous = FULL")  # a commit that has returned is on disk
+
+    @contextlib.contextmanager
+    def transaction(self) -> Iterator[Execute]:
+        """As `Database` says."""
+        with self._guard:
+            self._connection.execute("BEGIN IMMEDIATE")
+            try:
+                yield self._execute
+                self._connection.execute("COMMIT")
+            except BaseException:
+                with contextlib.suppress(sqlite3.Error):
+                    self._connection.execute("ROLLBACK")
+                raise
+
+    def is_taken(self, error: Exception) -> bool:
+        """As `Database` says."""
+        return isinstance(error, sqlite3.IntegrityError)
+
+    def now(self) -> float:
+        """As `Database` says: all are on this machine."""
+        return time.time()
+
+    @contextlib.contextmanager
+    def only(self, worker: str) -> Iterator[bool]:
+        """As `Database` says. The lock is held on a file beside the database, and ends with the process."""
+        with open(f"{self._path}.{worker}.lock", "w", encoding="utf-8") as file:
+            try:
+                fcntl.flock(file, fcntl.LOCK_EX | fcntl.LOCK_NB)
+                is_free = True
+            except OSError:
+                is_free = False
+            yield is_free
+
+    def _execute(self, statement: str, values: Sequence[Any]) -> List[Tuple[Any, ...]]:
+        return self._connection.execute(statement, values).fetchall()

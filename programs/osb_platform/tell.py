@@ -1,0 +1,87 @@
+"""What is shown: lists, one instance, and how a run goes on."""
+from __future__ import annotations
+
+import sys
+import threading
+import time
+from typing import Dict, List, Optional, TextIO, Tuple
+
+from osb_platform.instances import Instance
+
+_HEAD = ("id", "state", "since", "service", "plan")
+_ASKED = "removal is asked for"
+
+
+def lines(rows: List[Instance], is_terminal: bool) -> List[str]:
+    """A line for each row: with columns and a head on a terminal, else parted by tabs."""
+    cells = [(str(row.id), row.state, moment(row.since), str(row.service), str(row.plan)) for row in rows]
+    if not is_terminal:
+        return ["\t".join(it) for it in cells]
+    return [" ".join(cell.ljust(width) for cell, width in zip(it, (36, 16, 20, 36, 36))).rstrip()
+            for it in [_HEAD, *cells]]
+
+
+def waiting(rows: List[Instance]) -> Optional[str]:
+    """What waits for an operator, since when, and what to do; None where nothing does."""
+    unsettled = [row for row in rows if row.state == "unsettled"]
+    if not unsettled:
+        return None
+    since = moment(min(row.since for row in unsettled))
+    return f"{len(unsettled)} unsettled, the first since {since}: look at each, and then remove it"
+
+
+def members(row: Instance) -> List[Tuple[str, str]]:
+    """What is known of an instance, each with its name."""
+    known = [("id", str(row.id)), ("state", row.state), ("since", moment(row.since)), ("service", str(row.service)),
+             ("plan", str(row.plan))]
+    if row.removal:
+        known.append(("asked", _ASKED))
+    if row.due is not None:
+        known.append(("due", moment(row.due)))
+    if row.state in ("polling", "cleaning-polling") and row.polled_since is not None:
+        known.append(("polled since", moment(row.polled_since)))
+    if row.kept is not None:
+        known.append(("operation", row.kept.operation or "none"))
+        known.append(("record", row.kept.record.to_text()))
+    return known
+
+
+def moment(seconds: float) -> str:
+    """A time, in UTC; the year 9999 for all that is later."""
+    return time.strftime("%Y-%m-%dT%H:%M:%SZ", time.gmtime(min(seconds, 253402300799.0)))
+
+
+class Progress:
+    """How a run goes on: a line that is written anew on a terminal, and one for each new state into a pipe."""
+
+    def __init__(self, to: TextIO = sys.stdout) -> None:
+        self._to, self._guard = to, threading.Lock()
+        self.is_terminal = to.isatty()
+        self._shown, self._at = "", 0.0
+
+    def changed(self, row: Instance) -> None:
+        """A row has come to another state, which is written."""
+        if self.is_terminal:
+            return
+        with self._guard:
+            self._to.write(f"{moment(row.since)}\t{row.id}\t{row.state}\n")
+            self._to.flush()
+
+    def is_time(self) -> bool:
+        """Whether the counts are to be shown again."""
+        return self.is_terminal and time.monotonic() >= self._at
+
+    def counts(self, counts: Dict[str, int]) -> None:
+        """How many there are in each state."""
+        self._at = time.monotonic() + 1.0
+        text = ", ".join(f"{counts[state]} {state}" for state in sorted(counts)) or "nothing yet"
+        if text != self._shown:
+            self._to.write(f"\r{text.ljust(len(self._shown))}")
+            self._to.flush()
+            self._shown = text
+
+    def end(self) -> None:
+        """The last line is ended."""
+        if self._shown:
+            self._to.write("\n")
+            self._to.flush()

@@ -1,0 +1,1 @@
+"""What osb_broker and osb_platform share: PostgreSQL's sessions, secrets, the command line's words, crash points."""

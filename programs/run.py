@@ -1,0 +1,6 @@
+"""Runs a program of this folder: `run.py osb_broker WORD ..`. Started so, no module is taken from the current folder."""
+import runpy
+import sys
+
+if __name__ == "__main__":
+    runpy.run_module(sys.argv.pop(1), run_name="__main__", alter_sys=False)

@@ -1,0 +1,39 @@
+# Python for the programs of programs/: sourced by their launchers and by their checks.
+
+# python_with MODULE[,MODULE ..]: prints the first Python, 3.9 or later, that has the modules; its status is 0 where there
+# is one. What Debian installs is there for /usr/bin/python3 alone.
+python_with() {
+    local found
+    for found in python3 /usr/bin/python3; do
+        if "$found" -c "import sys, $1; sys.exit(sys.version_info < (3, 9))" 2>/dev/null; then
+            echo "$found"
+            return 0
+        fi
+    done
+    return 1
+}
+
+# run_program NAME PYTHON TOP WORD ..: runs the program of this name over the proved library, in the place of this shell:
+# that of $LIBOSB, else build/libosb.so, which is made first where it isn't there. Where it can't be run the status is 70.
+run_program() {
+    local name=$1 python=$2 top=$3
+    shift 3
+    if [ -z "${LIBOSB:-}" ]; then
+        export LIBOSB=$top/build/libosb.so
+        [ -e "$LIBOSB" ] || "$top/libosb" build "$top/build" || refuse_program "$name" "the library can't be built"
+    fi
+    [ -r "$LIBOSB" ] || refuse_program "$name" "the library $LIBOSB, which LIBOSB names, can't be read"
+    export PYTHONPATH=$top/programs:$top/python/src${PYTHONPATH:+:$PYTHONPATH}
+    exec "$python" "$top/programs/run.py" "${name//-/_}" "$@"
+}
+
+# wants_postgresql WORD ..: whether one of the words names a server of PostgreSQL.
+wants_postgresql() {
+    [[ " $* " == *[\ =]postgres*://* ]]
+}
+
+# refuse_program NAME TEXT: ends with status 70, and tells why on standard error.
+refuse_program() {
+    echo "$1: $2" >&2
+    exit 70
+}
