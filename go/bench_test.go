@@ -10,55 +10,109 @@ import (
 // How long each step takes from Go: go test -bench . -run none. Beside the values stand the same step through a handle
 // that has 1,000 instances, and a save and a load of these.
 func Benchmark(b *testing.B) {
-	wanted, sent := osb.Create(instance, service, plan, true)
-	answer := osb.Answer{Status: 500, Body: osb.BodyOtherError}
-	cleaning, err := wanted.Answer(1, answer)
-	if err != nil {
-		b.Fatal(err)
+	s := newSteps(b)
+	for _, step := range append(append(s.ofRecords(), s.ofHoldings()...), s.ofTheWire()...) {
+		b.Run(step.name, func(b *testing.B) { repeat(b, step.call) })
 	}
-	var none osb.Holding
-	begun, _, err := none.Begin(osb.ModeSync, sent.Request)
-	if err != nil {
-		b.Fatal(err)
+	benchmarkHandle(b, s.failed)
+}
+
+// A step that is timed.
+type step struct {
+	name string
+	call func() error
+}
+
+// The values that the steps begin with.
+type steps struct {
+	sent                      osb.Sent
+	failed                    osb.Answer
+	wanted, cleaning, polling osb.Record
+	none, begun, running      osb.Holding
+	record, holding           []byte
+	asked                     osb.Asked
+}
+
+func newSteps(b *testing.B) steps {
+	s := steps{failed: osb.Answer{Status: 500, Body: osb.BodyOtherError}}
+	accepted := osb.Answer{Status: 202, Body: osb.BodyEmpty}
+	var errs [7]error
+	s.wanted, s.sent = osb.Create(instance, service, plan, true)
+	s.cleaning, errs[0] = s.wanted.Answer(1, s.failed)
+	s.polling, errs[1] = s.wanted.Answer(1, accepted)
+	s.begun, _, errs[2] = s.none.Begin(osb.ModeAsync, s.sent.Request)
+	s.running, _, errs[3] = s.begun.End(osb.ModeAsync, osb.OutcomeDone)
+	s.record, errs[4] = s.wanted.MarshalJSON()
+	s.holding, errs[5] = s.begun.MarshalJSON()
+	s.asked, errs[6] = osb.ReadRequest("", 1000, "PUT", target, []byte(provisionBody))
+	for _, err := range errs {
+		if err != nil {
+			b.Fatal(err)
+		}
 	}
-	record, err := wanted.MarshalJSON()
-	if err != nil {
-		b.Fatal(err)
-	}
-	holding, err := begun.MarshalJSON()
-	if err != nil {
-		b.Fatal(err)
-	}
-	for _, step := range []struct {
-		name string
-		call func() error
-	}{
-		{"Mitigates", func() error { osb.Mitigates(answer); return nil }},
+	return s
+}
+
+func (s steps) ofRecords() []step {
+	row := osb.PlatformRow{Service: service, Plan: plan, State: osb.StateReady, InFlight: osb.KindNone}
+	return []step{
+		{"Mitigates", func() error { osb.Mitigates(s.failed); return nil }},
 		{"ParseID", func() error { return second(osb.ParseID("00000000-0000-0000-0000-000000000001")) }},
+		{"ID.String", func() error { _ = instance.String(); return nil }},
 		{"Create", func() error { osb.Create(instance, service, plan, true); return nil }},
-		{"Record.Send", func() error { _, _, err := cleaning.Send(instance); return err }},
-		{"Record.Answer", func() error { return second(wanted.Answer(1, answer)) }},
-		{"Record.MarshalJSON", func() error { return second(wanted.MarshalJSON()) }},
-		{"Record.UnmarshalJSON", func() error { var read osb.Record; return read.UnmarshalJSON(record) }},
-		{"Holding.Fits", func() error { begun.Fits(osb.ModeSync); return nil }},
-		{"Holding.Begin", func() error { _, _, err := none.Begin(osb.ModeSync, sent.Request); return err }},
-		{"Holding.End", func() error { _, _, err := begun.End(osb.ModeSync, osb.OutcomeDone); return err }},
-		{"Holding.MarshalJSON", func() error { return second(begun.MarshalJSON()) }},
-		{"Holding.UnmarshalJSON", func() error { var read osb.Holding; return read.UnmarshalJSON(holding) }},
-		{"WriteTarget", func() error { return second(osb.WriteTarget("", sent.Request, nil)) }},
-		{"WriteBody", func() error { return second(osb.WriteBody(sent.Request, "org", "space", []byte("{}"))) }},
+		{"RecordFromRow", func() error { return second(osb.RecordFromRow(row)) }},
+		{"Record.Send", func() error { _, _, err := s.cleaning.Send(instance); return err }},
+		{"Record.Answer", func() error { return second(s.wanted.Answer(1, s.failed)) }},
+		{"Record.Timeout", func() error { return second(s.wanted.Timeout(1)) }},
+		{"Record.Expire", func() error { return second(s.polling.Expire()) }},
+		{"Record.Remove", func() error { return second(s.polling.Remove()) }},
+		{"Record.MarshalJSON", func() error { return second(s.wanted.MarshalJSON()) }},
+		{"Record.UnmarshalJSON", func() error { var read osb.Record; return read.UnmarshalJSON(s.record) }},
+	}
+}
+
+func (s steps) ofHoldings() []step {
+	return []step{
+		{"Holding.Fits", func() error { s.begun.Fits(osb.ModeAsync); return nil }},
+		{"Holding.Begin", func() error { _, _, err := s.none.Begin(osb.ModeAsync, s.sent.Request); return err }},
+		{"Holding.End", func() error { _, _, err := s.begun.End(osb.ModeAsync, osb.OutcomeDone); return err }},
+		{"Holding.Finish", func() error { return second(s.running.Finish(true)) }},
+		{"Holding.Handle", func() error {
+			_, _, err := s.running.Handle(osb.ModeAsync, s.sent.Request, osb.OutcomeDone)
+			return err
+		}},
+		{"WorkOf", func() error { osb.WorkOf(osb.KindProvision, osb.ModeSync); return nil }},
+		{"Holding.MarshalJSON", func() error { return second(s.begun.MarshalJSON()) }},
+		{"Holding.UnmarshalJSON", func() error { var read osb.Holding; return read.UnmarshalJSON(s.holding) }},
+	}
+}
+
+func (s steps) ofTheWire() []step {
+	version, operation := "2.17", "making 1"
+	catalogue := []byte(`{"services":[{"id":"` + service.String() + `","plans":[{"id":"` + plan.String() + `"}]}]}`)
+	return []step{
+		{"WriteMethod", func() error { return second(osb.WriteMethod(osb.KindPoll)) }},
+		{"WriteTarget", func() error { return second(osb.WriteTarget("", s.sent.Request, nil)) }},
+		{"WriteBody", func() error { return second(osb.WriteBody(s.sent.Request, "org", "space", []byte("{}"))) }},
+		{"ReadAnswer", func() error { return second(osb.ReadAnswer(osb.KindProvision, 201, []byte("{}"))) }},
+		{"ReadOperation", func() error { return second(osb.ReadOperation([]byte(`{"operation":"making 1"}`))) }},
+		{"RetryAfter", func() error { return second(osb.RetryAfter("120")) }},
 		{"ReadRequest", func() error {
 			return second(osb.ReadRequest("", 1000, "PUT", target, []byte(provisionBody)))
 		}},
-		{"WriteAnswer", func() error { return second(osb.WriteAnswer(answer, nil)) }},
-		{"ReadAnswer", func() error { return second(osb.ReadAnswer(osb.KindProvision, 201, []byte("{}"))) }},
+		{"Asked.Request", func() error { return second(s.asked.Request(osb.BrokerRow{}, false)) }},
+		{"AskedOperation", func() error { return second(osb.AskedOperation(target + "/last_operation?operation=making+1")) }},
+		{"WriteAnswer", func() error { return second(osb.WriteAnswer(s.failed, nil)) }},
+		{"WriteAnswer with an operation", func() error {
+			return second(osb.WriteAnswer(osb.Answer{Status: 202, Body: osb.BodyEmpty}, &operation))
+		}},
+		{"RefusalBody", func() error { return second(osb.RefusalBody(osb.ErrRefusedBody)) }},
+		{"APIVersion", func() error { return osb.APIVersion(&version) }},
 		{"BasicAuth", func() error {
 			return osb.BasicAuth("Basic QWxhZGRpbjpvcGVuIHNlc2FtZQ==", "Aladdin", "open sesame")
 		}},
-	} {
-		b.Run(step.name, func(b *testing.B) { repeat(b, step.call) })
+		{"CataloguePlans", func() error { return second(osb.CataloguePlans(catalogue)) }},
 	}
-	benchmarkHandle(b, answer)
 }
 
 func repeat(b *testing.B, call func() error) {
