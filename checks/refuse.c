@@ -13,7 +13,8 @@
                      with "returned "; else all of them count
      COUNTS=FILE     where to write at the end how many allocations there were, how many came before the
                      first read, how many were refused, how many reads there were, how many writes on
-                     standard output, and how many of those came before the end of standard input
+                     standard output, how many of those came before the end of standard input, and how many
+                     bytes one read of standard input asked for at most
 
    A program that hasn't ended after twenty seconds is ended by SIGALRM. It needs the GNU C library, whose
    __libc_malloc and so on do the work. */
@@ -35,7 +36,7 @@ static unsigned long refuse, fail_read, fail_write;
 static int refuse_on, cut_reads, cut_writes, told_calls;
 static enum failure failure;
 
-static unsigned long allocations, early_allocations, refusals, reads, writes, early_writes;
+static unsigned long allocations, early_allocations, refusals, reads, writes, early_writes, largest_read;
 static int counting, input_ended;
 
 static unsigned long number(const char *name)
@@ -71,13 +72,13 @@ __attribute__((constructor)) static void begin(void)
 __attribute__((destructor)) static void end(void)
 {
     const char *name = getenv("COUNTS");
-    char text[160];
+    char text[180];
     int file, length;
     counting = 0;
     if (!name)
         return;
-    length = snprintf(text, sizeof text, "%lu %lu %lu %lu %lu %lu\n", allocations, early_allocations, refusals, reads,
-                      writes, early_writes);
+    length = snprintf(text, sizeof text, "%lu %lu %lu %lu %lu %lu %lu\n", allocations, early_allocations, refusals,
+                      reads, writes, early_writes, largest_read);
     file = open(name, O_WRONLY | O_CREAT | O_TRUNC, 0666);
     if (file < 0 || syscall(SYS_write, file, text, (size_t)length) != length)
         _exit(99);
@@ -130,6 +131,8 @@ ssize_t read(int file, void *buffer, size_t length)
     ssize_t count;
     if (reads == 0)
         early_allocations = allocations;
+    if (file == STDIN_FILENO && length > largest_read)
+        largest_read = length;
     if (++reads == fail_read)
         return fail();
     count = syscall(SYS_read, file, buffer, cut(cut_reads, length));

@@ -2,7 +2,7 @@
  * row, and the statuses in their order. */
 #include "suite.h"
 
-static void new_broker(struct osb_broker *broker)
+void new_broker(struct osb_broker *broker)
 {
     struct osb_plan plans[3];
     memset(plans, 0, sizeof plans);
@@ -34,14 +34,16 @@ static void bring_broker_to(struct osb_broker *broker, uint64_t plan, uint8_t ph
         CHECK(osb_broker_finish(broker, I, false) == OSB_DONE);
 }
 
-/* Whether the broker's row of the instance has the plan and the phase, or there is none. */
+/* Whether the broker's row of the instance has the service S, the plan and the phase, or there is none. */
 static bool holds(struct osb_broker *broker, uint64_t plan, uint8_t phase)
 {
-    struct osb_broker_row row = {0};
+    struct osb_broker_row row = some_broker_row, wanted = {{0, 0xa0}, {0, 0}, 0};
     uint32_t status = osb_broker_row(broker, I, &row);
     if (phase == NO_ROW)
-        return status == OSB_NOT_HELD;
-    return status == OSB_DONE && row.phase == phase && row.plan.low == plan && row.service.low == 0xa0;
+        return status == OSB_NOT_HELD && is_same_broker_row(row, some_broker_row);
+    wanted.plan.low = plan;
+    wanted.phase = phase;
+    return status == OSB_DONE && is_same_broker_row(row, wanted);
 }
 
 /* Whether the broker handles the request and gives this answer. */
@@ -77,25 +79,45 @@ static void check_rules(void)
             check_rule(broker_tables[table].kind, &broker_tables[table].rules[at], at);
 }
 
-/* Another service is another plan, and isn't on sale because one of its plans is. */
-static void check_service(void)
+/* Another service is another plan, and isn't on sale because one of its plans is: a request for a plan of the service
+ * of this number. T, which is 0xa1, has the plan 0xb1, and there is no service 0xb3. Nothing changes. */
+static const struct other_service {
+    uint64_t row_plan;
+    uint8_t phase, kind;
+    uint64_t service, plan;
+    bool accepts;
+    uint8_t outcome;
+    uint16_t status;
+} other_services[] = {
+    {0xb2, NO_ROW, OSB_KIND_PROVISION, 0xa1, 0xb2, true, OSB_OUTCOME_DONE, 400},
+    {0xb1, NO_ROW, OSB_KIND_PROVISION, 0xb3, 0xb1, true, OSB_OUTCOME_DONE, 400},
+    {0xb1, OSB_PHASE_READY, OSB_KIND_PROVISION, 0xa1, 0xb1, true, OSB_OUTCOME_DONE, 409},
+    {0xb1, OSB_PHASE_READY, OSB_KIND_PROVISION, 0xa1, 0xb1, false, OSB_OUTCOME_DONE, 409},
+    {0xb1, OSB_PHASE_READY, OSB_KIND_DEPROVISION, 0xa1, 0xb1, true, OSB_OUTCOME_DONE, 400},
+    {0xb1, OSB_PHASE_READY, OSB_KIND_DEPROVISION, 0xb3, 0xb1, true, OSB_OUTCOME_DONE, 400},
+    {0xb1, OSB_PHASE_READY, OSB_KIND_POLL, 0xa1, 0xb1, true, OSB_OUTCOME_DONE, 400},
+    {0xb2, OSB_PHASE_READY, OSB_KIND_POLL, 0xb3, 0xb1, true, OSB_OUTCOME_AFTER, 400},
+};
+
+static void check_service(const struct other_service *line, size_t row)
 {
     struct osb_broker broker = {0};
-    struct osb_request request = asked(OSB_KIND_PROVISION, 0xb2, true);
+    struct osb_request request = asked(line->kind, line->plan, line->accepts);
 
+    request.service.low = line->service;
     new_broker(&broker);
-    request.service = T;
-    CHECK(answers(&broker, request, OSB_OUTCOME_DONE, 400, OSB_BODY_OTHER_ERROR));
-    CHECK(holds(&broker, 0xb2, NO_ROW));
-    bring_broker_to(&broker, 0xb1, OSB_PHASE_READY);
-    request.plan = P;
-    CHECK(answers(&broker, request, OSB_OUTCOME_DONE, 409, OSB_BODY_OTHER_ERROR));
-    request.kind = OSB_KIND_DEPROVISION;
-    CHECK(answers(&broker, request, OSB_OUTCOME_DONE, 400, OSB_BODY_OTHER_ERROR));
-    request.kind = OSB_KIND_POLL;
-    CHECK(answers(&broker, request, OSB_OUTCOME_DONE, 400, OSB_BODY_OTHER_ERROR));
-    CHECK(holds(&broker, 0xb1, OSB_PHASE_READY));
+    bring_broker_to(&broker, line->row_plan, line->phase);
+    CHECK_ROW(row, holds(&broker, line->row_plan, line->phase));
+    CHECK_ROW(row, answers(&broker, request, line->outcome, line->status, OSB_BODY_OTHER_ERROR));
+    CHECK_ROW(row, holds(&broker, line->row_plan, line->phase));
     osb_broker_free(&broker);
+}
+
+static void check_services(void)
+{
+    size_t at;
+    for (at = 0; at < COUNT(other_services); at++)
+        check_service(&other_services[at], at);
 }
 
 /* ---- The broker by itself: an instance of each plan, by calls in a row, and the statuses that no table has. */
@@ -108,6 +130,7 @@ static void check_synchronous(void)
 
     of_j.id = J;
     new_broker(&broker);
+    CHECK(holds(&broker, 0xb1, NO_ROW));
     CHECK(answers(&broker, asked(OSB_KIND_PROVISION, 0xb1, false), OSB_OUTCOME_DONE, 201, OSB_BODY_EMPTY));
     CHECK(holds(&broker, 0xb1, OSB_PHASE_READY));
     CHECK(answers(&broker, asked(OSB_KIND_PROVISION, 0xb1, false), OSB_OUTCOME_DONE, 200, OSB_BODY_EMPTY));
@@ -184,7 +207,7 @@ static void check_broker(void)
 void check_brokers(void)
 {
     check_rules();
-    check_service();
+    check_services();
     check_synchronous();
     check_asynchronous();
     check_broker();

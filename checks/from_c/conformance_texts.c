@@ -10,6 +10,8 @@ enum { LONGEST_RECORD = 179, LONGEST_HOLDING = 351 };
 #define SERVICE "\"service\":" ID("a0")
 #define WORK(kind) "{\"accepts_incomplete\":true,\"id\":" ID("01") ",\"kind\":\"" kind "\"," PLAN "," SERVICE "}"
 #define ROW(phase) "{\"phase\":\"" phase "\"," PLAN "," SERVICE "}"
+#define RECORD_OF(plan) \
+    "{\"attempt\":1,\"out\":null,\"plan\":" plan "," SERVICE ",\"state\":\"ready\",\"version\":1}"
 #define RECORD(attempt, out, state) \
     "{\"attempt\":" attempt ",\"out\":" out "," PLAN "," SERVICE ",\"state\":\"" state "\",\"version\":1}"
 #define HOLDING(marked, row, work) "{\"marked\":" marked ",\"row\":" row ",\"version\":1,\"work\":" work "}"
@@ -126,8 +128,11 @@ static const struct text_fault {
     {OSB_BAD_MEMBER, RECORD("1", "\"none\"", "ready")},
     {OSB_BAD_MEMBER, RECORD("1", "null", "done")},
     {OSB_BAD_MEMBER, RECORD("1", "null", "Ready")},
-    {OSB_BAD_MEMBER,
-     "{\"attempt\":1,\"out\":null,\"plan\":" ID("B1") "," SERVICE ",\"state\":\"ready\",\"version\":1}"},
+    {OSB_BAD_MEMBER, RECORD_OF(ID("B1"))},
+    {OSB_BAD_MEMBER, RECORD_OF(ID("CD"))},
+    {OSB_BAD_MEMBER, RECORD_OF(ID("cD"))},
+    {OSB_BAD_MEMBER, RECORD_OF("\"\"")},
+    {OSB_BAD_MEMBER, RECORD_OF("\"000000000000000000000000000000cd\"")},
     {OSB_BAD_MEMBER, "{\"attempt\":1,\"out\":null," PLAN ",\"service\":160,\"state\":\"ready\",\"version\":1}"},
     {OSB_IMPOSSIBLE, RECORD("1", "null", "wanted")},
     {OSB_IMPOSSIBLE, RECORD("2", "\"provision\"", "wanted")},
@@ -137,6 +142,15 @@ static const struct text_fault {
     {OSB_IMPOSSIBLE, RECORD("1", "\"deprovision\"", "gone")},
     {OSB_IMPOSSIBLE, RECORD("0", "\"poll\"", "polling")},
 };
+
+/* An id is read in lower case alone. */
+static void check_lower_case(void)
+{
+    static const char *const text = RECORD_OF(ID("cd"));
+    struct osb_record read = some_record, wanted = {{0, 0xa0}, {0, 0xcd}, 1, OSB_STATE_READY, OSB_KIND_NONE};
+    CHECK(read_record(text, strlen(text), &read) == OSB_DONE && is_same_record(&read, &wanted));
+    check_text(write_record, &read, text, strlen(text), 0);
+}
 
 static void check_record_faults(void)
 {
@@ -304,6 +318,7 @@ void check_texts(void)
     check_record_texts();
     check_every_record();
     check_record_faults();
+    check_lower_case();
     check_holding_texts();
     check_other_texts();
     check_nesting();

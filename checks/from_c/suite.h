@@ -105,10 +105,14 @@ extern const struct rules broker_tables[3];
 /* How S's plan of this number works, as a number. */
 uint8_t mode_of_plan(uint64_t plan);
 
+/* Makes a broker without instances. S has the plan P, which is synchronous, and Q, which isn't; T has P. */
+void new_broker(struct osb_broker *broker);
+
 /* ---- The parts. */
 
 void check_platforms(void); /* the platform behind a handle, and its saved record */
 void check_brokers(void);   /* the broker behind a handle */
+void check_many(void);      /* many instances behind a handle, and many plans */
 void check_records(void);   /* what a platform records of one instance */
 void check_holdings(void);  /* what a broker holds of one instance */
 void check_texts(void);     /* the texts of both */

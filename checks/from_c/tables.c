@@ -75,14 +75,18 @@ const struct due dues[] = {
 const size_t due_count = COUNT(dues);
 
 static const struct rule provision_rules[] = {
-    /* 1: the pair isn't on sale */
+    /* 1: the pair isn't on sale, whatever there is */
     {0, NO_ROW, 0xb3, true, OSB_OUTCOME_DONE, 400, OSB_BODY_OTHER_ERROR, NO_ROW},
-    /* 2: asynchronous, and that isn't accepted */
+    {0xb1, OSB_PHASE_READY, 0xb3, true, OSB_OUTCOME_DONE, 400, OSB_BODY_OTHER_ERROR, OSB_PHASE_READY},
+    /* 2: asynchronous, and that isn't accepted, also where it is another plan */
     {0, NO_ROW, 0xb2, false, OSB_OUTCOME_DONE, 422, OSB_BODY_ASYNC_REQUIRED, NO_ROW},
-    /* 3: another plan */
+    {0xb1, OSB_PHASE_READY, 0xb2, false, OSB_OUTCOME_DONE, 422, OSB_BODY_ASYNC_REQUIRED, OSB_PHASE_READY},
+    /* 3: another plan, also while the instance is made */
     {0xb1, OSB_PHASE_READY, 0xb2, true, OSB_OUTCOME_DONE, 409, OSB_BODY_OTHER_ERROR, OSB_PHASE_READY},
-    /* 4 to 7: making, ready, deleting, failed and delete-failed */
+    {0xb2, OSB_PHASE_MAKING, 0xb1, false, OSB_OUTCOME_DONE, 409, OSB_BODY_OTHER_ERROR, OSB_PHASE_MAKING},
+    /* 4 to 7: making, ready, deleting, failed and delete-failed; the outcome counts for nothing */
     {0xb2, OSB_PHASE_MAKING, 0xb2, true, OSB_OUTCOME_DONE, 202, OSB_BODY_EMPTY, OSB_PHASE_MAKING},
+    {0xb2, OSB_PHASE_MAKING, 0xb2, true, OSB_OUTCOME_AFTER, 202, OSB_BODY_EMPTY, OSB_PHASE_MAKING},
     {0xb1, OSB_PHASE_READY, 0xb1, false, OSB_OUTCOME_BEFORE, 200, OSB_BODY_EMPTY, OSB_PHASE_READY},
     {0xb2, OSB_PHASE_READY, 0xb2, true, OSB_OUTCOME_DONE, 200, OSB_BODY_EMPTY, OSB_PHASE_READY},
     {0xb2, OSB_PHASE_DELETING, 0xb2, true, OSB_OUTCOME_DONE, 422, OSB_BODY_CONCURRENCY_ERROR, OSB_PHASE_DELETING},
@@ -90,47 +94,68 @@ static const struct rule provision_rules[] = {
     {0xb2, OSB_PHASE_DELETE_FAILED, 0xb2, true, OSB_OUTCOME_DONE, 500, OSB_BODY_OTHER_ERROR, OSB_PHASE_DELETE_FAILED},
     /* 8 to 11: no row */
     {0, NO_ROW, 0xb1, false, OSB_OUTCOME_BEFORE, 500, OSB_BODY_OTHER_ERROR, NO_ROW},
+    {0, NO_ROW, 0xb2, true, OSB_OUTCOME_BEFORE, 500, OSB_BODY_OTHER_ERROR, NO_ROW},
     {0, NO_ROW, 0xb1, false, OSB_OUTCOME_AFTER, 500, OSB_BODY_OTHER_ERROR, OSB_PHASE_READY},
     {0, NO_ROW, 0xb2, true, OSB_OUTCOME_AFTER, 500, OSB_BODY_OTHER_ERROR, OSB_PHASE_MAKING},
     {0, NO_ROW, 0xb1, false, OSB_OUTCOME_DONE, 201, OSB_BODY_EMPTY, OSB_PHASE_READY},
+    {0, NO_ROW, 0xb1, true, OSB_OUTCOME_DONE, 201, OSB_BODY_EMPTY, OSB_PHASE_READY},
     {0, NO_ROW, 0xb2, true, OSB_OUTCOME_DONE, 202, OSB_BODY_EMPTY, OSB_PHASE_MAKING},
 };
 
 static const struct rule deprovision_rules[] = {
-    /* 1: no row */
+    /* 1: no row, whatever is asked */
     {0, NO_ROW, 0xb1, true, OSB_OUTCOME_DONE, 410, OSB_BODY_OTHER_ERROR, NO_ROW},
+    {0, NO_ROW, 0xb1, false, OSB_OUTCOME_DONE, 410, OSB_BODY_OTHER_ERROR, NO_ROW},
+    {0, NO_ROW, 0xb2, false, OSB_OUTCOME_BEFORE, 410, OSB_BODY_OTHER_ERROR, NO_ROW},
     /* 2: another plan */
     {0xb1, OSB_PHASE_READY, 0xb2, true, OSB_OUTCOME_DONE, 400, OSB_BODY_OTHER_ERROR, OSB_PHASE_READY},
-    /* 3: asynchronous, and that isn't accepted */
+    /* 3: asynchronous, and that isn't accepted, also while it is made */
     {0xb2, OSB_PHASE_READY, 0xb2, false, OSB_OUTCOME_DONE, 422, OSB_BODY_ASYNC_REQUIRED, OSB_PHASE_READY},
-    /* 4 and 5: making, deleting */
+    {0xb2, OSB_PHASE_MAKING, 0xb2, false, OSB_OUTCOME_DONE, 422, OSB_BODY_ASYNC_REQUIRED, OSB_PHASE_MAKING},
+    /* 4 and 5: making, deleting; the outcome counts for nothing */
     {0xb2, OSB_PHASE_MAKING, 0xb2, true, OSB_OUTCOME_DONE, 422, OSB_BODY_CONCURRENCY_ERROR, OSB_PHASE_MAKING},
+    {0xb2, OSB_PHASE_MAKING, 0xb2, true, OSB_OUTCOME_AFTER, 422, OSB_BODY_CONCURRENCY_ERROR, OSB_PHASE_MAKING},
     {0xb2, OSB_PHASE_DELETING, 0xb2, true, OSB_OUTCOME_DONE, 202, OSB_BODY_EMPTY, OSB_PHASE_DELETING},
+    {0xb2, OSB_PHASE_DELETING, 0xb2, true, OSB_OUTCOME_BEFORE, 202, OSB_BODY_EMPTY, OSB_PHASE_DELETING},
     /* 6 to 9, at a synchronous plan and at an asynchronous one in each phase where nothing runs */
     {0xb1, OSB_PHASE_READY, 0xb1, true, OSB_OUTCOME_BEFORE, 500, OSB_BODY_OTHER_ERROR, OSB_PHASE_READY},
+    {0xb1, OSB_PHASE_READY, 0xb1, false, OSB_OUTCOME_BEFORE, 500, OSB_BODY_OTHER_ERROR, OSB_PHASE_READY},
     {0xb1, OSB_PHASE_READY, 0xb1, true, OSB_OUTCOME_AFTER, 500, OSB_BODY_OTHER_ERROR, NO_ROW},
+    {0xb1, OSB_PHASE_READY, 0xb1, false, OSB_OUTCOME_AFTER, 500, OSB_BODY_OTHER_ERROR, NO_ROW},
     {0xb1, OSB_PHASE_READY, 0xb1, false, OSB_OUTCOME_DONE, 200, OSB_BODY_EMPTY, NO_ROW},
     {0xb2, OSB_PHASE_READY, 0xb2, true, OSB_OUTCOME_BEFORE, 500, OSB_BODY_OTHER_ERROR, OSB_PHASE_READY},
+    {0xb2, OSB_PHASE_FAILED, 0xb2, true, OSB_OUTCOME_BEFORE, 500, OSB_BODY_OTHER_ERROR, OSB_PHASE_FAILED},
+    {0xb2, OSB_PHASE_DELETE_FAILED, 0xb2, true, OSB_OUTCOME_BEFORE, 500, OSB_BODY_OTHER_ERROR, OSB_PHASE_DELETE_FAILED},
     {0xb2, OSB_PHASE_READY, 0xb2, true, OSB_OUTCOME_AFTER, 500, OSB_BODY_OTHER_ERROR, OSB_PHASE_DELETING},
+    {0xb2, OSB_PHASE_FAILED, 0xb2, true, OSB_OUTCOME_AFTER, 500, OSB_BODY_OTHER_ERROR, OSB_PHASE_DELETING},
+    {0xb2, OSB_PHASE_DELETE_FAILED, 0xb2, true, OSB_OUTCOME_AFTER, 500, OSB_BODY_OTHER_ERROR, OSB_PHASE_DELETING},
     {0xb2, OSB_PHASE_READY, 0xb2, true, OSB_OUTCOME_DONE, 202, OSB_BODY_EMPTY, OSB_PHASE_DELETING},
     {0xb2, OSB_PHASE_FAILED, 0xb2, true, OSB_OUTCOME_DONE, 202, OSB_BODY_EMPTY, OSB_PHASE_DELETING},
     {0xb2, OSB_PHASE_DELETE_FAILED, 0xb2, true, OSB_OUTCOME_DONE, 202, OSB_BODY_EMPTY, OSB_PHASE_DELETING},
 };
 
 static const struct rule poll_rules[] = {
-    /* 1: no row */
+    /* 1: no row, whatever is asked */
     {0, NO_ROW, 0xb1, true, OSB_OUTCOME_DONE, 410, OSB_BODY_OTHER_ERROR, NO_ROW},
+    {0, NO_ROW, 0xb2, false, OSB_OUTCOME_BEFORE, 410, OSB_BODY_OTHER_ERROR, NO_ROW},
     /* 2: another plan */
     {0xb1, OSB_PHASE_READY, 0xb2, true, OSB_OUTCOME_DONE, 400, OSB_BODY_OTHER_ERROR, OSB_PHASE_READY},
+    {0xb2, OSB_PHASE_MAKING, 0xb1, false, OSB_OUTCOME_DONE, 400, OSB_BODY_OTHER_ERROR, OSB_PHASE_MAKING},
     /* 3: the work fails */
     {0xb2, OSB_PHASE_MAKING, 0xb2, true, OSB_OUTCOME_BEFORE, 500, OSB_BODY_OTHER_ERROR, OSB_PHASE_MAKING},
+    {0xb2, OSB_PHASE_MAKING, 0xb2, false, OSB_OUTCOME_BEFORE, 500, OSB_BODY_OTHER_ERROR, OSB_PHASE_MAKING},
     {0xb2, OSB_PHASE_READY, 0xb2, true, OSB_OUTCOME_AFTER, 500, OSB_BODY_OTHER_ERROR, OSB_PHASE_READY},
+    {0xb2, OSB_PHASE_READY, 0xb2, false, OSB_OUTCOME_AFTER, 500, OSB_BODY_OTHER_ERROR, OSB_PHASE_READY},
     /* 4 to 6: the state of the last operation, whether an asynchronous one is accepted or not */
     {0xb2, OSB_PHASE_MAKING, 0xb2, true, OSB_OUTCOME_DONE, 200, OSB_BODY_IN_PROGRESS, OSB_PHASE_MAKING},
+    {0xb2, OSB_PHASE_MAKING, 0xb2, false, OSB_OUTCOME_DONE, 200, OSB_BODY_IN_PROGRESS, OSB_PHASE_MAKING},
     {0xb2, OSB_PHASE_DELETING, 0xb2, false, OSB_OUTCOME_DONE, 200, OSB_BODY_IN_PROGRESS, OSB_PHASE_DELETING},
+    {0xb2, OSB_PHASE_READY, 0xb2, false, OSB_OUTCOME_DONE, 200, OSB_BODY_SUCCEEDED, OSB_PHASE_READY},
     {0xb1, OSB_PHASE_READY, 0xb1, false, OSB_OUTCOME_DONE, 200, OSB_BODY_SUCCEEDED, OSB_PHASE_READY},
     {0xb2, OSB_PHASE_FAILED, 0xb2, true, OSB_OUTCOME_DONE, 200, OSB_BODY_FAILED, OSB_PHASE_FAILED},
+    {0xb2, OSB_PHASE_FAILED, 0xb2, false, OSB_OUTCOME_DONE, 200, OSB_BODY_FAILED, OSB_PHASE_FAILED},
     {0xb2, OSB_PHASE_DELETE_FAILED, 0xb2, true, OSB_OUTCOME_DONE, 200, OSB_BODY_FAILED, OSB_PHASE_DELETE_FAILED},
+    {0xb2, OSB_PHASE_DELETE_FAILED, 0xb2, false, OSB_OUTCOME_DONE, 200, OSB_BODY_FAILED, OSB_PHASE_DELETE_FAILED},
 };
 
 const struct rules broker_tables[3] = {

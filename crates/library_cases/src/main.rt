@@ -3,7 +3,10 @@
 //! which begin with `#`, and the lines that name a library, with nothing below.
 #![tactic(auto)]
 
+mod broker;
 mod instance;
+mod language;
+mod message;
 mod network;
 mod platform;
 mod wire;
@@ -15,7 +18,10 @@ use platform::Left;
 // Whose cases follow.
 #[derive(Clone, Copy)]
 enum Library {
+    Broker,
     Instance,
+    Language,
+    Message,
     Network,
     Platform,
     Wire,
@@ -24,7 +30,10 @@ enum Library {
 // The library of this name.
 fn named(name: &str) -> Result<Library> {
     match name {
+        "osb_broker" => Ok(Library::Broker),
         "osb_instance" => Ok(Library::Instance),
+        "osb_language" => Ok(Library::Language),
+        "osb_message" => Ok(Library::Message),
         "osb_network" => Ok(Library::Network),
         "osb_platform" => Ok(Library::Platform),
         "osb_wire" => Ok(Library::Wire),
@@ -44,7 +53,10 @@ fn main(rt: HostRuntime) -> Result<()> {
             of = named(name)?;
         } else if !text.is_empty() && !text.starts_with('#') {
             match of {
+                Library::Broker => broker::tell(&rt, text)?,
                 Library::Instance => instance::tell(&rt, rt.alloc(), text)?,
+                Library::Language => language::tell(&rt, text)?,
+                Library::Message => message::tell(&rt, rt.alloc(), text)?,
                 Library::Network => stepped = network::tell(&rt, rt.alloc(), stepped, text)?,
                 Library::Platform => platform::tell(&rt, rt.alloc(), &mut left, text)?,
                 Library::Wire => wire::tell(&rt, rt.alloc(), text)?,

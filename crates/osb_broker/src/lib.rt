@@ -27,6 +27,3 @@ pub use decision::{Decided, decide};
 pub use finishing::{NothingRunning, finished};
 pub use outcome::Outcome;
 pub use row::{BrokerRow, Phase};
-
-#[cfg(test)]
-mod tests;

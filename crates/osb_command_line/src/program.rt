@@ -83,6 +83,3 @@ pub fn end(rt: &impl Eprint, outcome: Result<(), ReplayFault>) -> ExitCode
         }
     }
 }
-
-#[cfg(test)]
-mod tests;

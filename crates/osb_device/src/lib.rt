@@ -20,6 +20,3 @@ mod output;
 pub use fault::DeviceFault;
 pub use input::Input;
 pub use output::Output;
-
-#[cfg(test)]
-mod tests;

@@ -195,6 +195,3 @@ impl MessageList {
         silence_entries(&mut self.entries);
     }
 }
-
-#[cfg(test)]
-mod tests;

@@ -25,6 +25,3 @@ pub use fault::LineFault;
 pub use limits::LONGEST_LINE;
 pub use line::{Line, read_line};
 pub use replay_fault::{ReplayFault, ScheduleFault, status_of};
-
-#[cfg(test)]
-mod tests;

@@ -66,6 +66,3 @@ pub fn status_of(fault: &ReplayFault) -> u8
         ReplayFault::Memory => 5,
     }
 }
-
-#[cfg(test)]
-mod tests;

@@ -113,6 +113,3 @@ impl Catalogue {
         entries_of(&self.modes)
     }
 }
-
-#[cfg(test)]
-mod tests;

@@ -232,6 +232,3 @@ impl<K> Id<K> {
         text
     }
 }
-
-#[cfg(test)]
-mod tests;

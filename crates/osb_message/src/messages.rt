@@ -138,6 +138,3 @@ pub fn well_formed(kind: Kind, answer: Answer) -> bool
         _ => false,
     }
 }
-
-#[cfg(test)]
-mod tests;

@@ -134,6 +134,3 @@ impl<V: Copy> Rows<V> {
         entries_of(&self.tree)
     }
 }
-
-#[cfg(test)]
-mod tests;

@@ -42,6 +42,3 @@ pub use osb_language::{Line, LineFault, ReplayFault, ScheduleFault, read_line, s
 pub use osb_lines::{Schedule, read_schedule};
 pub use osb_table::write_table;
 pub use replaying::replay;
-
-#[cfg(test)]
-mod tests;

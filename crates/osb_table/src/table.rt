@@ -136,6 +136,3 @@ pub fn write_table<W: Write>(writer: &mut Output<W>) -> Result<(), ReplayFault>
         Err(DeviceFault) => Err(ReplayFault::Write),
     }
 }
-
-#[cfg(test)]
-mod tests;

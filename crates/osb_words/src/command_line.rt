@@ -160,6 +160,3 @@ pub fn read_words(alloc: Global, words: &[String]) -> Result<Asked, WordsFault>
         Err(error) => Err(fault_by(alloc, &error)),
     }
 }
-
-#[cfg(test)]
-mod tests;

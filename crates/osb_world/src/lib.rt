@@ -25,6 +25,3 @@ pub use osb_event::Event;
 pub use running::run;
 pub use step::Step;
 pub use world::World;
-
-#[cfg(test)]
-mod tests;

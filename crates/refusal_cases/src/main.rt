@@ -1,5 +1,5 @@
-//! The library calls that may run out of memory, `replay` and the command line's aside: each made where a
-//! check refuses one of its allocations, and made again after the refusal.
+//! The library calls that may run out of memory, the command line's aside: each made where a check refuses
+//! one of its allocations, and made again after the refusal.
 //!
 //! `refusal_cases PART` tells one part, without a word it tells all of them, and `refusal_cases parts`
 //! names them. Four lines tell of a call: what there is before it (`before`), its name (`call`), what it
@@ -13,6 +13,7 @@ mod instance;
 mod instances;
 mod network;
 mod platform;
+mod replays;
 mod rows;
 mod schedules;
 mod telling;
@@ -24,7 +25,7 @@ use std::alloc::Global;
 use std::env;
 
 // The parts, in the order in which they are told.
-const PARTS: [&str; 24] = [
+const PARTS: [&str; 25] = [
     "rows-insert",
     "rows-ids",
     "catalogue-add",
@@ -45,6 +46,7 @@ const PARTS: [&str; 24] = [
     "world-save",
     "run",
     "read-schedule",
+    "replay",
     "wire",
     "instance",
     "network-steps",
@@ -73,6 +75,7 @@ fn tell(rt: &impl Print, alloc: Global, part: &str) -> Result<()> {
         "world-save" => world::save(rt, alloc),
         "run" => world::run_events(rt, alloc),
         "read-schedule" => schedules::read(rt, alloc),
+        "replay" => replays::tell_all(rt, alloc),
         "wire" => wire::calls(rt, alloc),
         "instance" => instance::calls(rt, alloc),
         "network-steps" => network::steps(rt, alloc),

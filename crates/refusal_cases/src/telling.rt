@@ -2,6 +2,7 @@
 use anyhow::Result;
 use osb_message::{Answer, InstanceId, Memory};
 use osb_platform::SaveFault;
+use osb_schedule::ScheduleFault;
 use std::alloc::Global;
 
 // How often a call is made: once more after a refusal.
@@ -13,6 +14,7 @@ pub enum Returned {
     Memory,
     Word(&'static str),
     Answer(Answer),
+    Fault(ScheduleFault),
     Ids(Vec<InstanceId>),
     Text(String),
 }
@@ -51,6 +53,7 @@ fn tell_returned(rt: &impl Print, returned: &Returned) -> Result<()> {
         Returned::Memory => println!(rt; "returned Memory")?,
         Returned::Word(word) => println!(rt; "returned {word}")?,
         Returned::Answer(answer) => println!(rt; "returned {answer:?}")?,
+        Returned::Fault(fault) => println!(rt; "returned {fault}")?,
         Returned::Ids(ids) => println!(rt; "returned {ids:?}")?,
         Returned::Text(text) => println!(rt; "returned {text}")?,
     }

@@ -32,9 +32,9 @@ struct WorldCase {
 // What the platform records of an instance, what the broker holds, the request that is out and the
 // answer that travels.
 fn cell_text(alloc: Global, world: &World, id: InstanceId) -> Result<String> {
+    let record = world.platform_row(id).map(|row| row.state);
+    let row = world.broker_row(id).map(|row| row.phase);
     let cell = world.cell(id);
-    let record = cell.platform.map(|row| row.state);
-    let row = cell.broker.map(|row| row.phase);
     let out = cell.out.map(|request| request.kind);
     let answer = cell.travelling;
     Ok(format!(in alloc; "{record:?} {row:?} {out:?} {answer:?}")?)
@@ -49,6 +49,17 @@ fn stepped(returned: Result<Step, Memory>) -> Returned {
 }
 
 impl WorldCase {
+    // The instance that the call is made on, if it is made on one.
+    fn named(&self) -> Option<InstanceId> {
+        match self.call {
+            Call::Step(event) => event.id(),
+            Call::SettleFirst => Some(first()),
+            Call::SettleSecond => Some(second()),
+            Call::SettleThird => Some(third()),
+            Call::Ids | Call::Save | Call::Run => None,
+        }
+    }
+
     fn settle(&mut self, id: InstanceId) -> Returned {
         self.world.settle(id);
         Returned::Word("nothing")
@@ -72,7 +83,11 @@ impl Case for WorldCase {
     fn state(&self, alloc: Global) -> Result<String> {
         let one = cell_text(alloc, &self.world, first())?;
         let two = cell_text(alloc, &self.world, second())?;
-        Ok(format!(in alloc; "{one}; {two}")?)
+        if self.named() != Some(third()) {
+            return Ok(format!(in alloc; "{one}; {two}")?);
+        }
+        let three = cell_text(alloc, &self.world, third())?;
+        Ok(format!(in alloc; "{one}; {two}; {three}")?)
     }
 
     fn call(&mut self) -> Returned {
