@@ -16,8 +16,9 @@ from osb_broker.catalogue import default
 from osb_broker.points import POINTS as BROKER_POINTS
 from osb_platform.points import POINTS as PLATFORM_POINTS
 from storming.audit import REST, Audit
-from storming.faults import KINDS, SLOW_KINDS, Faults
+from storming.faults import KINDS, SHARE, SLOW_KINDS, SLOW_SHARE, Faults
 from storming.gateway import haproxy
+from storming.log import Log
 from storming.operator import ORDER_POINTS, Operator, python_environment
 from storming.places import Places, places
 from storming.programs import Killed, Program
@@ -40,7 +41,7 @@ class Storm:
         """`ports`: where the brokers listen. `entrances`: where they are reached."""
         self._asked, self._folder, self._at = asked, folder, at
         self._environment = python_environment(_TOP, asked.seed)
-        self.faults = Faults(asked.seed, asked.faults, SLOW_KINDS if asked.without == "attempts" else KINDS)
+        self.faults = _faults(asked)
         self._proxy = Proxy(self.faults, entrances)
         # not asked for, so that a platform that is killed after some seconds has sent something
         self._catalogue = folder / "catalogue.json"
@@ -54,9 +55,10 @@ class Storm:
             points = []
         broker_points = [] if asked.without in _OTHER_BROKERS else chance.sample(BROKER_POINTS, len(BROKER_POINTS))
         is_disturbed = "postgresql" in (asked.store, asked.backend)
-        self.platform = Killed(self._platform(), points, Random(f"{asked.seed} platform"), is_disturbed)
+        self._log = Log(asked.log)
+        self.platform = Killed(self._platform(), points, Random(f"{asked.seed} platform"), is_disturbed, self._log)
         self.brokers = [Killed(self._broker(at, n), broker_points[n::len(ports)], Random(f"{asked.seed} broker {n}"),
-                               is_disturbed) for n, at in enumerate(ports)]
+                               is_disturbed, self._log) for n, at in enumerate(ports)]
         self.operator = Operator(at.instances, asked.seed, asked.instances, asked.seconds)
         self.audit = Audit(at.instances, at.holdings, at.things)
         self.orders_hit: List[str] = []
@@ -118,8 +120,12 @@ class Storm:
         while not stop.wait(0.25):
             try:
                 self.audit.look()
+                self._count()
             except Exception as error:
                 self.failed.append(repr(error))
+
+    def _count(self, is_last: bool = False) -> None:
+        self._log.count((state for _, state in self._at.instances.states()), is_last)
 
     def _settle(self) -> None:
         """No more faults: waits until all that was late has come, and every instance is at rest."""
@@ -127,7 +133,9 @@ class Storm:
         for program in (self.platform, *self.brokers):
             program.calm()
         began = time.monotonic()
+        self._log.say(calm=True)
         while time.monotonic() < began + self._asked.settle:
+            self._count()
             states = [state for _, state in self._at.instances.states()]
             is_late = time.monotonic() > began + _LATE and self._proxy.in_flight == 0
             if is_late and all(state in REST and state != "unsettled" for state in states):
@@ -135,6 +143,7 @@ class Storm:
                 break
             self.operator.clear()
             time.sleep(0.3)
+        self._count(is_last=True)
         self.audit.look()
 
     def _broker(self, port: int, number: int) -> Program:
@@ -149,14 +158,19 @@ class Storm:
 
     def _platform(self) -> Program:
         words = ["run", "--broker", f"http://127.0.0.1:{self._proxy.port()}", *self._at.platform_words, "--seconds",
-                 "2", "--pace", "0.1", "--longest-pace", "1", "--look-seconds", "0.2", "--longest-poll", "1.5", "--catalog",
-                 str(self._catalogue)]
+                 "2", "--pace", "0.1", "--longest-pace", "1", "--look-seconds", "0.2", "--longest-poll", "1.5",
+                 "--catalog", str(self._catalogue)]
         start = [sys.executable, "-m", "osb_platform"]
         if self._asked.without == "attempts":
             start = [sys.executable, "-m", "storming.without_platform"]
         elif self._asked.without in _OTHER_PLATFORMS:
             start = [sys.executable, "-m", "storming.usual_platform"]
         return Program("platform", start + words, self._environment, self._folder / "platform.log")
+
+
+def _faults(asked: argparse.Namespace) -> Faults:
+    kinds, share = (SLOW_KINDS, SLOW_SHARE) if asked.without == "attempts" else (KINDS, SHARE)
+    return Faults(asked.seed, share if asked.faults is None else asked.faults, kinds)
 
 
 def main(given: List[str]) -> int:
@@ -214,7 +228,7 @@ def _untried(asked: argparse.Namespace, storm: Storm) -> List[str]:
     """What has to come about in every storm and hasn't, or too seldom."""
     looks, kinds, ordered = storm.audit.looks, storm.faults.counts, storm.operator.ordered
     found = [f"{kind} {looks[kind]} times only" for kind in ("ready", "gone") if looks[kind] < 20]
-    found += [f"no request met {kind!r}" for kind in KINDS if asked.faults > 0 and kinds[kind] == 0]
+    found += [f"no request met {kind!r}" for kind in KINDS if asked.faults != 0 and kinds[kind] == 0]
     if ordered < asked.instances // 2:
         found.append(f"{ordered} of {asked.instances} were ordered")
     for program in (storm.platform, *storm.brokers):
@@ -257,7 +271,7 @@ def _words(given: List[str]) -> argparse.Namespace:
     parser.add_argument("--seconds", type=float, default=60.0, help="how long it lasts (60)")
     parser.add_argument("--instances", type=number, default=200, help="how many are ordered (200)")
     parser.add_argument("--seed", type=number, default=SystemRandom().randrange(1 << 32), help="repeats the faults")
-    parser.add_argument("--faults", type=float, default=0.4, help="the share of requests that meet one (0.4)")
+    parser.add_argument("--faults", type=float, help=f"the share of requests that meet one ({SHARE})")
     parser.add_argument("--brokers", type=number, default=1, help="how many serve (1)")
     parser.add_argument("--haproxy", action="store_true", help="HAProxy stands before the brokers")
     parser.add_argument("--store", choices=("sqlite", "postgresql"), default="sqlite",
@@ -273,6 +287,8 @@ def _words(given: List[str]) -> argparse.Namespace:
                         help="what is killed (both)")
     parser.add_argument("--no-points", dest="points", action="store_false", help="not every crash point has to be hit")
     parser.add_argument("--keep", type=Path, metavar="FOLDER", help="a new folder that keeps the logs and all files")
+    parser.add_argument("--log", type=Path, metavar="FILE",
+                        help="what happens, a line of JSON each; python -m storming.picture draws it")
     return parser.parse_args(given)
 
 

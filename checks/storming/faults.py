@@ -13,6 +13,7 @@ KINDS = {
     "answer lost": 2,  # it is done, and the connection cut
     "answer slow": 2,  # the answer comes after the platform has given up
     "twice": 1,  # it arrives twice
+    "twice, slow": 1,  # the same, and the second answer comes after the platform has given up
     "garbled": 1,  # the body of the answer can't be read
     "body cut": 1,  # half of the body of the answer comes
     "head cut": 1,  # a few bytes of the answer come
@@ -23,8 +24,11 @@ KINDS = {
     "twice, late": 2,  # it arrives, and seconds later once more
 }
 
-# Most answers come after the platform has given up, or never: so attempts are what counts.
-SLOW_KINDS = {**KINDS, "answer slow": 30, "swallowed": 10}
+# Most answers come after the platform has given up, or never: so attempts are what counts. That of a Provision which
+# arrived twice is 200, as is that of a Deprovision, which may have been swallowed.
+SLOW_KINDS, SLOW_SHARE = {**KINDS, "twice, slow": 60, "swallowed": 40}, 0.7
+SHARE = 0.4
+"""How many requests of all meet a fault, where nothing else is said."""
 
 
 class Fault(NamedTuple):

@@ -10,6 +10,8 @@ from pathlib import Path
 from random import Random
 from typing import Dict, List, NamedTuple, Optional, Sequence
 
+from storming.log import Log
+
 
 class Program(NamedTuple):
     """How a program is started."""
@@ -23,10 +25,10 @@ class Program(NamedTuple):
 class Killed:
     """A program that is killed again and again: at each of its crash points, and in between at random."""
 
-    def __init__(self, program: Program, points: Sequence[str], chance: Random, may_refuse: bool) -> None:
+    def __init__(self, program: Program, points: Sequence[str], chance: Random, may_refuse: bool, log: Log) -> None:
         """`may_refuse`: whether it may end with 2, as it does where a session with its store is ended while it starts.
         """
-        self._program, self._chance = program, chance
+        self._program, self._chance, self._log = program, chance, log
         self._usual = [-9, 2] if may_refuse else [-9]
         self._open = list(points)
         self.hit: List[str] = []
@@ -84,7 +86,7 @@ class Killed:
             is_hit = self._dies(4.0 if point else self._chance.uniform(0.8, 4.0)) and point != ""
             if is_hit:
                 self.hit.append(point)
-                self.kills += 1
+                self._count()
             elif point:
                 self._open.append(point)
             self._tried = ""
@@ -113,7 +115,11 @@ class Killed:
         if self._process is not None and self._process.poll() is None:
             os.kill(self._process.pid, signal.SIGKILL)
             self._process.wait()
-            self.kills += 1
+            self._count()
+
+    def _count(self) -> None:
+        self.kills += 1
+        self._log.say(killed=self._program.name)
 
     def _note(self, status: int, usual: List[int]) -> None:
         if status not in usual:

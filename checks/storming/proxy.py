@@ -86,11 +86,11 @@ class _Connection(socketserver.BaseRequestHandler):
         if fault.kind == "twice, late":
             self.server.deliver_late(request, fault)
         answer = self.server.deliver(request, fault.number)
-        if answer is not None and fault.kind == "twice":
+        if answer is not None and fault.kind in ("twice", "twice, slow"):
             answer = self.server.deliver(request, fault.number >> 4) or answer
         if answer is None:
             answer = _gateway(fault) if fault.number & 1 else b""
-        elif fault.kind == "answer slow":
+        elif fault.kind in ("answer slow", "twice, slow"):
             time.sleep(fault.seconds)
         self.request.sendall(_as_it_comes(answer, fault))
 

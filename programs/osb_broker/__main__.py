@@ -10,12 +10,14 @@ from typing import List
 from osb.wsgi import BrokerApplication
 from osb_broker import logs, parts, words
 from osb_broker.databases import password_of
+from osb_broker.fence import fenced
 from osb_broker.front import Front
 from osb_broker.points import POINTS, PointedStore
 from osb_broker.server import Limits, Server, address, listening
 from osb_broker.upkeep import Upkeep
 from osb_broker.worker import BackendWorker
 from osb_program import crash
+from osb_program.addresses import written
 from osb_program.pg import Missing
 from osb_program.secret import NoSecret, secret
 
@@ -37,12 +39,12 @@ def main(given: List[str]) -> int:
     try:
         document = parts.catalogue_of(settings)
         backend, locks = parts.backend_of(settings)
-        store = parts.store_of(settings)
+        store, locks = fenced(parts.store_of(settings, backend), locks)
         socket = listening(*settings.listen, settings.share_port)
     except (parts.NoPart, Missing) as error:
         raise words.refuse(str(error)) from error
     except OSError as error:
-        raise words.refuse(f"it can't listen at {settings.listen[0]}:{settings.listen[1]}: {error}") from error
+        raise words.refuse(f"it can't listen at {written(*settings.listen)}: {error}") from error
     logs.begin()
     if crash.IS_SET:
         store = PointedStore(store)

@@ -62,3 +62,14 @@ class OwnLocks(Protocol):
     def locks(self) -> Locks:
         """The locks of this backend."""
         ...
+
+
+@runtime_checkable
+class Synced(Protocol):
+    """A backend that sees by itself on disk what is there: a call that was broken off, or that raised, may have done
+    its work without. For every other one all files of the machine are written to disk then (`os.sync`).
+    """
+
+    def sync(self, id: Id) -> None:
+        """Returns once what `look` tells of the instance would outlive a power cut."""
+        ...

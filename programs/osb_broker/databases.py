@@ -6,7 +6,7 @@ import contextlib
 import hashlib
 import hmac
 import threading
-from typing import Any, ContextManager, Dict, Iterator
+from typing import Any, ContextManager, Dict, Iterator, Optional
 
 from osb import Id, Request
 from osb_broker.backend import There
@@ -18,6 +18,11 @@ SELECT EXISTS (SELECT FROM pg_roles WHERE rolname = %(name)s),
        EXISTS (SELECT FROM pg_database WHERE datname = %(name)s),
        EXISTS (SELECT FROM pg_database WHERE datname = %(name)s AND datallowconn AND datconnlimit <> -2)
 """
+
+_OWNER = ("CREATE TABLE IF NOT EXISTS osb_owner "
+          "(one boolean PRIMARY KEY DEFAULT true CHECK (one), store uuid NOT NULL)")
+# A number of our own, for those who make the table at once.
+_OWNER_LOCK = 0x6F73625F6F776E72
 
 
 class Databases:
@@ -33,8 +38,8 @@ class Databases:
         """
         self._sessions, self._key = pg.Sessions(url, most), key
         self._held = threading.local()
-        with self._sessions.session():
-            pass  # so that a server that can't be reached is told at the start
+        with self._sessions.session() as session, session.cursor() as cursor:
+            pg.make_tables(cursor, "osb_owner", _OWNER, _OWNER_LOCK)
 
     @property
     def locks(self) -> Databases:
@@ -73,11 +78,32 @@ class Databases:
             cursor.execute(f'ALTER DATABASE "{name}" ALLOW_CONNECTIONS true')
 
     def delete(self, id: Id) -> None:
-        """As `Backend` says."""
+        """As `Backend` says. What the customer has made in the database of the locks, as a large object, goes too."""
+        name = name_of(id)
         with self._session(id).cursor() as cursor:
-            cursor.execute(f'DROP DATABASE IF EXISTS "{name_of(id)}" WITH (FORCE)')
+            cursor.execute(f'DROP DATABASE IF EXISTS "{name}" WITH (FORCE)')
             crash("work-half")
-            cursor.execute(f'DROP ROLE IF EXISTS "{name_of(id)}"')
+            cursor.execute("SELECT EXISTS (SELECT FROM pg_roles WHERE rolname = %s)", [name])
+            if cursor.fetchone() == (True,):
+                cursor.execute(f'GRANT "{name}" TO CURRENT_USER')
+                cursor.execute(f'DROP OWNED BY "{name}"')
+                cursor.execute(f'DROP ROLE "{name}"')
+
+    def sync(self, id: Id) -> None:
+        """As `Synced` says: a server shows nothing that isn't on its disk."""
+
+    def owner(self) -> Optional[str]:
+        """As `Tied` says: a row in the database of the locks."""
+        with self._sessions.session() as session, session.cursor() as cursor:
+            cursor.execute("SELECT store::text FROM osb_owner")
+            found = cursor.fetchone()
+            return None if found is None else str(found[0])
+
+    def own(self, store: str) -> str:
+        """As `Tied` says."""
+        with self._sessions.session() as session, session.cursor() as cursor:
+            cursor.execute("INSERT INTO osb_owner (store) VALUES (%s) ON CONFLICT DO NOTHING", [store])
+        return self.owner() or store
 
     def _session(self, id: Id) -> Any:
         """The session that holds the lock of the instance, in this thread."""

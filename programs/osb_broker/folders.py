@@ -1,10 +1,13 @@
 """A backend that sells folders of this machine."""
 from __future__ import annotations
 
+import contextlib
 import json
 import os
 import shutil
+import uuid
 from pathlib import Path
+from typing import Optional
 
 from osb import Id, Request
 from osb_broker.backend import There
@@ -58,6 +61,34 @@ class Folders:
         crash("work-half")
         shutil.rmtree(part)
         _written(self._top)
+
+    def sync(self, id: Id) -> None:
+        """As `Synced` says."""
+        _written(self._top)
+
+    def owner(self) -> Optional[str]:
+        """As `Tied` says: the line of a file among the folders."""
+        try:
+            return self._owner.read_text(encoding="utf-8").rstrip("\n")
+        except FileNotFoundError:
+            return None
+
+    def own(self, store: str) -> str:
+        """As `Tied` says. The file has its name once it is whole, and is never written over."""
+        part = self._top / f".owner-{uuid.uuid4()}"
+        with open(part, "w", encoding="utf-8") as file:
+            file.write(f"{store}\n")
+            file.flush()
+            os.fsync(file.fileno())
+        with contextlib.suppress(FileExistsError):
+            os.link(part, self._owner)
+        part.unlink()
+        _written(self._top)
+        return self.owner() or store
+
+    @property
+    def _owner(self) -> Path:
+        return self._top / ".owner"
 
     def _whole(self, id: Id) -> Path:
         return self._top / str(id)

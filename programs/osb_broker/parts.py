@@ -7,15 +7,16 @@ from pathlib import Path
 from typing import Any, Optional, Tuple
 
 from osb import OsbError
-from osb.stores import Store
 from osb.wire import catalogue_plans
 from osb_broker import catalogue
 from osb_broker.backend import Backend, Locks, OwnLocks
 from osb_broker.databases import Databases
+from osb_broker.fence import WorkersStore
 from osb_broker.folders import Folders
 from osb_broker.locks import RangeLocks
 from osb_broker.pg_store import PgStore
 from osb_broker.sqlite_store import SqliteStore
+from osb_broker.ties import Parted, tie
 from osb_broker.words import Settings
 from osb_program import pg
 from osb_program.secret import NoSecret, secret
@@ -41,8 +42,18 @@ def catalogue_of(settings: Settings) -> bytes:
     return document
 
 
-def store_of(settings: Settings) -> Store:
-    """Where is kept what is held."""
+def store_of(settings: Settings, backend: Backend) -> WorkersStore:
+    """Where is kept what is held, which belongs together with the backend."""
+    store = _store_of(settings)
+    try:
+        tie(store, backend, settings.existing)
+    except Exception as error:
+        why = str(error) if isinstance(error, Parted) else pg.reason(error)
+        raise NoPart(f"the store and the backend can't be used together: {why}") from error
+    return store
+
+
+def _store_of(settings: Settings) -> WorkersStore:
     if settings.store is not None and pg.is_url(settings.store):
         url = _without_password(settings.store)
         try:
@@ -50,6 +61,8 @@ def store_of(settings: Settings) -> Store:
         except Exception as error:
             raise NoPart(f"the store can't be used: {pg.reason(error)}") from error
     path = settings.state / "holdings.sqlite" if settings.store is None else Path(settings.store)
+    if settings.existing and not path.exists():
+        raise NoPart(f"there is no store {path}, and --existing wants one that has been begun")
     try:
         path.parent.mkdir(parents=True, exist_ok=True)
         return SqliteStore(path)

@@ -4,16 +4,21 @@ from __future__ import annotations
 from typing import Any, Callable, List, Optional, Tuple, TypeVar
 
 from osb import Holding, Id
-from osb_program.pg import Sessions
+from osb_broker.fence import LostLock
+from osb_program.pg import Sessions, make_tables
 
 T = TypeVar("T")
 
-_TABLE = """
+# Who works at an instance is forgotten where the server crashes, and with it the sessions whose locks that is about.
+_TABLES = """
 CREATE TABLE IF NOT EXISTS osb_holdings (id uuid PRIMARY KEY, holding text NOT NULL, unfinished boolean NOT NULL);
-CREATE INDEX IF NOT EXISTS osb_unfinished_holdings ON osb_holdings (id) WHERE unfinished
+CREATE INDEX IF NOT EXISTS osb_unfinished_holdings ON osb_holdings (id) WHERE unfinished;
+CREATE UNLOGGED TABLE IF NOT EXISTS osb_workers (id uuid PRIMARY KEY, worker bigint NOT NULL);
+CREATE TABLE IF NOT EXISTS osb_store (one boolean PRIMARY KEY DEFAULT true CHECK (one), name uuid NOT NULL)
 """
-# A number of our own, for those who make the table at once: IF NOT EXISTS is no lock.
-_TABLE_LOCK = 0x6F73625F686F6C64
+_LAST_TABLE = "osb_store"
+# A number of our own, for those who make the tables at once: IF NOT EXISTS is no lock.
+_TABLES_LOCK = 0x6F73625F686F6C64
 
 
 class PgStore:
@@ -23,17 +28,15 @@ class PgStore:
         """`most`: how many transactions run at once."""
         self._sessions = Sessions(url, most)
         with self._sessions.session() as session, session.cursor() as cursor:
-            cursor.execute("SELECT to_regclass('osb_unfinished_holdings') IS NOT NULL")
-            if cursor.fetchone() == (True,):
-                return
-            cursor.execute("BEGIN")
-            cursor.execute("SELECT pg_advisory_xact_lock(%s)", [_TABLE_LOCK])
-            cursor.execute(_TABLE)
-            cursor.execute("COMMIT")
+            make_tables(cursor, _LAST_TABLE, _TABLES, _TABLES_LOCK)
 
     def update(self, id: Id, change: Callable[[Holding], Tuple[Holding, T]]) -> T:
-        """As `Store` says. What changes nothing is read, and locks nothing. A row that was made to be locked is there
-        for others only where something is held in it.
+        """As `Store` says."""
+        return self.update_as(id, None, change)
+
+    def update_as(self, id: Id, worker: Optional[int], change: Callable[[Holding], Tuple[Holding, T]]) -> T:
+        """As `WorkersStore` says. What changes nothing is read, and locks nothing. A row that was made to be locked is
+        there for others only where something is held in it.
         """
         with self._sessions.session() as session, session.cursor() as cursor:
             seen = _read(cursor, id, "") or Holding.NONE
@@ -41,6 +44,10 @@ class PgStore:
             if after == seen:
                 return given
             cursor.execute("BEGIN")
+            if worker is not None:
+                cursor.execute("SELECT worker FROM osb_workers WHERE id = %s FOR SHARE", [str(id)])
+                if cursor.fetchone() != (worker,):
+                    raise LostLock(f"the lock of {id} was lost")
             held = _locked(cursor, id)
             if held is None:
                 cursor.execute("INSERT INTO osb_holdings VALUES (%s, %s, false) ON CONFLICT DO NOTHING",
@@ -64,6 +71,31 @@ class PgStore:
         with self._sessions.session() as session, session.cursor() as cursor:
             cursor.execute("SELECT id::text FROM osb_holdings WHERE unfinished ORDER BY id")
             return [Id.of(text) for (text,) in cursor.fetchall()]
+
+    def take(self, id: Id, worker: int) -> None:
+        """As `WorkersStore` says."""
+        with self._sessions.session() as session, session.cursor() as cursor:
+            cursor.execute("INSERT INTO osb_workers VALUES (%s, %s) ON CONFLICT (id) "
+                           "DO UPDATE SET worker = excluded.worker", [str(id), worker])
+
+    def name(self) -> Optional[str]:
+        """As `NamedStore` says."""
+        with self._sessions.session() as session, session.cursor() as cursor:
+            cursor.execute("SELECT name::text FROM osb_store")
+            found = cursor.fetchone()
+            return None if found is None else str(found[0])
+
+    def begin(self, name: str) -> str:
+        """As `NamedStore` says."""
+        with self._sessions.session() as session, session.cursor() as cursor:
+            cursor.execute("INSERT INTO osb_store (name) VALUES (%s) ON CONFLICT DO NOTHING", [name])
+        return self.name() or name
+
+    def is_empty(self) -> bool:
+        """As `NamedStore` says."""
+        with self._sessions.session() as session, session.cursor() as cursor:
+            cursor.execute("SELECT NOT EXISTS (SELECT FROM osb_holdings)")
+            return bool(cursor.fetchone()[0])
 
 
 def _locked(cursor: Any, id: Id) -> Optional[Holding]:

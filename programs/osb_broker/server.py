@@ -16,6 +16,7 @@ from waitress.server import create_server
 from waitress.utilities import BadRequest, ServerNotImplemented
 
 from osb_broker.front import HEALTH, Front
+from osb_program.addresses import written
 
 _log = logging.getLogger("osb_broker.server")
 
@@ -97,8 +98,7 @@ def listening(host: str, port: int, is_shared: bool) -> socket.socket:
 
 def address(of: socket.socket) -> str:
     """The URL at which the socket listens."""
-    host, port = of.getsockname()[:2]
-    return f"http://[{host}]:{port}" if ":" in host else f"http://{host}:{port}"
+    return f"http://{written(*of.getsockname()[:2])}"
 
 
 class Server:

@@ -10,6 +10,7 @@ from typing import Any, Callable, List, Optional, Tuple, TypeVar, Union
 
 from osb import Holding, Id
 from osb.stores import Change
+from osb_broker.fence import LostLock
 
 T = TypeVar("T")
 
@@ -17,8 +18,8 @@ T = TypeVar("T")
 class _Asked:
     """A change that waits to be written, and then what came of it."""
 
-    def __init__(self, id: Id, change: Change[Any]) -> None:
-        self.id, self.change = id, change
+    def __init__(self, id: Id, worker: Optional[int], change: Change[Any]) -> None:
+        self.id, self.worker, self.change = id, worker, change
         self.is_done = False
         self.given: Any = None
         self.error: Optional[BaseException] = None
@@ -44,14 +45,22 @@ class SqliteStore:
         self._writer.execute("CREATE TABLE IF NOT EXISTS holdings (id TEXT PRIMARY KEY, holding TEXT NOT NULL, "
                              "unfinished INTEGER NOT NULL) WITHOUT ROWID")
         self._writer.execute("CREATE INDEX IF NOT EXISTS unfinished_holdings ON holdings (id) WHERE unfinished")
+        self._writer.execute("CREATE TABLE IF NOT EXISTS workers (id TEXT PRIMARY KEY, worker INTEGER NOT NULL) "
+                             "WITHOUT ROWID")
+        self._writer.execute("CREATE TABLE IF NOT EXISTS store (one INTEGER PRIMARY KEY CHECK (one = 1), "
+                             "name TEXT NOT NULL)")
 
     def update(self, id: Id, change: Callable[[Holding], Tuple[Holding, T]]) -> T:
         """As `Store` says."""
+        return self.update_as(id, None, change)
+
+    def update_as(self, id: Id, worker: Optional[int], change: Callable[[Holding], Tuple[Holding, T]]) -> T:
+        """As `WorkersStore` says."""
         held = _held(self._reader(), id)
         after, given = change(held)
         if after == held:
             return given
-        asked = _Asked(id, change)
+        asked = _Asked(id, worker, change)
         with self._guard:
             self._waiting.append(asked)
         with self._writing:
@@ -68,6 +77,25 @@ class SqliteStore:
         """As `Store` says."""
         found = self._reader().execute("SELECT id FROM holdings WHERE unfinished ORDER BY id").fetchall()
         return [Id.of(text) for (text,) in found]
+
+    def take(self, id: Id, worker: int) -> None:
+        """As `WorkersStore` says."""
+        self._reader().execute("INSERT INTO workers VALUES (?, ?) ON CONFLICT (id) "
+                               "DO UPDATE SET worker = excluded.worker", [str(id), worker])
+
+    def name(self) -> Optional[str]:
+        """As `NamedStore` says."""
+        found: Optional[Tuple[str]] = self._reader().execute("SELECT name FROM store").fetchone()
+        return None if found is None else found[0]
+
+    def begin(self, name: str) -> str:
+        """As `NamedStore` says."""
+        self._reader().execute("INSERT INTO store VALUES (1, ?) ON CONFLICT DO NOTHING", [name])
+        return self.name() or name
+
+    def is_empty(self) -> bool:
+        """As `NamedStore` says."""
+        return self._reader().execute("SELECT 1 FROM holdings LIMIT 1").fetchone() is None
 
     def _write(self, together: List[_Asked]) -> None:
         """Writes these changes in one transaction. A change that raises is left out of it; where the transaction
@@ -88,6 +116,8 @@ class SqliteStore:
 
     def _step(self, asked: _Asked) -> None:
         try:
+            if asked.worker is not None and asked.worker != _worker(self._writer, asked.id):
+                raise LostLock(f"the lock of {asked.id} was lost")
             held = _held(self._writer, asked.id)
             after, asked.given = asked.change(held)
             text, is_unfinished = after.to_text(), after.is_unfinished
@@ -123,3 +153,9 @@ _read = functools.lru_cache(1024)(Holding.from_text)
 def _held(database: sqlite3.Connection, id: Id) -> Holding:
     found: Optional[Tuple[str]] = database.execute("SELECT holding FROM holdings WHERE id = ?", [str(id)]).fetchone()
     return Holding.NONE if found is None else _read(found[0])
+
+
+def _worker(database: sqlite3.Connection, id: Id) -> Optional[int]:
+    """Who works at the instance, or did last."""
+    found: Optional[Tuple[int]] = database.execute("SELECT worker FROM workers WHERE id = ?", [str(id)]).fetchone()
+    return None if found is None else found[0]

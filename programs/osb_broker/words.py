@@ -7,6 +7,7 @@ from pathlib import Path
 from typing import List, NamedTuple, Optional, Tuple, Union
 
 from osb import Id
+from osb_program.addresses import address_of
 from osb_program.words import count_up_to, id_of, refusal, seconds_up_to
 
 _PROGRAM = "osb-broker"
@@ -43,6 +44,7 @@ class Settings(NamedTuple):
     listen: Tuple[str, int]
     share_port: bool
     state: Path
+    existing: bool
     catalogue: Optional[Path]
     store: Optional[str]
     backend: Optional[str]
@@ -69,9 +71,9 @@ def read(words: List[str]) -> Union[Settings, PasswordOf]:
     given = _parser().parse_args(words)
     if given.command == "password":
         return PasswordOf(given.instance, given.backend_key_file)
-    return Settings(given.listen, given.share_port, given.state, given.catalog, given.store, given.backend,
-                    given.user, given.password_file, given.backend_key_file, given.threads, given.workers,
-                    given.longest_body, given.request_seconds, given.sweep_seconds, given.stop_seconds)
+    return Settings(given.listen, given.share_port, given.state, given.existing, given.catalog, given.store,
+                    given.backend, given.user, given.password_file, given.backend_key_file, given.threads,
+                    given.workers, given.longest_body, given.request_seconds, given.sweep_seconds, given.stop_seconds)
 
 
 def refuse(said: str) -> SystemExit:
@@ -96,12 +98,14 @@ def _parser() -> argparse.ArgumentParser:
 
 def _what(serve: argparse.ArgumentParser) -> None:
     home = Path(os.environ.get("XDG_STATE_HOME") or Path.home() / ".local" / "state")
-    serve.add_argument("--listen", type=_address, default=("127.0.0.1", 8080), metavar="HOST:PORT",
+    serve.add_argument("--listen", type=address_of, default=("127.0.0.1", 8080), metavar="HOST:PORT",
                        help="where it listens (127.0.0.1:8080); the port 0 is any that is free")
     serve.add_argument("--share-port", action="store_true",
                        help="let others listen there too: more brokers of the same store, on the other processors")
     serve.add_argument("--state", type=Path, default=home / "osb-broker", metavar="FOLDER",
                        help="where --store and --backend are, where they aren't named (%(default)s)")
+    serve.add_argument("--existing", action="store_true",
+                       help="begin only over a store that has been begun before: where a new one would be a mistake")
     serve.add_argument("--catalog", type=Path, metavar="FILE",
                        help="the document of GET /v2/catalog (one of its own, with a plan of each kind)")
     serve.add_argument("--store", metavar="FILE|URL",
@@ -131,13 +135,6 @@ def _limits(serve: argparse.ArgumentParser) -> None:
                        help="how often it looks for what was left unfinished (5)")
     serve.add_argument("--stop-seconds", type=_seconds, default=30.0, metavar="S",
                        help="how long running work may go on once it is to stop (30)")
-
-
-def _address(text: str) -> Tuple[str, int]:
-    host, colon, port = text.rpartition(":")
-    if not colon or not host or not (port.isascii() and port.isdigit()) or int(port) > 65535:
-        raise argparse.ArgumentTypeError(f"{text!r} is no HOST:PORT")
-    return host[1:-1] if host.startswith("[") and host.endswith("]") else host, int(port)
 
 
 def _user(text: str) -> str:

@@ -2,11 +2,12 @@
 from __future__ import annotations
 
 import logging
+import os
 from typing import Callable, Optional, Tuple
 
 from osb import BrokerRow, Id, Kind, Outcome, Phase, Request, Work
 from osb.service import Task
-from osb_broker.backend import Backend, There
+from osb_broker.backend import Backend, Synced, There
 from osb_program.crash import crash, crash_soon
 
 _log = logging.getLogger("osb_broker.worker")
@@ -49,6 +50,7 @@ class BackendWorker:
         """Done where the thing is whole in the end, and Before where there is none: a part is taken away."""
         id = request.id
         if self._backend.look(id) == There.WHOLE:
+            self._sync(id)
             return Outcome.DONE
         there, error = self._tried(id, lambda: self._backend.make(id, request))
         if there == There.PART:
@@ -61,6 +63,7 @@ class BackendWorker:
     def _delete(self, id: Id) -> Outcome:
         """Done where nothing is there in the end, and Before where all of it still is."""
         if self._backend.look(id) == There.NONE:
+            self._sync(id)
             return Outcome.DONE
         there, error = self._tried(id, lambda: self._backend.delete(id))
         if there == There.PART:
@@ -73,8 +76,16 @@ class BackendWorker:
         try:
             call()
         except Exception as error:
+            self._sync(id)
             return self._backend.look(id), error
         return self._backend.look(id), None
+
+    def _sync(self, id: Id) -> None:
+        """Sees on disk what another one has done, or a call that raised."""
+        if isinstance(self._backend, Synced):
+            self._backend.sync(id)
+        else:
+            os.sync()
 
 
 def _told(id: Id, what: str, error: Optional[Exception], outcome: Outcome) -> Outcome:

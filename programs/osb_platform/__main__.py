@@ -2,6 +2,7 @@
 from __future__ import annotations
 
 import argparse
+import contextlib
 import json
 import logging
 import os
@@ -10,7 +11,7 @@ import signal
 import sqlite3
 import sys
 from pathlib import Path
-from typing import List, Optional
+from typing import Iterator, List, Optional
 
 from osb import Id, Kind, OsbError, Request, Status
 from osb.client import Client
@@ -18,14 +19,17 @@ from osb.wire import write_body
 from osb_platform import tell, words
 from osb_platform.instances import Database, Instances
 from osb_platform.pace import Pace
-from osb_platform.pg_database import PgDatabase
+from osb_platform.page import Page, serving
+from osb_platform.pg_database import PgDatabase, PgReader
 from osb_platform.plans import Durations, Longest, durations
 from osb_platform.points import POINTS
 from osb_platform.reach import Unreached, reached
-from osb_platform.sqlite_database import SqliteDatabase
+from osb_platform.readings import Reader
+from osb_platform.sqlite_database import SqliteDatabase, SqliteReader
 from osb_platform.steps import Parts
 from osb_platform.worker import Worker
 from osb_program import crash, pg
+from osb_program.addresses import written
 from osb_program.secret import NoSecret, secret
 
 # How much longer than an exchange a step may take before another worker takes it over.
@@ -100,13 +104,33 @@ def _run(asked: argparse.Namespace) -> int:
     with instances.only(asked.worker) as is_only:
         if not is_only:
             raise words.refuse(f"a worker of the name {asked.worker} runs already: name this one with --worker")
-        known = _durations(asked, client, worker)
-        if known is not None:
-            instances.free(asked.worker)
-            worker.run(Parts(client, instances, asked.worker, Pace(asked.pace, asked.longest_pace, asked.late_for),
-                             Longest(asked.longest_poll, known), progress.changed), asked.once, turned)
+        with _page(asked):
+            known = _durations(asked, client, worker)
+            if known is not None:
+                instances.free(asked.worker)
+                worker.run(Parts(client, instances, asked.worker, Pace(asked.pace, asked.longest_pace, asked.late_for),
+                                 Longest(asked.longest_poll, known), progress.changed), asked.once, turned)
     progress.end()
     return 0
+
+
+@contextlib.contextmanager
+def _page(asked: argparse.Namespace) -> Iterator[None]:
+    """The page, where one is asked for, until the end of the block."""
+    with contextlib.ExitStack() as stack:
+        if asked.page is not None:
+            try:
+                url = stack.enter_context(serving(Page(_reader(asked), asked.broker), *asked.page))
+            except OSError as error:
+                raise words.refuse(f"the page can't be at {written(*asked.page)}: {error}") from error
+            print(f"page {url}", file=sys.stderr, flush=True)
+        yield
+
+
+def _reader(asked: argparse.Namespace) -> Reader:
+    if pg.is_url(asked.store):
+        return PgReader(asked.store, 2)
+    return SqliteReader(Path(asked.store))
 
 
 def _client(asked: argparse.Namespace, instances: Instances) -> Client:

@@ -4,6 +4,9 @@ A row is an order at first, without a record: `create` writes it, and nothing is
 due, for as long as a step may take, so that an instance is stepped by one worker at a time. A lease that has run out,
 as of a worker that is dead, is taken over. That this may come too early does no harm to the record: what an older
 exchange brings has an older attempt, and is passed over.
+
+The states that an instance has left stand in a second table, the first of them with the number 1. Each is written in
+the transaction that ends it, so an instance's life is those, and then the state of its row.
 """
 from __future__ import annotations
 
@@ -26,7 +29,12 @@ _TABLE = (
     "further text NOT NULL, record text, operation text, state text NOT NULL, since double precision NOT NULL, "
     "sent_until double precision, polled_since double precision, removal integer NOT NULL, due double precision, "
     "tries integer NOT NULL, worker text, leased_until double precision)",
-    "CREATE INDEX IF NOT EXISTS osb_due_instances ON osb_instances (due) WHERE due IS NOT NULL")
+    "CREATE INDEX IF NOT EXISTS osb_due_instances ON osb_instances (due) WHERE due IS NOT NULL",
+    "CREATE TABLE IF NOT EXISTS osb_lives (id text NOT NULL, number integer NOT NULL, state text NOT NULL, "
+    "since double precision NOT NULL, PRIMARY KEY (id, number))",
+    # what the page asks for: how many are in each state, the rows of one by time, and what is leased
+    "CREATE INDEX IF NOT EXISTS osb_instances_by_state ON osb_instances (state, since, id)",
+    "CREATE INDEX IF NOT EXISTS osb_leased_instances ON osb_instances (leased_until) WHERE worker IS NOT NULL")
 
 _COLUMNS = "id, service, plan, further, record, operation, state, since, sent_until, polled_since, removal, due, tries"
 
@@ -159,11 +167,14 @@ class Instances:
             execute("UPDATE osb_instances SET worker = NULL, leased_until = NULL WHERE worker = ?", [worker])
 
     def withdraw(self, id: Id) -> None:
-        """An order that wasn't sent yet is never sent."""
+        """An order that wasn't sent yet is never sent. Every other row stays as it is. Raises UNKNOWN."""
         now = self.now()
         with self._database.transaction() as execute:
-            execute("UPDATE osb_instances SET state = ?, since = ?, removal = 0 WHERE id = ? AND record IS NULL",
-                    [WITHDRAWN, now, str(id)])
+            row = self._locked(execute, id)
+            if row.state == ORDERED:
+                _leave(execute, row)
+                execute("UPDATE osb_instances SET state = ?, since = ?, removal = 0 WHERE id = ?",
+                        [WITHDRAWN, now, str(id)])
 
     def only(self, worker: str) -> ContextManager[bool]:
         """As `Database` says."""
@@ -208,6 +219,7 @@ class Instances:
             row = self._locked(execute, id)
             if row.kept is not None or row.state != ORDERED:
                 raise OsbError(Status.ID_USED, str(id))
+            _leave(execute, row)
             execute("UPDATE osb_instances SET record = ?, operation = ?, state = ?, since = ?, sent_until = ? "
                     "WHERE id = ?", [kept.record.to_text(), kept.operation, _word(kept.record.state), now,
                                      now + self._seconds, str(id)])
@@ -259,9 +271,17 @@ def _write(execute: Execute, row: Instance, after: Kept, now: float) -> None:
     state = _word(after.record.state)
     is_new = state != row.state
     polls = after.record.state in (State.POLLING, State.CLEANING_POLLING)
+    if is_new:
+        _leave(execute, row)
     execute("UPDATE osb_instances SET record = ?, operation = ?, state = ?, since = ?, polled_since = ? WHERE id = ?",
             [after.record.to_text(), after.operation, state, now if is_new else row.since,
              now if is_new and polls else row.polled_since, str(row.id)])
+
+
+def _leave(execute: Execute, row: Instance) -> None:
+    """Writes down the state that the row is about to leave. The row is locked, so the number is free."""
+    execute("INSERT INTO osb_lives (id, number, state, since) SELECT ?, coalesce(max(number), 0) + 1, ?, ? "
+            "FROM osb_lives WHERE id = ?", [str(row.id), row.state, row.since, str(row.id)])
 
 
 def _word(state: State) -> str:

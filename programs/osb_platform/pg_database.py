@@ -6,6 +6,7 @@ import zlib
 from typing import Any, Iterator, List, Sequence, Tuple
 
 from osb_platform.instances import Execute
+from osb_platform.readings import Reading
 from osb_program.pg import Sessions
 
 # A number of our own, for those who make the table at once (IF NOT EXISTS is no lock), and the first half of the key
@@ -58,3 +59,24 @@ class PgDatabase:
             cursor.execute("SELECT pg_try_advisory_lock(%s, %s)", [_WORKER_LOCK, number])
             ((is_free,),) = cursor.fetchall()
             yield bool(is_free)
+
+
+class PgReader:
+    """The database, to read alone. It has sessions of its own, so the workers' are always theirs."""
+
+    def __init__(self, url: str, most: int) -> None:
+        """`most`: how many readings go on at once; one more waits for some seconds, and then queue.Empty is raised."""
+        self._sessions = Sessions(url, most, 5.0)
+
+    @contextlib.contextmanager
+    def reading(self) -> Iterator[Reading]:
+        """As `Reader` says."""
+        with self._sessions.session() as session, session.cursor() as cursor:
+            def execute(statement: str, values: Sequence[Any]) -> List[Tuple[Any, ...]]:
+                cursor.execute(statement.replace("?", "%s"), values)
+                return list(cursor.fetchall())
+            cursor.execute("BEGIN TRANSACTION ISOLATION LEVEL REPEATABLE READ READ ONLY")
+            cursor.execute("SET LOCAL statement_timeout = '10s'")
+            ((now,),) = execute("SELECT extract(epoch FROM clock_timestamp())::double precision", [])
+            yield Reading(execute, float(now))
+            cursor.execute("ROLLBACK")

@@ -10,6 +10,7 @@ from pathlib import Path
 from typing import Any, Iterator, List, Sequence, Tuple
 
 from osb_platform.instances import Execute
+from osb_platform.readings import Reading
 
 
 class SqliteDatabase:
@@ -60,3 +61,19 @@ class SqliteDatabase:
 
     def _execute(self, statement: str, values: Sequence[Any]) -> List[Tuple[Any, ...]]:
         return self._connection.execute(statement, values).fetchall()
+
+
+class SqliteReader:
+    """The file, to read alone. Nothing that is read waits for a transaction, and none waits for a reading."""
+
+    def __init__(self, path: Path) -> None:
+        """The path of a file that a `SqliteDatabase` of this process keeps open."""
+        self._url = f"{path.absolute().as_uri()}?mode=ro"
+
+    @contextlib.contextmanager
+    def reading(self) -> Iterator[Reading]:
+        """As `Reader` says. Each reading has a connection of its own, so any number of threads may read."""
+        with contextlib.closing(sqlite3.connect(self._url, timeout=5.0, isolation_level=None, uri=True)) as connection:
+            connection.execute("PRAGMA query_only = ON")
+            connection.execute("BEGIN")
+            yield Reading(lambda statement, values: connection.execute(statement, values).fetchall(), time.time())

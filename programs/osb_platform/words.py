@@ -8,6 +8,7 @@ import socket
 from pathlib import Path
 from typing import List
 
+from osb_program.addresses import address_of
 from osb_program.words import count_up_to, id_of, refusal, seconds_up_to
 
 _PROGRAM = "osb-platform"
@@ -63,6 +64,9 @@ def _parser() -> argparse.ArgumentParser:
     run = command("run", "send what is due, until SIGTERM")
     _broker(run)
     _pace(run)
+    run.add_argument("--page", type=address_of, metavar="HOST:PORT",
+                     help="show the instances to a browser there, as at 127.0.0.1:8090, until the run ends; the port 0 "
+                          "is any that is free. The page only reads, and has no password")
     return parser
 
 

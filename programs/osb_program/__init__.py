@@ -1,1 +1,3 @@
-"""What osb_broker and osb_platform share: PostgreSQL's sessions, secrets, the command line's words, crash points."""
+"""What osb_broker and osb_platform share: PostgreSQL's sessions, secrets, addresses, the command line's words, crash
+points.
+"""

@@ -51,6 +51,17 @@ def reason(error: Exception) -> str:
     return " ".join(str(error).split())
 
 
+def make_tables(cursor: Any, last: str, tables: str, lock: int) -> None:
+    """Makes these tables where the last of them isn't there yet, under the advisory lock of this number."""
+    cursor.execute("SELECT to_regclass(%s) IS NOT NULL", [last])
+    if cursor.fetchone() == (True,):
+        return
+    cursor.execute("BEGIN")
+    cursor.execute("SELECT pg_advisory_xact_lock(%s)", [lock])
+    cursor.execute(tables)
+    cursor.execute("COMMIT")
+
+
 def _psycopg2() -> Any:
     try:
         import psycopg2

@@ -119,10 +119,10 @@ class Killed(InFolder):
 @unittest.skipUnless(POSTGRESQL, "OSB_TEST_POSTGRESQL names no database")
 class KilledWithPostgresql(Killed):
     def words(self, folder: Path) -> List[str]:
-        return ["--store", self.url(folder), "--backend", POSTGRESQL]
+        return ["--store", self.url(folder), "--backend", self.url(folder)]
 
     def url(self, folder: Path) -> str:
-        """Where the rows of a case are: in a schema of its own, so that no other case's broker goes on with them."""
+        """Where the tables of a case are: in a schema of its own, so that no other case's broker goes on with them."""
         schema = f"osb_{folder.parent.name}_{folder.name}".lower()
         with self.session() as cursor:
             cursor.execute(f'CREATE SCHEMA IF NOT EXISTS "{schema}"')

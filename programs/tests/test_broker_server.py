@@ -93,7 +93,7 @@ class Life(InFolder):
             self.assertEqual([running.deprovision().status, running.deprovision().status], [200, 410])
             self.assertEqual(running.deprovision(TWO, BY_WORKER).status, 202)
             self.assertTrue(until(lambda: running.poll(TWO).status == 410))
-            self.assertEqual([it.name for it in folders.iterdir()], [".locks"])
+            self.assertEqual(sorted(it.name for it in folders.iterdir()), [".locks", ".owner"])
             self.assertEqual(running.end(), 0)
 
     def test_health_and_authentication(self) -> None:
@@ -241,7 +241,7 @@ class Hostile(InFolder):
             self.assertEqual(failed, [], seed)
         self.assertEqual(held_rows(self.folder), [str(ONE)])
         folders = self.folder / "state" / "instances"
-        self.assertEqual(sorted(it.name for it in folders.iterdir()), [".locks", str(ONE)])
+        self.assertEqual(sorted(it.name for it in folders.iterdir()), [".locks", ".owner", str(ONE)])
 
 
 def wrong(chance: random.Random) -> bytes:

@@ -10,8 +10,8 @@ from typing import List, Tuple
 from unittest import mock
 
 from osb import BrokerRow, Holding, Id, Kind, Phase
-from osb.stores import Store
 from osb_broker import points
+from osb_broker.fence import LostLock, WorkersStore
 from osb_broker.pg_store import PgStore
 from osb_broker.points import PointedStore
 from osb_broker.sqlite_store import SqliteStore
@@ -27,7 +27,7 @@ def broken(holding: Holding) -> Tuple[Holding, None]:
 
 
 class OfSqlite(InFolder):
-    def store(self) -> Store:
+    def store(self) -> WorkersStore:
         """One more store over the same rows."""
         return SqliteStore(self.folder / "holdings.sqlite")
 
@@ -52,6 +52,35 @@ class OfSqlite(InFolder):
             put(store, holding, id)
         put(store, READY, Id(0, 5))
         self.assertEqual(sorted(store.unfinished()), [Id(0, 1), Id(0, 4)])
+
+    def test_its_name(self) -> None:
+        """It has the first that it is given, and is empty until there is a row."""
+        store = self.store()
+        self.assertEqual((store.name(), store.is_empty()), (None, True))
+        self.assertEqual([store.begin(str(ONE)), self.store().begin(str(TWO)), self.store().name()], [str(ONE)] * 3)
+        self.assertTrue(store.is_empty())
+        put(store, MAKING)
+        self.assertEqual((store.is_empty(), self.store().is_empty()), (False, False))
+
+    def test_workers(self) -> None:
+        """Only who is written down writes; whoever says nothing of a worker writes too."""
+        store, greatest = self.store(), 2 ** 63 - 1
+
+        def write(worker: int, id: Id = ONE) -> bool:
+            """Whether it is written: MAKING, where that isn't there already."""
+            try:
+                store.update_as(id, worker, lambda it: (READY if it == MAKING else MAKING, None))
+            except LostLock:
+                return False
+            return True
+        self.assertFalse(write(1))
+        store.take(ONE, 1)
+        self.assertTrue(write(1))
+        self.store().take(ONE, greatest)
+        self.assertEqual((write(1), held(store), write(greatest), held(store)), (False, MAKING, True, READY))
+        self.assertEqual((write(greatest, TWO), held(store, TWO)), (False, Holding.NONE))
+        put(store, MAKING)
+        self.assertEqual(store.update_as(ONE, 1, lambda it: (it, it)), MAKING)  # what changes nothing is read
 
     def test_one_at_a_time(self) -> None:
         """Of twenty threads, over three stores, one makes the row; also of those whose changes are written together."""
@@ -81,9 +110,9 @@ class OfPostgresql(OfSqlite):
     @staticmethod
     def drop() -> None:
         with Sessions(POSTGRESQL, 1).session() as session, session.cursor() as cursor:
-            cursor.execute("DROP TABLE IF EXISTS osb_holdings")
+            cursor.execute("DROP TABLE IF EXISTS osb_holdings, osb_workers, osb_store")
 
-    def store(self) -> Store:
+    def store(self) -> WorkersStore:
         return PgStore(POSTGRESQL, 4)
 
 

@@ -54,7 +54,7 @@ class InstancesTest(InFolder):
         self.raises(Status.ID_USED, self.instances.insert, self.instance, Kept(record))
 
     def test_unknown(self) -> None:
-        for call in (self.instances.row, self.instances.ask_removal):
+        for call in (self.instances.row, self.instances.ask_removal, self.instances.withdraw):
             self.raises(Status.UNKNOWN, call, self.instance)
         self.raises(Status.UNKNOWN, self.instances.update, self.instance, lambda kept: (kept, None))
         self.order()

@@ -154,7 +154,7 @@ class Client:
 
 
 def _unless_memory(call: Callable[[], T]) -> Optional[T]:
-    """What a call gives. Want of memory is as if no answer came, since a timeout is always right."""
+    """What a call gives. An out-of-memory error is as if no answer came, since a timeout is always right."""
     try:
         return call()
     except OsbError as error:

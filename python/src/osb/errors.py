@@ -81,7 +81,7 @@ class Refusal(OsbError):
     """A request that a broker refuses before it looks at any instance, with the answer to send.
 
     `http_status` and `body` are that answer's. The status is one of REFUSED_TARGET to REFUSED_SPACE, or MEMORY where
-    want of memory is to be told.
+    an out-of-memory error is to be told.
     """
 
     def __init__(self, status: int) -> None:

@@ -1,0 +1,63 @@
+"""A store and the things that it is about stay together: the store has a name, and the backend keeps it."""
+from __future__ import annotations
+
+import uuid
+from typing import Optional, Protocol, runtime_checkable
+
+from osb.stores import Store
+from osb_broker.backend import Backend
+
+
+class NamedStore(Store, Protocol):
+    """A store that has a name of its own from its first use on."""
+
+    def name(self) -> Optional[str]:
+        """Its name, or None before its first use."""
+        ...
+
+    def begin(self, name: str) -> str:
+        """Gives it this name for good, where it has none yet. Returns the name that it has."""
+        ...
+
+    def is_empty(self) -> bool:
+        """Whether it has no rows."""
+        ...
+
+
+@runtime_checkable
+class Tied(Protocol):
+    """A backend that keeps the name of the store whose things it has, where the things are."""
+
+    def owner(self) -> Optional[str]:
+        """The name of the store that has begun here, or None."""
+        ...
+
+    def own(self, store: str) -> str:
+        """Keeps the name of this store for good, where there is none yet. Returns the name that is kept."""
+        ...
+
+
+class Parted(Exception):
+    """The store and the backend don't belong together; the text says why. Nothing was changed but that a new store has
+    its name.
+    """
+
+
+def tie(store: NamedStore, backend: Backend, must_exist: bool) -> None:
+    """Sees that the store and the backend belong together, and ties a new store to a new backend. Raises `Parted` where
+    they don't, and where the store is new although it `must_exist`.
+
+    A backend that keeps no name is taken as it is.
+    """
+    name = store.name()
+    if name is None and must_exist:
+        raise Parted("the store is new, and --existing wants one that has been begun")
+    name = name or store.begin(str(uuid.uuid4()))
+    if not isinstance(backend, Tied):
+        return
+    is_empty = store.is_empty()  # read first: whoever ties them meanwhile does so before there are rows
+    owner = backend.owner()
+    if owner is None and not is_empty:
+        raise Parted(f"the store {name} has instances, and no store has begun with this backend")
+    if (owner or backend.own(name)) != name:
+        raise Parted(f"the store is {name}, and what is there belongs to the store {owner}")

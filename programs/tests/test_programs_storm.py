@@ -1,0 +1,43 @@
+"""The picture of a storm: it is drawn from its log, and from nothing else."""
+from __future__ import annotations
+
+import json
+import unittest
+from typing import Any, List
+from xml.dom import minidom
+
+from storming.picture import NoLog, draw, read
+from tests.broker_support import TOP
+
+_PICTURES = TOP / "docs" / "pictures"
+
+
+def log(*said: Any) -> List[str]:
+    return [json.dumps(it) for it in said]
+
+
+STORM = log({"at": 0, "states": {"ordered": 2}}, {"at": 1.5, "killed": "platform"}, {"at": 2, "calm": True},
+            {"at": 4, "states": {"ready": 3, "gone": 1, "withdrawn": 1}})
+
+
+class Picture(unittest.TestCase):
+    def test_that_of_the_documents(self) -> None:
+        drawn = draw(read((_PICTURES / "storm.jsonl").read_text(encoding="utf-8").splitlines()))
+        self.assertEqual(drawn, (_PICTURES / "storm.svg").read_text(encoding="utf-8"))
+
+    def test_what_is_said(self) -> None:
+        drawn = minidom.parseString(draw(read(STORM)))
+        said = drawn.getElementsByTagName("desc")[0].firstChild.data
+        self.assertEqual(said, "5 instances were ordered in 2 seconds, with these kills: 1 of the platform. After 4 seconds "
+                               "3 are ready and 2 gone, and none is anything else.")
+        words = [it.firstChild.data for it in drawn.getElementsByTagName("text")]
+        for word in ("ready: 3", "being made: 0", "being deleted: 0", "unsettled: 0", "gone: 2", "kill -9: platform"):
+            self.assertIn(word, words)
+
+    def test_what_is_no_log(self) -> None:
+        for lines in ([], STORM[:1], STORM[:2] + STORM[3:], ["[]"], ["x"], ['{"at": "x"}'], ['{"at": 1, "states": 2}']):
+            self.assertRaises(NoLog, read, lines)
+
+
+if __name__ == "__main__":
+    unittest.main()
