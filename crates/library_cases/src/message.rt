@@ -66,7 +66,7 @@ fn kind(rt: &impl Print, word: &str) -> Result<()> {
     Ok(println!(rt; "  {kind} {kind:>12}|")?)
 }
 
-// `numbers`: each fault, as it is printed, with its number; want of memory has none
+// `numbers`: each fault, as it is printed, with its number; out of memory has none
 fn numbers(rt: &impl Print) -> Result<()> {
     let (no_id, again, full) = (IdFault::NotAnId, AddFault::AlreadyThere, AddFault::Memory);
     println!(rt; "  id: {no_id} {}", no_id as u8)?;

@@ -71,9 +71,9 @@ fn write(entries: &mut Vec<Entry>, order: &[u32], at: usize, id: InstanceId, mes
     entries[order[at] as usize] = Entry { id, messages };
 }
 
-// Makes an entry for the id, which would go there in the order. Room for the entry is made first, so
+// Makes an entry for the id, which would go there in the order. Memory for the entry is taken first, so
 // that nothing is written where an allocation fails. A place is below 2^32, and an entry that would
-// come at a higher one is refused as for want of memory.
+// come at a higher one is refused as where memory runs out.
 fn add(
     entries: &mut Vec<Entry>,
     order: &mut Vec<u32>,

@@ -309,8 +309,8 @@ impl Holding {
     }
 
     /// The holding that a text names, as [`Holding::to_text`] writes it. The text may have any spacing, and members
-    /// in any order; of a member that stands twice the last counts. What [`Holding::to_text`] gave is refused for
-    /// want of memory alone. All of this is this project's choice.
+    /// in any order; of a member that stands twice the last counts. What [`Holding::to_text`] gave is refused only
+    /// where memory runs out. All of this is this project's choice.
     ///
     /// # Errors
     ///

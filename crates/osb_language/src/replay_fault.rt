@@ -55,7 +55,7 @@ impl From<ScheduleFault> for ReplayFault {
 }
 
 /// The status that the program ends with: 1 for a faulty schedule, 3 for a failed read, 4 for a
-/// failed write, 5 for want of memory (this project's choice). It takes no memory.
+/// failed write, 5 where memory ran out (this project's choice). It takes no memory.
 pub fn status_of(fault: &ReplayFault) -> u8
     ensures status { result ≡ exit_status fault.now }
 {

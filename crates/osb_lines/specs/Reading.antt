@@ -41,7 +41,7 @@ with_line reader line = record { held = line; ended = reader.ended; sink = reade
 abbrev pub most_read : {S : Type 0} → Reading S → ℕ
 most_read reader = (longest_line + 1) * reader.ended + length reader.held
 
--- the first fault of the bytes so far, its line from 1; want of memory says nothing
+-- the first fault of the bytes so far, its line from 1; out of memory says nothing
 abbrev pub Refuses : List ℕ → Bool → ScheduleFault → Type 0
 Refuses bytes stop (At line fault) = (n : ℕ) × (line ≡ n + 1) × IsFirstFault bytes stop n fault
 Refuses bytes stop Memory = ⊤

@@ -150,8 +150,8 @@ impl Platform {
     ///
     /// The text may have any spacing, and members in any order. A text without a member `version` is
     /// read as one of format 1, which has the members of `instances` alone. The platform keeps the
-    /// allocator for later instances. The record of [`Platform::save`] is refused for want of memory
-    /// alone. All of this is this project's choice.
+    /// allocator for later instances. The record of [`Platform::save`] is refused only where
+    /// memory runs out. All of this is this project's choice.
     ///
     /// # Errors
     ///

@@ -64,7 +64,7 @@ impl Parts {
     }
 
     // The entry for the messages comes first, so that a refusal leaves every cell and no later event
-    // of the instance asks for room.
+    // of the instance asks for memory.
     #[tactic(auto, using(osb_message::proofs::Maps::row_steps))]
     fn create(
         &mut self,
@@ -369,7 +369,7 @@ impl Parts {
     }
 
     // A fault-free round of an instance. After the Timeout no Provision is out, and no other request
-    // makes a broker's row: so the delivery finds no want of memory.
+    // makes a broker's row: so the delivery doesn't run out of memory.
     pub(crate) fn round(&mut self, id: InstanceId)
         requires sound { IsSound self.old }
         ensures here { cell_at self.new id ≡ after_round (catalogue_of self.old) id (cell_at self.old id) }

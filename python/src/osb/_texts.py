@@ -12,12 +12,12 @@ _FIRST = 1024
 
 def written(call: Callable[[Any, int, Any], int]) -> Tuple[int, bytes]:
     """The status of a call that writes a text, and that text. It is called again where the buffer was too short."""
-    room, needed = c.create_string_buffer(_FIRST), c.c_size_t(0)
-    status = call(room, len(room), needed)
+    buffer, needed = c.create_string_buffer(_FIRST), c.c_size_t(0)
+    status = call(buffer, len(buffer), needed)
     while status == Status.TOO_SMALL:
-        room = c.create_string_buffer(needed.value)
-        status = call(room, len(room), needed)
-    return status, room.raw[:needed.value]
+        buffer = c.create_string_buffer(needed.value)
+        status = call(buffer, len(buffer), needed)
+    return status, buffer.raw[:needed.value]
 
 
 def utf8(text: str) -> bytes:

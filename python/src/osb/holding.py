@@ -77,8 +77,8 @@ class Holding:
     def to_text(self) -> str:
         """The text of the holding, for a column of a database."""
         holding = _to(self)
-        return text_of(lambda room, length, needed: int(
-            lib.osb_holding_to_text(holding, room, length, needed))).decode()
+        return text_of(lambda buffer, length, needed: int(
+            lib.osb_holding_to_text(holding, buffer, length, needed))).decode()
 
     @classmethod
     def from_text(cls, text: str) -> Holding:

@@ -76,15 +76,15 @@ class Platform:
 
     def ids(self) -> List[Id]:
         """The recorded ids, ascending."""
-        needed, room = c.c_size_t(0), (CId * 1)()
-        status = lib.osb_platform_ids(self._handle, room, 0, needed)
+        needed, buffer = c.c_size_t(0), (CId * 1)()
+        status = lib.osb_platform_ids(self._handle, buffer, 0, needed)
         while status == Status.TOO_SMALL:
-            room = (CId * needed.value)()
-            status = lib.osb_platform_ids(self._handle, room, needed.value, needed)
+            buffer = (CId * needed.value)()
+            status = lib.osb_platform_ids(self._handle, buffer, needed.value, needed)
         check(status)
-        return [id_from(it) for it in room[:needed.value]]
+        return [id_from(it) for it in buffer[:needed.value]]
 
     def save(self) -> bytes:
         """The saved record, JSON in UTF-8."""
-        return text_of(lambda room, length, needed: int(
-            lib.osb_platform_save(self._handle, room, length, needed)))
+        return text_of(lambda buffer, length, needed: int(
+            lib.osb_platform_save(self._handle, buffer, length, needed)))

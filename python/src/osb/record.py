@@ -89,8 +89,8 @@ class Record:
     def to_text(self) -> str:
         """The text of the record, for a column of a database."""
         record = _to(self)
-        return text_of(lambda room, length, needed: int(
-            lib.osb_record_to_text(record, room, length, needed))).decode()
+        return text_of(lambda buffer, length, needed: int(
+            lib.osb_record_to_text(record, buffer, length, needed))).decode()
 
     @classmethod
     def from_text(cls, text: str) -> Record:

@@ -44,15 +44,15 @@ def read_operation(body: bytes) -> Optional[str]:
     """The operation that a broker names in the body of an accepted request, which a platform sends back in its Polls.
     None where it names none.
     """
-    status, text = written(lambda room, length, needed: int(
-        lib.osb_read_operation(body, len(body), room, length, needed)))
+    status, text = written(lambda buffer, length, needed: int(
+        lib.osb_read_operation(body, len(body), buffer, length, needed)))
     return _operation(status, text)
 
 
 def write_method(kind: Kind) -> str:
     """The method of a request of the kind: PUT, GET or DELETE."""
-    return text_of(lambda room, length, needed: int(
-        lib.osb_write_method(Kind(kind).value, room, length, needed))).decode()
+    return text_of(lambda buffer, length, needed: int(
+        lib.osb_write_method(Kind(kind).value, buffer, length, needed))).decode()
 
 
 def write_target(request: Request, operation: Optional[str] = None, prefix: str = "") -> str:
@@ -60,8 +60,8 @@ def write_target(request: Request, operation: Optional[str] = None, prefix: str 
     `?`), and the query. The operation is the broker's; give one to a Poll alone. Raises NOT_UTF8.
     """
     front, named, given = utf8(prefix), utf8(operation or ""), request_to(request)
-    return text_of(lambda room, length, needed: int(lib.osb_write_target(
-        front, len(front), given, operation is not None, named, len(named), room, length, needed))).decode()
+    return text_of(lambda buffer, length, needed: int(lib.osb_write_target(
+        front, len(front), given, operation is not None, named, len(named), buffer, length, needed))).decode()
 
 
 def write_body(request: Request, organization: str, space: str, further: str = "{}") -> bytes:
@@ -71,7 +71,7 @@ def write_body(request: Request, organization: str, space: str, further: str = "
     """
     given, texts = request_to(request), [utf8(it) for it in (organization, space, further)]
     lengths = [part for text in texts for part in (text, len(text))]
-    return text_of(lambda room, length, needed: int(lib.osb_write_body(given, *lengths, room, length, needed)))
+    return text_of(lambda buffer, length, needed: int(lib.osb_write_body(given, *lengths, buffer, length, needed)))
 
 
 def retry_after(value: str) -> Optional[int]:
@@ -125,16 +125,16 @@ def read_request(method: str, target: bytes, body: bytes, longest_body: int, pre
 
 def asked_operation(target: bytes) -> Optional[str]:
     """The operation that the target of a Poll names, or None. Raises `Refusal`: it stands twice."""
-    status, text = written(lambda room, length, needed: int(
-        lib.osb_asked_operation(target, len(target), room, length, needed)))
+    status, text = written(lambda buffer, length, needed: int(
+        lib.osb_asked_operation(target, len(target), buffer, length, needed)))
     return _operation(status, text)
 
 
 def write_answer(answer: Answer, operation: Optional[str] = None) -> bytes:
     """The body of an answer. The operation is written in a 202 alone. Raises NOT_UTF8."""
     given, named = answer_to(answer), utf8(operation or "")
-    return text_of(lambda room, length, needed: int(lib.osb_write_answer(
-        given, operation is not None, named, len(named), room, length, needed)))
+    return text_of(lambda buffer, length, needed: int(lib.osb_write_answer(
+        given, operation is not None, named, len(named), buffer, length, needed)))
 
 
 def api_version(value: Optional[str]) -> None:
@@ -164,13 +164,13 @@ def catalogue_plans(document: bytes) -> List[Plan]:
     service and plan; a plan is asynchronous where its member `asynchronous` is true. Raises NOT_JSON, NO_SERVICES,
     BAD_SERVICE, NO_PLANS, BAD_PLAN, BAD_PLAN_MODE, PLAN_TWICE.
     """
-    needed, room = c.c_size_t(0), (CPlan * 16)()
-    status = lib.osb_catalogue_plans(document, len(document), room, len(room), needed)
+    needed, buffer = c.c_size_t(0), (CPlan * 16)()
+    status = lib.osb_catalogue_plans(document, len(document), buffer, len(buffer), needed)
     if status == Status.TOO_SMALL:
-        room = (CPlan * needed.value)()
-        status = lib.osb_catalogue_plans(document, len(document), room, len(room), needed)
+        buffer = (CPlan * needed.value)()
+        status = lib.osb_catalogue_plans(document, len(document), buffer, len(buffer), needed)
     check(status)
-    return [plan_from(it) for it in room[:needed.value]]
+    return [plan_from(it) for it in buffer[:needed.value]]
 
 
 def _status(status: int) -> int:
