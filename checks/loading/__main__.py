@@ -50,7 +50,7 @@ class Brokers:
     def ask(self, kind: str, count: int) -> Ran:
         """Has wrk ask for `creations` from this number on, or for `polls` of the first so many."""
         asked = self._asked
-        line = ["wrk", f"-t{asked.wrk_threads}", f"-c{asked.connections}", f"-d{asked.seconds}s", "--timeout", "30s",
+        line = ["wrk", "-t1", f"-c{asked.connections}", f"-d{asked.seconds}s", "--timeout", "30s",
                 "-s", _ASK, self._url, "--", kind, str(count), _LOGIN, _NAMED]
         said = subprocess.run(line, check=True, capture_output=True, text=True).stdout
         found = re.search(r"^answers (\d+) (\d+) (\d+) (\d+)$", said, re.MULTILINE)
@@ -108,13 +108,14 @@ def _resident(process: int) -> int:
 
 def _load(asked: argparse.Namespace) -> None:
     with brokers(asked) as served:
-        made = 0
+        made = next = first = 0
         while made < asked.creations:
-            ran = served.ask("creations", made)
-            made += ran.answers
-            print(f"{ran.answers / ran.seconds:.0f} creations a second, {ran.wrong} wrong; {made} made, the brokers take "
-                  f"{served.megabytes():.0f} MB", flush=True)
-        ran = served.ask("polls", max(1, made // asked.wrk_threads // 2))
+            ran = served.ask("creations", next)
+            made, next = made + ran.answers, next + ran.answers + asked.connections  # those are dropped at the end
+            first = first or ran.answers
+            print(f"{ran.answers / ran.seconds:.0f} creations a second, {ran.wrong} wrong; {made} made, the brokers "
+                  f"take {served.megabytes():.0f} MB", flush=True)
+        ran = served.ask("polls", first)
         print(f"{ran.answers / ran.seconds:.0f} polls a second, {ran.wrong} wrong", flush=True)
 
 
@@ -123,7 +124,6 @@ def main() -> None:
     parser = argparse.ArgumentParser("python3 -m loading", description=__doc__, allow_abbrev=False)
     parser.add_argument("--brokers", type=int, default=4, help="processes (4)")
     parser.add_argument("--connections", type=int, default=64, help="at once (64)")
-    parser.add_argument("--wrk-threads", type=int, default=2, help="of wrk (2)")
     parser.add_argument("--seconds", type=int, default=10, help="of a run (10)")
     parser.add_argument("--creations", type=int, default=100000, help="how many instances are made (100000)")
     parser.add_argument("--steps", type=int, default=2000, help="how many steps of the platform are timed (2000)")
@@ -131,7 +131,8 @@ def main() -> None:
     if asked.creations > 0:
         _load(asked)
     for records in (1000, 100000):
-        print(f"{steps_a_second(records, asked.steps):.0f} steps a second of a platform with {records} records", flush=True)
+        rate = steps_a_second(records, asked.steps)
+        print(f"{rate:.0f} steps a second of a platform with {records} records", flush=True)
 
 
 main()

@@ -1,12 +1,5 @@
--- What wrk asks of a broker. Its words: 'creations', and the number of the first instance that is new; or 'polls', and
--- how many there are. Instances of a thread have its number in front, so that no two threads name the same.
-
-local threads = 0
-
-function setup(thread)
-    thread:set("number", threads)
-    threads = threads + 1
-end
+-- What wrk asks of a broker, by one thread. Its words: 'creations' or 'polls', how many instances there are, the
+-- authorization, and the body of a creation.
 
 function init(words)
     kind, count, asked = words[1], tonumber(words[2]), 0
@@ -17,7 +10,7 @@ function init(words)
 end
 
 local function target(instance)
-    return string.format("/v2/service_instances/%08x-0000-4000-8000-%012x", number, instance)
+    return string.format("/v2/service_instances/00000000-0000-4000-8000-%012x", instance)
 end
 
 function request()
