@@ -1,6 +1,5 @@
 """A broker that sells folders of this machine: `BROKER_PASSWORD=.. python3 broker.py FOLDER [PORT]`."""
 import contextlib
-import json
 import os
 import shutil
 import sys
@@ -15,13 +14,13 @@ from osb.service import Task
 from osb.stores import SqliteStore
 from osb.wsgi import BrokerApplication
 
-PLAN = {"id": "00000000-0000-0000-0000-0000000000b1", "name": "plain", "description": "an empty folder"}
-SERVICE = {"id": "00000000-0000-0000-0000-0000000000a0", "name": "folder", "description": "folders of this machine",
-           "bindable": False, "plans": [PLAN]}
+CATALOGUE = b"""{"services": [{"id": "00000000-0000-0000-0000-0000000000a0", "name": "folder", "bindable": false,
+    "description": "folders of this machine", "plans": [
+        {"id": "00000000-0000-0000-0000-0000000000b1", "name": "plain", "description": "an empty folder"}]}]}"""
 
 
 class Folders:
-    """The worker: the thing behind an instance is a folder that is named by its id."""
+    """The worker: the thing behind an instance is a folder that is named by its id. No plan here is asynchronous."""
 
     def __init__(self, top: str) -> None:
         self._top = top
@@ -30,15 +29,16 @@ class Folders:
         folder = os.path.join(self._top, str(task.request.id))
         if task.work == Work.MAKE:
             os.makedirs(folder, exist_ok=True)  # it may be there, where a broker was killed in the middle of this work
-        elif os.path.exists(folder):
-            shutil.rmtree(folder)
-        return Outcome.DONE  # what raises an exception stays recorded, and is done again by resume
+        elif task.work == Work.DELETE:
+            with contextlib.suppress(FileNotFoundError):
+                shutil.rmtree(folder)
+        return Outcome.DONE if task.work in (Work.MAKE, Work.DELETE) else Outcome.BEFORE  # or raise: nobody knows
 
 
 def application(top: str) -> BrokerApplication:
     locks = FileLocks(f"{top}/locks")  # it makes the folder too
-    broker = BrokerApplication(json.dumps({"services": [SERVICE]}).encode(), SqliteStore(f"{top}/holdings.sqlite"),
-                               Folders(f"{top}/things"), "platform", os.environ["BROKER_PASSWORD"], lock=locks)
+    broker = BrokerApplication(CATALOGUE, SqliteStore(f"{top}/holdings.sqlite"), Folders(f"{top}/things"), "platform",
+                               os.environ["BROKER_PASSWORD"], lock=locks)
 
     def keep_on() -> None:
         while True:

@@ -37,6 +37,10 @@ class Tied(Protocol):
         ...
 
 
+UNTIED = "untied"
+"""The name of a store whose backend keeps none."""
+
+
 class Parted(Exception):
     """The store and the backend don't belong together; the text says why. Nothing was changed but that a new store has
     its name.
@@ -47,12 +51,14 @@ def tie(store: NamedStore, backend: Backend, must_exist: bool) -> None:
     """Sees that the store and the backend belong together, and ties a new store to a new backend. Raises `Parted` where
     they don't, and where the store is new although it `must_exist`.
 
-    A backend that keeps no name is taken as it is.
+    Backends that keep no name aren't told from one another; but none of them comes in the place of one that does.
     """
-    name = store.name()
+    name, is_tied = store.name(), isinstance(backend, Tied)
     if name is None and must_exist:
         raise Parted("the store is new, and --existing wants one that has been begun")
-    name = name or store.begin(str(uuid.uuid4()))
+    name = name or store.begin(str(uuid.uuid4()) if is_tied else UNTIED)
+    if (name == UNTIED) == is_tied:
+        raise Parted("the store's instances are another backend's: one that keeps the store's name, or doesn't")
     if not isinstance(backend, Tied):
         return
     is_empty = store.is_empty()  # read first: whoever ties them meanwhile does so before there are rows

@@ -107,11 +107,20 @@ def _run(asked: argparse.Namespace) -> int:
         with _page(asked):
             known = _durations(asked, client, worker)
             if known is not None:
+                _see_to_broker(asked, instances)
                 instances.free(asked.worker)
                 worker.run(Parts(client, instances, asked.worker, Pace(asked.pace, asked.longest_pace, asked.late_for),
                                  Longest(asked.longest_poll, known), progress.changed), asked.once, turned)
     progress.end()
     return 0
+
+
+def _see_to_broker(asked: argparse.Namespace, instances: Instances) -> None:
+    """The instances of a store are all of one broker: another one would say of each that it is gone."""
+    kept = instances.asks(asked.broker.rstrip("/"), asked.moved)
+    if kept != asked.broker.rstrip("/"):
+        raise words.refuse(f"the instances of this store are of the broker {kept}: if that is the same one, at another "
+                           "address, say --moved")
 
 
 @contextlib.contextmanager

@@ -32,6 +32,7 @@ _TABLE = (
     "CREATE INDEX IF NOT EXISTS osb_due_instances ON osb_instances (due) WHERE due IS NOT NULL",
     "CREATE TABLE IF NOT EXISTS osb_lives (id text NOT NULL, number integer NOT NULL, state text NOT NULL, "
     "since double precision NOT NULL, PRIMARY KEY (id, number))",
+    "CREATE TABLE IF NOT EXISTS osb_broker_asked (one integer PRIMARY KEY CHECK (one = 1), url text NOT NULL)",
     # what the page asks for: how many are in each state, the rows of one by time, and what is leased
     "CREATE INDEX IF NOT EXISTS osb_instances_by_state ON osb_instances (state, since, id)",
     "CREATE INDEX IF NOT EXISTS osb_leased_instances ON osb_instances (leased_until) WHERE worker IS NOT NULL")
@@ -105,6 +106,17 @@ class Instances:
     def now(self) -> float:
         """The time, as all workers have it."""
         return self._database.now()
+
+    def asks(self, broker: str, is_moved: bool) -> str:
+        """Keeps the URL of the broker that has the instances, where none is kept yet, or where it `is_moved`. Returns the
+        one that is kept.
+        """
+        with self._database.transaction() as execute:
+            execute("INSERT INTO osb_broker_asked VALUES (1, ?) ON CONFLICT DO NOTHING", [broker])
+            if is_moved:
+                execute("UPDATE osb_broker_asked SET url = ?", [broker])
+            ((kept,),) = execute("SELECT url FROM osb_broker_asked", [])
+        return str(kept)
 
     def order(self, id: Id, service: Id, plan: Id, further: str) -> None:
         """Writes a new order, which is due. Raises ID_USED where the id has a row, which stays as it was."""

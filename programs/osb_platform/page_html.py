@@ -138,8 +138,8 @@ def _waiting(seen: Overview, asked: Asked) -> Html:
         _first(len(rows), count, "the longest first"), ("Id", "Since"), rows), _all(len(rows), count, more))
 
 
-_WHY = ("Nobody can say whether the broker holds these: another may have the id. Look whose it is, and then remove "
-        "it.")
+_WHY = ("Nobody can say whether the broker holds these: another may have the id. Ask the broker what it has of each, "
+        "and remove those that are yours.")
 
 
 def _in_flight(seen: Overview, asked: Asked) -> Html:
@@ -168,7 +168,7 @@ def _todo(row: Seen) -> Html:
     if row.state != "unsettled":
         return Html("")
     return element("p", "It waits for an operator: nobody can say whether the broker holds it, and another may have "
-                   "its id. Look whose it is, and then remove it: ",
+                   "its id. Ask the broker what it has of it, and if it is yours remove it: ",
                    element("code", f"./osb-platform remove {row.id}"))
 
 

@@ -27,7 +27,8 @@ def waiting(rows: List[Instance]) -> Optional[str]:
     if not unsettled:
         return None
     since = moment(min(row.since for row in unsettled))
-    return f"{len(unsettled)} unsettled, the first since {since}: look at each, and then remove it"
+    return (f"{len(unsettled)} unsettled, the first since {since}: ask the broker what it has of each, and remove "
+            "those that are yours")
 
 
 def members(row: Instance) -> List[Tuple[str, str]]:

@@ -76,7 +76,7 @@ class OfSessions(InFolder):
 
     def test_it_is_lost(self) -> None:
         store = SqliteStore(self.folder / "holdings.sqlite")
-        url = f"{POSTGRESQL}?options=-csearch_path%3D{self.schema()}"
+        url = f"{POSTGRESQL}?options=-csearch_path%3D{self.schema()}&application_name={self.folder.name}"
         (first, first_locks), (second, second_locks) = (fenced(store, Databases(url, b"a key", 2)) for _ in range(2))
         with contextlib.suppress(Exception), first_locks(ONE):  # it can't unlock in the end
             with second_locks.attempt(ONE) as is_had:
@@ -97,8 +97,8 @@ class OfSessions(InFolder):
         return name
 
     def end_those_that_lock(self) -> None:
-        self.execute("SELECT pg_terminate_backend(pid, 10000) FROM pg_locks WHERE locktype = 'advisory' AND granted "
-                     "AND database = (SELECT oid FROM pg_database WHERE datname = current_database())")
+        self.execute("SELECT pg_terminate_backend(pid, 10000) FROM pg_locks JOIN pg_stat_activity USING (pid) WHERE "
+                     f"locktype = 'advisory' AND granted AND application_name = '{self.folder.name}'")
 
     def execute(self, statement: str) -> None:
         with Sessions(POSTGRESQL, 1).session() as session, session.cursor() as cursor:

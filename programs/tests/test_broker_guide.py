@@ -1,6 +1,7 @@
 """The backend of docs/broker-guide.md: it runs, also over the broker's death, and has at most 40 lines."""
 from __future__ import annotations
 
+import json
 import sqlite3
 import unittest
 from contextlib import closing
@@ -24,6 +25,21 @@ class Guide(InFolder):
             with closing(sqlite3.connect(top / str(ONE) / "data.sqlite")) as database:
                 database.execute("CREATE TABLE x (y)")
             self.assertEqual((running.deprovision().status, list(top.iterdir())), (200, []))
+
+    def test_its_catalogue(self) -> None:
+        """Both plans sell: the one by a worker, too."""
+        file = FILE.with_name("catalogue.json")
+        service = json.loads(file.read_bytes())["services"][0]
+        with broker(self.folder, "--backend", str(FILE), "--catalog", str(file), "--sweep-seconds", "0.05") as running:
+            self.assertEqual([it["id"] for it in running.ask("GET", "/v2/catalog").body["services"]], [service["id"]])
+            for number, (plan, status) in enumerate(zip(service["plans"], (201, 202), strict=True)):
+                target = f"/v2/service_instances/00000000-0000-0000-0000-{number:012}"
+                body = {"service_id": service["id"], "plan_id": plan["id"], "organization_guid": "o", "space_guid": "s"}
+                reply = running.ask("PUT", f"{target}?accepts_incomplete=true", json.dumps(body).encode())
+                self.assertEqual(reply.status, status)
+                while reply.body != {"state": "succeeded"}:
+                    reply = running.ask("GET", f"{target}/last_operation")
+                    self.assertEqual(reply.status, 200)
 
     def test_it_is_killed(self) -> None:
         self.assertIn("work-running", POINTS)

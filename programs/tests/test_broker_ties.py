@@ -4,7 +4,7 @@ from __future__ import annotations
 import unittest
 
 from osb import BrokerRow, Holding, Id, Phase, Request
-from osb_broker.backend import There
+from osb_broker.backend import Backend, There
 from osb_broker.folders import Folders
 from osb_broker.sqlite_store import SqliteStore
 from osb_broker.ties import Parted, Tied, tie
@@ -20,7 +20,7 @@ class OfTies(InFolder):
     def things(self, name: str) -> Folders:
         return Folders(self.folder / name)
 
-    def refused(self, store: SqliteStore, things: Folders) -> str:
+    def refused(self, store: SqliteStore, things: Backend) -> str:
         with self.assertRaises(Parted) as raised:
             tie(store, things, False)
         return str(raised.exception)
@@ -63,10 +63,14 @@ class OfTies(InFolder):
         self.assertEqual([things.own("one"), things.own("two"), self.things("here").owner()], ["one"] * 3)
 
     def test_a_backend_without_a_name(self) -> None:
-        """As authors may write one."""
+        """As authors may write one: it isn't told from others like it, and isn't taken in the place of one with a name.
+        """
         self.assertIsInstance(self.things("here"), Tied)
-        for name in "ab":
+        for name in "aab":
             tie(self.store(name), Nameless(), False)
+        self.assertIn("another backend's", self.refused(self.store("a"), self.things("here")))
+        tie(self.store("c"), self.things("here"), False)
+        self.assertIn("another backend's", self.refused(self.store("c"), Nameless()))
 
 
 class Nameless:

@@ -41,7 +41,21 @@ class ProgramTest(InFolder):
             ran(self.folder, "run", "--once", "--broker", end.url)
         status, out, err = ran(self.folder, "list")
         self.assertEqual((status, out.split("\t")[1]), (0, "unsettled"))
-        self.assertRegex(err, r"^1 unsettled, the first since [0-9TZ:-]+: look at each, and then remove it\n$")
+        self.assertRegex(err, r"^1 unsettled, the first since [0-9TZ:-]+: ask the broker what it has of each, and "
+                              "remove those that are yours\n$")
+
+    def test_another_broker(self) -> None:
+        """It would say of each instance that it is gone: nothing is sent to it, unless it is the same one."""
+        id = ran(self.folder, "create", *ORDER)[1].strip()
+        with far_end(Said(201)) as one, far_end(Said(200)) as other:
+            ran(self.folder, "run", "--once", "--broker", one.url)
+            ran(self.folder, "remove", id)
+            self.assertEqual(ran(self.folder, "run", "--once", "--broker", other.url), (
+                2, "", f"osb-platform: the instances of this store are of the broker {one.url}: if that is the same "
+                "one, at another address, say --moved\n"))
+            self.assertEqual(other.came, [])
+            self.assertIn(f"{id}\tgone\n", ran(self.folder, "run", "--once", "--broker", f"{other.url}/", "--moved")[1])
+            self.assertEqual(ran(self.folder, "run", "--once", "--broker", one.url)[0], 2)
 
     def test_refused(self) -> None:
         """No such instance, an id that is used: the status is 1, and nothing changes."""

@@ -6,6 +6,7 @@ import (
 	"errors"
 	"fmt"
 	"io/fs"
+	"log"
 	"os"
 	"path/filepath"
 	"syscall"
@@ -18,6 +19,9 @@ type Backend struct{ Top string }
 
 // Work makes an instance or deletes it, and tells how that went by what is there in the end.
 func (b Backend) Work(_ context.Context, task osb.Task) (osb.Outcome, error) {
+	if task.Work != osb.WorkMake && task.Work != osb.WorkDelete {
+		return osb.OutcomeBefore, nil // an asynchronous plan: nothing is started here
+	}
 	id := task.Request.ID.String()
 	whole, part := filepath.Join(b.Top, id), filepath.Join(b.Top, "part-"+id)
 	failed := take(whole, part, task.Work == osb.WorkMake)
@@ -30,6 +34,7 @@ func (b Backend) Work(_ context.Context, task osb.Task) (osb.Outcome, error) {
 	case isWhole == (task.Work == osb.WorkMake):
 		return osb.OutcomeDone, nil
 	}
+	log.Printf("instance %s: %v", id, failed)
 	return osb.OutcomeBefore, nil
 }
 

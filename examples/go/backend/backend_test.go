@@ -34,6 +34,8 @@ func TestWork(t *testing.T) {
 		{name: "deleted with a part of it", whole: true, part: true, work: osb.WorkDelete, outcome: osb.OutcomeDone},
 		{name: "not made", isLocked: true, work: osb.WorkMake, outcome: osb.OutcomeBefore},
 		{name: "not deleted", isLocked: true, whole: true, work: osb.WorkDelete, outcome: osb.OutcomeBefore, isWhole: true},
+		{name: "an asynchronous plan", work: osb.WorkStartMaking, outcome: osb.OutcomeBefore},
+		{name: "an asynchronous plan's", whole: true, work: osb.WorkStartDeleting, outcome: osb.OutcomeBefore, isWhole: true},
 		{name: "a part that stays", isLocked: true, part: true, work: osb.WorkDelete, isUnknown: true, left: true},
 	}) {
 		t.Run(it.name, func(t *testing.T) {

@@ -14,7 +14,9 @@ import (
 // A Worker makes and deletes what is sold, by Do. Broker is set when NewBroker has made it of the worker.
 type Worker struct {
 	Broker *osb.Broker
-	// Do is the operation, making or deleting. It looks at what is there, since it may be done again after a restart.
+	// Do is the operation, making or deleting. It looks at what is there, since it may be done again after a restart,
+	// and gives nil where all is done, and an error where nothing was made, or all is there still. While nobody knows
+	// which it doesn't return.
 	Do func(id osb.ID, phase osb.Phase) error
 
 	turn    sync.Mutex
@@ -23,11 +25,14 @@ type Worker struct {
 
 // Work starts an operation, and tells that it is started.
 func (w *Worker) Work(_ context.Context, task osb.Task) (osb.Outcome, error) {
-	phase := osb.PhaseMaking
-	if task.Work == osb.WorkStartDeleting {
-		phase = osb.PhaseDeleting
+	switch task.Work {
+	case osb.WorkStartMaking:
+		w.Start(task.Request.ID, osb.PhaseMaking)
+	case osb.WorkStartDeleting:
+		w.Start(task.Request.ID, osb.PhaseDeleting)
+	default:
+		return osb.OutcomeBefore, nil // a plan that isn't asynchronous: nothing of it is done here
 	}
-	w.Start(task.Request.ID, phase)
 	return osb.OutcomeDone, nil
 }
 

@@ -117,3 +117,17 @@ func TestRestart(t *testing.T) {
 		t.Error(done)
 	}
 }
+
+// Of a plan that isn't asynchronous nothing is done, and no operation begins.
+func TestOtherPlan(t *testing.T) {
+	worker := &Worker{Do: func(osb.ID, osb.Phase) error { panic("it began") }}
+	for _, work := range []osb.Work{osb.WorkMake, osb.WorkDelete} {
+		task := osb.Task{Work: work, Request: osb.Request{ID: instance}}
+		if outcome, err := worker.Work(context.Background(), task); outcome != osb.OutcomeBefore || err != nil {
+			t.Errorf("%v: %v, %v", work, outcome, err)
+		}
+	}
+	if len(worker.running) != 0 {
+		t.Error(worker.running)
+	}
+}
