@@ -32,7 +32,7 @@ class Guide(InFolder):
         service = json.loads(file.read_bytes())["services"][0]
         with broker(self.folder, "--backend", str(FILE), "--catalog", str(file), "--sweep-seconds", "0.05") as running:
             self.assertEqual([it["id"] for it in running.ask("GET", "/v2/catalog").body["services"]], [service["id"]])
-            for number, (plan, status) in enumerate(zip(service["plans"], (201, 202), strict=True)):
+            for number, (plan, status) in enumerate(zip(service["plans"], (201, 202))):
                 target = f"/v2/service_instances/00000000-0000-0000-0000-{number:012}"
                 body = {"service_id": service["id"], "plan_id": plan["id"], "organization_guid": "o", "space_guid": "s"}
                 reply = running.ask("PUT", f"{target}?accepts_incomplete=true", json.dumps(body).encode())
