@@ -33,6 +33,8 @@
       const outer = above.getBoundingClientRect(), style = getComputedStyle(above);
       if (style.overflowX !== "visible" && above.parentElement !== null &&
           (box.left < outer.left - 1 || box.right > outer.right + 1)) wrong.push("text cut off: " + told(it));
+      if (style.overflowY !== "visible" && above.parentElement !== null &&
+          (box.top < outer.top - 1 || box.bottom > outer.bottom + 1)) wrong.push("text cut off below: " + told(it));
     }
   }
 
@@ -69,8 +71,11 @@
   }
 
   // Each state has its word, and what is pressed is large enough (WCAG 2.2, 2.5.8).
-  for (const it of document.querySelectorAll(".state"))
+  for (const it of document.querySelectorAll(".state, .life")) {
     if (!it.textContent.trim()) wrong.push("a state without a word");
+    if (!it.getClientRects().length || getComputedStyle(it).visibility !== "visible")
+      wrong.push("a state that isn't shown: " + told(it));
+  }
   for (const it of document.querySelectorAll("nav a, button, input:not([type=hidden])"))
     if (it.getBoundingClientRect().height < 24) wrong.push("small: " + told(it));
 

@@ -39,7 +39,7 @@ class Storm:
     def __init__(self, asked: argparse.Namespace, folder: Path, at: Places, ports: List[int], entrances: List[int]
                  ) -> None:
         """`ports`: where the brokers listen. `entrances`: where they are reached."""
-        self._asked, self._folder, self._at = asked, folder, at
+        self._asked, self._folder, self.at = asked, folder, at
         self._environment = python_environment(_TOP, asked.seed)
         self.faults = _faults(asked)
         self._proxy = Proxy(self.faults, entrances)
@@ -60,7 +60,7 @@ class Storm:
         self.brokers = [Killed(self._broker(at, n), broker_points[n::len(ports)], Random(f"{asked.seed} broker {n}"),
                                is_disturbed, self._log) for n, at in enumerate(ports)]
         self.operator = Operator(at.instances, asked.seed, asked.instances, asked.seconds)
-        self.audit = Audit(at.instances, at.holdings, at.things)
+        self.audit = Audit(at.instances, at.holdings, at.things, at.is_usable)
         self.orders_hit: List[str] = []
         self.settled_in = -1.0
         self.failed: List[str] = []
@@ -79,7 +79,7 @@ class Storm:
                 program.begin_calmly()
         for thread in threads:
             thread.start()
-        create = [sys.executable, "-m", "osb_platform", "create", *self._at.platform_words]
+        create = [sys.executable, "-m", "osb_platform", "create", *self.at.platform_words]
         if self.is_killed(self.platform):
             self.orders_hit = self.operator.crash_ordering(create, self._environment)
         began = time.monotonic()
@@ -114,7 +114,7 @@ class Storm:
         chance = Random(f"{self._asked.seed} sessions")
         while not stop.wait(chance.uniform(0.5, 3.0)):
             with contextlib.suppress(Exception):
-                self._at.disturb()
+                self.at.disturb()
 
     def _look(self, stop: threading.Event) -> None:
         while not stop.wait(0.25):
@@ -125,7 +125,7 @@ class Storm:
                 self.failed.append(repr(error))
 
     def _count(self, is_last: bool = False) -> None:
-        self._log.count((state for _, state in self._at.instances.states()), is_last)
+        self._log.count((state for _, state in self.at.instances.states()), is_last)
 
     def _settle(self) -> None:
         """No more faults: waits until all that was late has come, and every instance is at rest."""
@@ -136,9 +136,10 @@ class Storm:
         self._log.say(calm=True)
         while time.monotonic() < began + self._asked.settle:
             self._count()
-            states = [state for _, state in self._at.instances.states()]
+            states = [state for _, state in self.at.instances.states()]
             is_late = time.monotonic() > began + _LATE and self._proxy.in_flight == 0
-            if is_late and all(state in REST and state != "unsettled" for state in states):
+            is_still = all(state in REST and state != "unsettled" for state in states)
+            if is_late and is_still and (self._asked.without is not None or not self.operator.undone()):
                 self.settled_in = time.monotonic() - began
                 break
             self.operator.clear()
@@ -147,17 +148,17 @@ class Storm:
         self.audit.look()
 
     def _broker(self, port: int, number: int) -> Program:
-        words = ["serve", "--listen", f"127.0.0.1:{port}", *self._at.broker_words, "--sweep-seconds", "0.5",
+        words = ["serve", "--listen", f"127.0.0.1:{port}", *self.at.broker_words, "--sweep-seconds", "0.5",
                  "--workers", "8", "--stop-seconds", "20"]
         start = [sys.executable, "-m", "osb_broker"]
-        if self._asked.without in ("marks", "work", "busy"):
+        if self._asked.without in ("marks", "work", "busy", "locks"):
             start = [sys.executable, "-m", "storming.without_broker", self._asked.without]
         elif self._asked.without in _OTHER_BROKERS:
             start = [sys.executable, "-m", "storming.instead_broker", _OTHER_BROKERS[self._asked.without]]
         return Program(f"broker {number}", start + words, self._environment, self._folder / f"broker-{number}.log")
 
     def _platform(self) -> Program:
-        words = ["run", "--broker", f"http://127.0.0.1:{self._proxy.port()}", *self._at.platform_words, "--seconds",
+        words = ["run", "--broker", f"http://127.0.0.1:{self._proxy.port()}", *self.at.platform_words, "--seconds",
                  "2", "--pace", "0.1", "--longest-pace", "1", "--look-seconds", "0.2", "--longest-poll", "1.5",
                  "--catalog", str(self._catalogue)]
         start = [sys.executable, "-m", "osb_platform"]
@@ -193,7 +194,7 @@ def main(given: List[str]) -> int:
 def _verdict(asked: argparse.Namespace, storm: Storm) -> int:
     """Tells what came of it."""
     audit, programs = storm.audit, (storm.platform, *storm.brokers)
-    print(f"{storm.operator.ordered + len(storm.orders_hit)} ordered, {storm.operator.removals} removals, "
+    print(f"{len(storm.operator.orders) + len(storm.orders_hit)} ordered, {len(storm.operator.removed)} removals, "
           f"{sum(it.kills for it in storm.brokers)} kills of brokers, {storm.platform.kills} of the platform")
     print("requests: " + ", ".join(f"{count} {kind}" for kind, count in sorted(storm.faults.counts.items())))
     print(f"compared in the storm: {audit.looks['ready']} ready, {audit.looks['gone']} gone; "
@@ -209,15 +210,19 @@ def _verdict(asked: argparse.Namespace, storm: Storm) -> int:
     tries = _untried(asked, storm)
     tried = ("it is a storm: all that can happen does", not tries, "; ".join(tries))
     if asked.without is not None:
-        left = audit.orphans() + len(audit.wrong)
-        print(f"{audit.orphans()} things that no record has in the end, {len(audit.wrong)} false records meanwhile")
+        together = storm.at.together()
+        left = audit.orphans() + len(audit.wrong) + len(together)
+        print(f"{audit.orphans()} things that no record has in the end, {len(audit.wrong)} false records meanwhile, "
+              f"{len(together)} times two at work at once")
         return _tally([(f"without {asked.without} the storm finds it", left > 0, "it doesn't"), settles, ends])
-    repeats = why_not()
+    repeats, undone, together = why_not(), storm.operator.undone(), storm.at.together()
     verdicts = [
         ("a seed repeats the faults", not repeats, repeats),
         settles, tried,
         ("records, holdings and things agree in the end", not counted, "; ".join(counted)),
         ("each ready and each gone is true when it shows", not audit.wrong, f"{len(audit.wrong)} were wrong"),
+        ("each order has a record, and each removal is done", not undone, f"{len(undone)} weren't: {undone[:3]}"),
+        ("one at most works at an instance", not together, f"{len(together)} times there were two: {together[:3]}"),
         ends]
     if asked.points and asked.kills != "none":
         verdicts.append(("each crash point is hit", not storm.left(), ", ".join(storm.left())))
@@ -226,7 +231,7 @@ def _verdict(asked: argparse.Namespace, storm: Storm) -> int:
 
 def _untried(asked: argparse.Namespace, storm: Storm) -> List[str]:
     """What has to come about in every storm and hasn't, or too seldom."""
-    looks, kinds, ordered = storm.audit.looks, storm.faults.counts, storm.operator.ordered
+    looks, kinds, ordered = storm.audit.looks, storm.faults.counts, len(storm.operator.orders)
     found = [f"{kind} {looks[kind]} times only" for kind in ("ready", "gone") if looks[kind] < 20]
     found += [f"no request met {kind!r}" for kind in KINDS if asked.faults != 0 and kinds[kind] == 0]
     if ordered < asked.instances // 2:
@@ -279,17 +284,21 @@ def _words(given: List[str]) -> argparse.Namespace:
     parser.add_argument("--backend", choices=("folders", "postgresql"), default="folders",
                         help="what is sold (folders)")
     parser.add_argument("--settle", type=float, default=120.0, help="how many seconds it may take to settle (120)")
-    parser.add_argument("--without", choices=("marks", "work", "busy", "attempts", *_OTHER_BROKERS, "platform"),
-                        help="a part of the design is taken out (marks, work, busy, attempts); the broker's library is "
-                             "a handle that stands, and not a value (values); or the broker, the platform, or both are "
+    parser.add_argument("--without", choices=("marks", "work", "busy", "attempts", "locks", *_OTHER_BROKERS,
+                                                      "platform"),
+                        help="a part of the design is taken out (marks, work, busy, attempts, locks); the broker's library "
+                             "is a handle that stands, and not a value (values); or the broker, the platform, or both are "
                              "as they are usually written: then it passes where the storm finds that")
-    parser.add_argument("--kills", choices=("both", "brokers", "platform", "none"), default="both",
-                        help="what is killed (both)")
+    parser.add_argument("--kills", choices=("both", "brokers", "platform", "none"),
+                        help="what is killed (both; without attempts the brokers, since a platform that is killed hears "
+                             "no late answer)")
     parser.add_argument("--no-points", dest="points", action="store_false", help="not every crash point has to be hit")
     parser.add_argument("--keep", type=Path, metavar="FOLDER", help="a new folder that keeps the logs and all files")
     parser.add_argument("--log", type=Path, metavar="FILE",
                         help="what happens, a line of JSON each; python -m storming.picture draws it")
-    return parser.parse_args(given)
+    asked = parser.parse_args(given)
+    asked.kills = asked.kills or ("brokers" if asked.without == "attempts" else "both")
+    return asked
 
 
 if __name__ == "__main__":

@@ -22,10 +22,10 @@ class Things(NamedTuple):
 class Audit:
     """Looks at all three. What it finds wrong stays."""
 
-    def __init__(self, instances: Instances, holdings: Callable[[], Dict[str, Holding]], things: Callable[[], Things]
-                 ) -> None:
+    def __init__(self, instances: Instances, holdings: Callable[[], Dict[str, Holding]], things: Callable[[], Things],
+                 is_usable: Callable[[Instance], bool]) -> None:
         """`holdings`: all rows of the broker's store."""
-        self._instances, self._holdings, self._things = instances, holdings, things
+        self._instances, self._holdings, self._things, self._is_usable = instances, holdings, things, is_usable
         self.looks: "Counter[str]" = Counter()
         self.wrong: Dict[str, str] = {}
         """Each instance of which something was wrong once, with what was first."""
@@ -40,6 +40,8 @@ class Audit:
         for id in (things.some | set(held)) - set(after):
             self._found(id, "a thing or a holding without a record")
         for id, row in before.items():
+            if row.kept is not None and row.kept.record.state.name.lower().replace("_", "-") != row.state:
+                self._found(id, f"{row.state}, and its record says {row.kept.record.state.name}")
             if row.state in ("ready", "gone") and after[id] == row.state:
                 self.looks[row.state] += 1
                 why = _why_not(row, held.get(id, Holding.NONE), id in things.whole, id in things.some)
@@ -53,10 +55,11 @@ class Audit:
         ready = {id for id, row in rows.items() if row.state == "ready"}
         held = {id for id, it in all_held.items() if it.row is not None or it.work is not None}
         other = {id for id in ready & held if not _is_ready(all_held[id], rows[id])}
+        useless = {id for id in ready & things.whole if not self._is_usable(rows[id])}
         found = [("records that aren't at rest", {id for id, row in rows.items() if row.state not in REST}),
                  ("things that no record has", things.some - ready), ("records without a thing", ready - things.whole),
                  ("holdings that no record has", held - ready), ("records without a holding", ready - held),
-                 ("holdings of another plan, or not ready", other)]
+                 ("holdings of another plan, or not ready", other), ("things that can't be used", useless)]
         return [f"{len(ids)} {what}: {' '.join(sorted(ids)[:3])}" for what, ids in found if ids]
 
     def orphans(self) -> int:

@@ -6,7 +6,7 @@ import subprocess
 import threading
 import time
 from random import Random
-from typing import Dict, List, Sequence
+from typing import Dict, List, Sequence, Set
 
 from osb import Id
 from osb_platform.instances import Instances
@@ -14,6 +14,7 @@ from osb_platform.instances import Instances
 SERVICE = Id.of("00000000-0000-0000-0000-0000000000a0")
 PLANS = (Id.of("00000000-0000-0000-0000-0000000000b1"), Id.of("00000000-0000-0000-0000-0000000000b2"))
 ORDER_POINTS = ("order-next", "order-written")
+KEY = b"a key"
 
 
 class Operator:
@@ -26,8 +27,10 @@ class Operator:
         self._instances, self._chance, self._orders = instances, Random(f"{seed} removals"), Random(f"{seed} orders")
         self._crashed = Random(f"{seed} orders that are killed")
         self._count, self._seconds = count, seconds
-        self.removals = 0
-        self.ordered = 0
+        self.orders: Set[str] = set()
+        """What was ordered: the ids."""
+        self.removed: Set[str] = set()
+        """What was asked to be removed: the ids."""
         self.failed: List[str] = []
 
     def crash_ordering(self, create: Sequence[str], environment: Dict[str, str]) -> List[str]:
@@ -48,12 +51,19 @@ class Operator:
         began = time.monotonic()
         while not stop.is_set():
             try:
-                self._instances.order(_id(self._orders), SERVICE, self._orders.choice(PLANS), "{}")
-                self.ordered += 1
+                id = _id(self._orders)
+                self._instances.order(id, SERVICE, self._orders.choice(PLANS), "{}")
+                self.orders.add(str(id))
                 self._remove_some()
-                stop.wait(max(0.0, began + self.ordered * gap - time.monotonic()))
+                stop.wait(max(0.0, began + len(self.orders) * gap - time.monotonic()))
             except Exception as error:
                 self.failed.append(repr(error))
+
+    def undone(self) -> List[str]:
+        """What was ordered and has no record, and what was to be removed and is there still."""
+        states = dict(self._instances.states())
+        return sorted(self.orders - set(states)) + sorted(
+            id for id in self.removed if states.get(id) not in ("gone", "withdrawn"))
 
     def clear(self) -> None:
         """Has those removed that wait for an operator."""
@@ -70,7 +80,7 @@ class Operator:
 
     def _remove(self, id: str) -> None:
         self._instances.ask_removal(Id.of(id))
-        self.removals += 1
+        self.removed.add(id)
 
 
 def _id(chance: Random) -> Id:
@@ -82,4 +92,4 @@ def python_environment(top: str, seed: int) -> Dict[str, str]:
     path = os.pathsep.join([f"{top}/programs", f"{top}/python/src", f"{top}/checks"])
     return {**os.environ, "PYTHONPATH": path, "PYTHONSAFEPATH": "1", "PYTHONDONTWRITEBYTECODE": "1",
             "STORM_SEED": str(seed), "OSB_BROKER_PASSWORD": "secret", "OSB_PLATFORM_PASSWORD": "secret",
-            "OSB_BACKEND_KEY": "a key", "PGAPPNAME": "storm"}
+            "OSB_BACKEND_KEY": KEY.decode(), "PGAPPNAME": "storm"}

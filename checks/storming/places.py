@@ -2,6 +2,7 @@
 from __future__ import annotations
 
 import contextlib
+import json
 import os
 import re
 import sqlite3
@@ -10,13 +11,15 @@ from pathlib import Path
 from typing import Any, Callable, Dict, Iterator, List, NamedTuple, Set
 
 from osb import Holding
+from osb_broker.databases import name_of, password_of
 from osb_broker.pg_store import PgStore
 from osb_broker.sqlite_store import SqliteStore
-from osb_platform.instances import Instances
+from osb_platform.instances import Instance, Instances
 from osb_platform.pg_database import PgDatabase
 from osb_platform.sqlite_database import SqliteDatabase
 from osb_program import pg
 from storming.audit import Things
+from storming.operator import KEY
 
 _SLOW_FOLDERS = Path(__file__).with_name("slow_folders.py")
 
@@ -28,6 +31,10 @@ class Places(NamedTuple):
     holdings: Callable[[], Dict[str, Holding]]
     """All rows of the broker's store."""
     things: Callable[[], Things]
+    is_usable: Callable[[Instance], bool]
+    """Whether what is there of an instance can be used, and is what was ordered."""
+    together: Callable[[], List[str]]
+    """The instances at which two have worked at once, as far as that is seen."""
     disturb: Callable[[], None]
     """Ends one of the sessions that the programs have with PostgreSQL, where there are any."""
     broker_words: List[str]
@@ -59,13 +66,21 @@ def places(folder: Path, store: str, backend: str) -> Iterator[Places]:
             found = _databases(url)
             return Things(found.whole - others, found.some - others)
 
+        def is_usable(row: Instance) -> bool:
+            return _takes_its_password(url, row) if backend == "postgresql" else _is_its(folder, row)
+
+        def together() -> List[str]:
+            file = folder / "broker" / "together"
+            return file.read_text(encoding="ascii").split() if file.exists() else []
+
         def disturb() -> None:
             if url:
                 _execute(url, "SELECT pg_terminate_backend(pid) FROM pg_stat_activity WHERE application_name = 'storm' "
                               "AND datname = current_database() ORDER BY random() LIMIT 1")
         named = url if backend == "postgresql" else str(_SLOW_FOLDERS)
         try:
-            yield Places(instances, holdings, things, disturb, [*broker, "--backend", named], platform)
+            yield Places(instances, holdings, things, is_usable, together, disturb, [*broker, "--backend", named],
+                         platform)
         finally:
             if backend == "postgresql":
                 _drop(url, things().some & {id for id, _ in instances.states()})
@@ -84,6 +99,28 @@ def _folders(top: Path) -> Things:
     names = [it.name for it in top.iterdir()] if top.exists() else []
     whole = {name for name in names if not name.startswith(".")}
     return Things(whole, whole | {name[6:] for name in names if name.startswith(".part-")})
+
+
+def _is_its(folder: Path, row: Instance) -> bool:
+    """Whether the folder has what was ordered in it."""
+    wanted = {"instance": str(row.id), "plan": str(row.plan), "service": str(row.service)}
+    with contextlib.suppress(OSError, ValueError):
+        found: Any = json.loads((folder / "broker" / "instances" / str(row.id) / "instance.json").read_bytes())
+        return bool(found == wanted)
+    return False
+
+
+def _takes_its_password(url: str, row: Instance) -> bool:
+    """Whether the database lets its role in, and takes a table of it."""
+    import psycopg2  # where PostgreSQL is used it is there
+    name = name_of(row.id)
+    try:
+        asked: Any = psycopg2.connect(url, dbname=name, user=name, password=password_of(KEY, row.id))
+        with contextlib.closing(asked) as session, session.cursor() as cursor:
+            cursor.execute("CREATE TABLE x (y integer)")
+        return True
+    except psycopg2.Error:
+        return False
 
 
 def _databases(url: str) -> Things:

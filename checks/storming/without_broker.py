@@ -1,16 +1,18 @@
 """The broker with a part of the design taken out, to see that the storm finds it: `python -m storming.without_broker
-PART serve ..`. PART is `marks`, `work` or `busy`.
+PART serve ..`. PART is `marks`, `work`, `busy` or `locks`.
 """
 from __future__ import annotations
 
+import contextlib
 import sys
 from dataclasses import replace
-from typing import Any, Optional, Tuple, Union
+from typing import Any, ContextManager, Optional, Tuple, Union
 
-from osb import Answer, Holding, Mode, Outcome, Request, Work
+from osb import Answer, Holding, Id, Mode, Outcome, Request, Work
 from osb.service import BrokerService, Task
 from osb.wire import Asked
 from osb_broker.__main__ import main
+from osb_broker.locks import RangeLocks
 
 _begin, _end, _finish = Holding.begin, Holding.end, Holding.finish
 
@@ -31,9 +33,12 @@ def _without_marks() -> None:
 
 
 def _without_busy() -> None:
-    """While work is recorded, other requests are judged as if none were."""
+    """While work is recorded, other requests are judged as if none were; it stays recorded, unless other work is."""
     def begin(self: Holding, mode: Optional[Mode], request: Request) -> Tuple[Holding, Union[Answer, Work]]:
-        return _begin(replace(self, work=None), mode, request)
+        after, begun = _begin(replace(self, work=None), mode, request)
+        if isinstance(begun, Answer) and self.work is not None:
+            after = replace(after, work=self.work, is_marked=False)
+        return after, begun
     _patch(Holding, begin=begin)
 
 
@@ -46,12 +51,20 @@ def _without_work() -> None:
         request, begun = self._store.update(asked.id, looked)
         if isinstance(begun, Answer):
             return begun
-        outcome = self._worker.work(Task(begun, request, body, False))
-        mode = self.mode(request.service, request.plan)
-        ended: Answer = self._store.update(
-            asked.id, lambda holding: replace(holding, work=request).end(mode, outcome))
+        with self._lock(asked.id):
+            outcome = self._worker.work(Task(begun, request, body, False))
+            mode = self.mode(request.service, request.plan)
+            ended: Answer = self._store.update(
+                asked.id, lambda holding: replace(holding, work=request).end(mode, outcome))
         return ended
     _patch(BrokerService, handle=handle)
+
+
+def _without_locks() -> None:
+    """Whoever asks for a lock has it."""
+    def had(self: Any, id: Id) -> ContextManager[bool]:
+        return contextlib.nullcontext(True)
+    _patch(RangeLocks, __call__=had, attempt=had)
 
 
 def _patch(of: Any, **methods: Any) -> None:
@@ -60,5 +73,5 @@ def _patch(of: Any, **methods: Any) -> None:
 
 
 if __name__ == "__main__":
-    {"marks": _without_marks, "work": _without_work, "busy": _without_busy}[sys.argv[1]]()
+    {"marks": _without_marks, "work": _without_work, "busy": _without_busy, "locks": _without_locks}[sys.argv[1]]()
     sys.exit(main(sys.argv[2:]))

@@ -11,7 +11,7 @@ import threading
 from typing import Any, List, Optional, Tuple
 
 from osb import Record
-from osb._exchange import Response
+from osb._exchange import Deadline, Response
 from osb.client import Client, _heard
 from osb.records import Kept
 from osb_platform.__main__ import main
@@ -21,7 +21,7 @@ _LISTENS = 15.0
 _response = Client._response
 
 
-def response(self: Any, request: Any, operation: Optional[str], body: bytes) -> Optional[Response]:
+def response(self: Any, _: Deadline, request: Any, operation: Optional[str], body: bytes) -> Optional[Response]:
     """The response within the client's limit on time; one that comes later is taken by `_late`."""
     came: List[Optional[Response]] = []
     guard, is_there = threading.Lock(), threading.Event()
@@ -30,7 +30,7 @@ def response(self: Any, request: Any, operation: Optional[str], body: bytes) -> 
     patient = _Patient(self, dataclasses.replace(far_end, seconds=_LISTENS))
 
     def listen() -> None:
-        got = _response(patient, request, operation, body)  # type: ignore[arg-type]
+        got = _response(patient, Deadline(_LISTENS), request, operation, body)  # type: ignore[arg-type]
         with guard:
             came.append(got)
             is_there.set()

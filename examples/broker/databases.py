@@ -7,6 +7,7 @@ from pathlib import Path
 
 from osb import Id, Request
 from osb_broker.backend import There
+from osb_broker.folders import is_there
 
 
 class Backend:
@@ -15,9 +16,9 @@ class Backend:
         self._top.mkdir(exist_ok=True)
 
     def look(self, id: Id) -> There:
-        if (self._top / str(id)).exists():
+        if is_there(self._top / str(id)):
             return There.WHOLE  # it has this name from the moment on at which all of it is there
-        return There.PART if self._part(id).exists() else There.NONE
+        return There.PART if is_there(self._part(id)) else There.NONE
 
     def make(self, id: Id, request: Request) -> None:
         part = self._part(id)
@@ -30,7 +31,7 @@ class Backend:
 
     def delete(self, id: Id) -> None:
         whole, part = self._top / str(id), self._part(id)
-        if whole.exists():
+        if is_there(whole):
             shutil.rmtree(part, ignore_errors=True)
             whole.rename(part)  # from here on it is a part, and can't be used any more
         shutil.rmtree(part)

@@ -78,9 +78,15 @@ class Databases:
             cursor.execute(f'ALTER DATABASE "{name}" ALLOW_CONNECTIONS true')
 
     def delete(self, id: Id) -> None:
-        """As `Backend` says. What the customer has made in the database of the locks, as a large object, goes too."""
+        """As `Backend` says. What the customer has made in the database of the locks, as a large object, goes too, and a
+        database that the customer has made a template.
+        """
         name = name_of(id)
         with self._session(id).cursor() as cursor:
+            cursor.execute("SELECT EXISTS (SELECT FROM pg_database WHERE datname = %s AND datistemplate)", [name])
+            if cursor.fetchone() == (True,):
+                cursor.execute(f'GRANT "{name}" TO CURRENT_USER')
+                cursor.execute(f'ALTER DATABASE "{name}" IS_TEMPLATE false')
             cursor.execute(f'DROP DATABASE IF EXISTS "{name}" WITH (FORCE)')
             crash("work-half")
             cursor.execute("SELECT EXISTS (SELECT FROM pg_roles WHERE rolname = %s)", [name])

@@ -4,6 +4,7 @@ from __future__ import annotations
 import contextlib
 import json
 import os
+import re
 import shutil
 import uuid
 from pathlib import Path
@@ -12,7 +13,10 @@ from typing import Optional
 from osb import Id, Request
 from osb_broker.backend import There
 from osb_broker.locks import RangeLocks
+from osb_broker.ties import Parted
 from osb_program.crash import crash
+
+_ID = re.compile("[0-9a-f]{8}(-[0-9a-f]{4}){3}-[0-9a-f]{12}")
 
 
 class Folders:
@@ -29,14 +33,14 @@ class Folders:
 
     def look(self, id: Id) -> There:
         """As `Backend` says."""
-        if self._whole(id).exists():
+        if is_there(self._whole(id)):
             return There.WHOLE
-        return There.PART if self._part(id).exists() else There.NONE
+        return There.PART if is_there(self._part(id)) else There.NONE
 
     def make(self, id: Id, request: Request) -> None:
         """As `Backend` says."""
         part = self._part(id)
-        if part.exists():
+        if is_there(part):
             shutil.rmtree(part)
         part.mkdir()
         named = {"instance": str(id), "plan": str(request.plan), "service": str(request.service)}
@@ -53,8 +57,8 @@ class Folders:
     def delete(self, id: Id) -> None:
         """As `Backend` says."""
         part, whole = self._part(id), self._whole(id)
-        if whole.exists():
-            if part.exists():
+        if is_there(whole):
+            if is_there(part):
                 shutil.rmtree(part)
             whole.rename(part)
             _written(self._top)
@@ -75,6 +79,9 @@ class Folders:
 
     def own(self, store: str) -> str:
         """As `Tied` says. The file has its name once it is whole, and is never written over."""
+        has_things = any(map(_ID.fullmatch, os.listdir(self._top)))  # read before the owner
+        if has_things and self.owner() is None:
+            raise Parted(f"there are folders in {self._top}, and it isn't known of which store")
         part = self._top / f".owner-{uuid.uuid4()}"
         with open(part, "w", encoding="utf-8") as file:
             file.write(f"{store}\n")
@@ -95,6 +102,15 @@ class Folders:
 
     def _part(self, id: Id) -> Path:
         return self._top / f".part-{id}"
+
+
+def is_there(path: Path) -> bool:
+    """Whether there is anything of this name. Raises OSError where nobody can tell, as `Path.exists` may not."""
+    try:
+        path.lstat()
+    except FileNotFoundError:
+        return False
+    return True
 
 
 def _written(folder: Path) -> None:

@@ -14,7 +14,8 @@ _TABLES = """
 CREATE TABLE IF NOT EXISTS osb_holdings (id uuid PRIMARY KEY, holding text NOT NULL, unfinished boolean NOT NULL);
 CREATE INDEX IF NOT EXISTS osb_unfinished_holdings ON osb_holdings (id) WHERE unfinished;
 CREATE UNLOGGED TABLE IF NOT EXISTS osb_workers (id uuid PRIMARY KEY, worker bigint NOT NULL);
-CREATE TABLE IF NOT EXISTS osb_store (one boolean PRIMARY KEY DEFAULT true CHECK (one), name uuid NOT NULL)
+CREATE TABLE IF NOT EXISTS osb_store (one boolean PRIMARY KEY DEFAULT true CHECK (one), name text NOT NULL,
+    is_tied boolean NOT NULL DEFAULT false)
 """
 _LAST_TABLE = "osb_store"
 # A number of our own, for those who make the tables at once: IF NOT EXISTS is no lock.
@@ -81,7 +82,7 @@ class PgStore:
     def name(self) -> Optional[str]:
         """As `NamedStore` says."""
         with self._sessions.session() as session, session.cursor() as cursor:
-            cursor.execute("SELECT name::text FROM osb_store")
+            cursor.execute("SELECT name FROM osb_store")
             found = cursor.fetchone()
             return None if found is None else str(found[0])
 
@@ -90,6 +91,17 @@ class PgStore:
         with self._sessions.session() as session, session.cursor() as cursor:
             cursor.execute("INSERT INTO osb_store (name) VALUES (%s) ON CONFLICT DO NOTHING", [name])
         return self.name() or name
+
+    def is_tied(self) -> bool:
+        """As `NamedStore` says."""
+        with self._sessions.session() as session, session.cursor() as cursor:
+            cursor.execute("SELECT is_tied FROM osb_store")
+            return bool(cursor.fetchone() == (True,))
+
+    def be_tied(self) -> None:
+        """As `NamedStore` says."""
+        with self._sessions.session() as session, session.cursor() as cursor:
+            cursor.execute("UPDATE osb_store SET is_tied = true WHERE NOT is_tied")
 
     def is_empty(self) -> bool:
         """As `NamedStore` says."""

@@ -60,13 +60,23 @@ class _Channel(HTTPChannel):  # type: ignore[misc]
     request: Any = None  # the one that is arriving
     since = 0.0
 
+    def __init__(self, *given: Any, **named: Any) -> None:
+        super().__init__(*given, **named)
+        self.idle_since = time.monotonic()
+        """Since when no request has come."""
+
     def received(self, data: bytes) -> Any:
         """Takes what has come."""
-        is_first = self.request is None
+        before = self.request
         taken = super().received(data)
-        if is_first:
+        if self.request is not before:
             self.since = time.monotonic()
         return taken
+
+    def is_idle(self) -> bool:
+        """Whether nothing of a request is here: empty lines before it are nothing of it."""
+        coming = self.request
+        return coming is None or not coming.headers_finished and not coming.header_plus.strip()
 
     def give_up(self) -> None:
         """Answers the request that is arriving with 408, and closes the connection."""
@@ -117,11 +127,11 @@ class Server:
         self._server.add_task = self._answer
         self._health = ThreadPoolExecutor(1, "health")
         self._stop = threading.Event()
-
-    def run(self) -> None:
-        """Serves until SIGTERM or SIGINT comes. The main thread calls it."""
         for number in (signal.SIGTERM, signal.SIGINT):
             signal.signal(number, self._stopped)
+
+    def run(self) -> None:
+        """Serves until SIGTERM or SIGINT comes, since it was made. The main thread calls it, and has made it."""
         looked = time.monotonic()
         while not self._stop.is_set():
             self._turn(1.0)
@@ -168,5 +178,10 @@ class Server:
     def _give_up(self) -> None:
         latest = time.monotonic() - self._limits.seconds
         for channel in self._channels():
-            if channel.request is not None and channel.since < latest:
+            if channel.requests or channel.total_outbufs_len:
+                channel.idle_since = time.monotonic()
+            elif channel.is_idle():
+                if channel.idle_since < latest:
+                    channel.handle_close()
+            elif channel.since < latest:
                 channel.give_up()

@@ -11,6 +11,7 @@ from typing import Any, Callable, List, Optional, Tuple, TypeVar, Union
 from osb import Holding, Id
 from osb.stores import Change
 from osb_broker.fence import LostLock
+from osb_program.files import opened
 
 T = TypeVar("T")
 
@@ -48,7 +49,7 @@ class SqliteStore:
         self._writer.execute("CREATE TABLE IF NOT EXISTS workers (id TEXT PRIMARY KEY, worker INTEGER NOT NULL) "
                              "WITHOUT ROWID")
         self._writer.execute("CREATE TABLE IF NOT EXISTS store (one INTEGER PRIMARY KEY CHECK (one = 1), "
-                             "name TEXT NOT NULL)")
+                             "name TEXT NOT NULL, is_tied INTEGER NOT NULL DEFAULT 0)")
 
     def update(self, id: Id, change: Callable[[Holding], Tuple[Holding, T]]) -> T:
         """As `Store` says."""
@@ -90,8 +91,16 @@ class SqliteStore:
 
     def begin(self, name: str) -> str:
         """As `NamedStore` says."""
-        self._reader().execute("INSERT INTO store VALUES (1, ?) ON CONFLICT DO NOTHING", [name])
+        self._reader().execute("INSERT INTO store (one, name) VALUES (1, ?) ON CONFLICT DO NOTHING", [name])
         return self.name() or name
+
+    def is_tied(self) -> bool:
+        """As `NamedStore` says."""
+        return bool(self._reader().execute("SELECT is_tied FROM store").fetchone() == (1,))
+
+    def be_tied(self) -> None:
+        """As `NamedStore` says."""
+        self._reader().execute("UPDATE store SET is_tied = 1 WHERE NOT is_tied")
 
     def is_empty(self) -> bool:
         """As `NamedStore` says."""
@@ -140,10 +149,7 @@ class SqliteStore:
         return found
 
     def _opened(self) -> sqlite3.Connection:
-        made = sqlite3.connect(self._path, timeout=self._seconds, isolation_level=None, check_same_thread=False)
-        made.execute("PRAGMA journal_mode = WAL")
-        made.execute("PRAGMA synchronous = FULL")  # a commit that has returned is on disk
-        return made
+        return opened(self._path, self._seconds)
 
 
 # Holdings that are read again and again are those at rest, which name no instance: few have another text.

@@ -19,6 +19,14 @@ class NamedStore(Store, Protocol):
         """Gives it this name for good, where it has none yet. Returns the name that it has."""
         ...
 
+    def is_tied(self) -> bool:
+        """Whether a backend keeps its name."""
+        ...
+
+    def be_tied(self) -> None:
+        """Takes note for good that a backend keeps its name."""
+        ...
+
     def is_empty(self) -> bool:
         """Whether it has no rows."""
         ...
@@ -33,7 +41,9 @@ class Tied(Protocol):
         ...
 
     def own(self, store: str) -> str:
-        """Keeps the name of this store for good, where there is none yet. Returns the name that is kept."""
+        """Keeps the name of this store for good, where there is none yet. Returns the name that is kept. Raises `Parted`
+        where there are things already, of a store that nobody knows.
+        """
         ...
 
 
@@ -43,7 +53,7 @@ UNTIED = "untied"
 
 class Parted(Exception):
     """The store and the backend don't belong together; the text says why. Nothing was changed but that a new store has
-    its name.
+    its name. It may still be tied to any backend that has none.
     """
 
 
@@ -61,9 +71,12 @@ def tie(store: NamedStore, backend: Backend, must_exist: bool) -> None:
         raise Parted("the store's instances are another backend's: one that keeps the store's name, or doesn't")
     if not isinstance(backend, Tied):
         return
-    is_empty = store.is_empty()  # read first: whoever ties them meanwhile does so before there are rows
+    # read first: whoever ties them meanwhile does so before there are rows
+    is_begun = store.is_tied() or not store.is_empty()
     owner = backend.owner()
-    if owner is None and not is_empty:
-        raise Parted(f"the store {name} has instances, and no store has begun with this backend")
-    if (owner or backend.own(name)) != name:
+    if owner is None and is_begun:
+        raise Parted(f"the store {name} has begun with another backend, and no store with this one")
+    owner = owner or backend.own(name)
+    if owner != name:
         raise Parted(f"the store is {name}, and what is there belongs to the store {owner}")
+    store.be_tied()

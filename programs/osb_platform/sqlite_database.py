@@ -11,6 +11,7 @@ from typing import Any, Iterator, List, Sequence, Tuple
 
 from osb_platform.instances import Execute
 from osb_platform.readings import Reading
+from osb_program.files import opened
 
 
 class SqliteDatabase:
@@ -23,9 +24,7 @@ class SqliteDatabase:
         sqlite3.OperationalError.
         """
         self._path, self._guard = path, threading.Lock()
-        self._connection = sqlite3.connect(path, timeout=seconds, isolation_level=None, check_same_thread=False)
-        self._connection.execute("PRAGMA journal_mode = WAL")
-        self._connection.execute("PRAGMA synchronous = FULL")  # a commit that has returned is on disk
+        self._connection = opened(path, seconds)
 
     @contextlib.contextmanager
     def transaction(self) -> Iterator[Execute]:

@@ -19,6 +19,7 @@ from osb_program.crash import crash
 
 _log = logging.getLogger("osb_platform.steps")
 
+_DELETING = {"cleaning", "cleaning-polling"}
 _REMOVABLE = (State.POLLING, State.READY, State.UNSETTLED)
 
 
@@ -46,10 +47,14 @@ def step(parts: Parts, id: Id) -> None:
         except Exception:
             _log.exception("instance %s: this step wasn't done, and is tried again", id)
         row = parts.instances.release(id, parts.worker, lambda row, now: _next(parts, before, row, named, now))
-        if row.state != before.state:
-            parts.tell(row)
     except Exception:
         _log.exception("instance %s: it is gone on with when the lease has run out", id)
+        return
+    if row.state != before.state:
+        try:
+            parts.tell(row)
+        except Exception:
+            _log.exception("instance %s: that it is %s can't be told", id, row.state)
 
 
 def _go_on(parts: Parts, row: Instance) -> Optional[int]:
@@ -90,7 +95,7 @@ def _next(parts: Parts, before: Instance, row: Instance, named: Optional[int], n
     """When the next step of the row is due, and how many requests in turn have changed nothing until then."""
     if row.state == WITHDRAWN or row.kept is not None and not row.kept.is_pending and not row.removal:
         return None, 0
-    tries = 0 if row.state != before.state else row.tries + 1
+    tries = 0 if _has_come_on(before, row) else row.tries + 1
     if row.kept is None:
         return now + wait(parts.pace, tries, None, random.random()), tries
     state = row.kept.record.state
@@ -99,6 +104,11 @@ def _next(parts: Parts, before: Instance, row: Instance, named: Optional[int], n
     due = max(now + wait(parts.pace, tries, named, random.random()), held_until(parts.pace, state, row.sent_until))
     until = _polled_until(parts, row)
     return (due if state != State.POLLING or until is None else min(due, max(until, now))), tries
+
+
+def _has_come_on(before: Instance, row: Instance) -> bool:
+    """Whether it has come to another state; a deletion may begin and fail again and again, and comes on by neither."""
+    return row.state != before.state and {before.state, row.state} != _DELETING
 
 
 def _polled_until(parts: Parts, row: Instance) -> Optional[float]:

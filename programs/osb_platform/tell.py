@@ -1,6 +1,7 @@
 """What is shown: lists, one instance, and how a run goes on."""
 from __future__ import annotations
 
+import json
 import sys
 import threading
 import time
@@ -42,9 +43,14 @@ def members(row: Instance) -> List[Tuple[str, str]]:
     if row.state in ("polling", "cleaning-polling") and row.polled_since is not None:
         known.append(("polled since", moment(row.polled_since)))
     if row.kept is not None:
-        known.append(("operation", row.kept.operation or "none"))
+        known.append(("operation", _printable(row.kept.operation or "none")))
         known.append(("record", row.kept.record.to_text()))
     return known
+
+
+def _printable(text: str) -> str:
+    """The text, or as JSON has it where that isn't printed as it is: a broker has chosen it."""
+    return text if text.isprintable() else json.dumps(text)
 
 
 def moment(seconds: float) -> str:

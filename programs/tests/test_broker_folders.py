@@ -3,7 +3,7 @@ from __future__ import annotations
 
 import json
 import unittest
-from typing import List
+from typing import Any, List
 
 from osb import Kind
 from osb_broker.backend import OwnLocks, There
@@ -48,6 +48,15 @@ class OfFolders(InFolder):
     def half(self) -> None:
         (self.top / f".part-{ONE}" / "within").mkdir(parents=True)
         self.assertEqual(self.backend.look(ONE), There.PART)
+
+    def test_nobody_can_look(self) -> None:
+        """What can't be looked at isn't taken for nothing."""
+        self.backend.make(ONE, ASKED)
+        loop = self.top / "loop"
+        loop.symlink_to(loop)
+        for name in ("x" * 300, "loop/x"):
+            asked: Any = name
+            self.assertRaises(OSError, self.backend.look, asked)
 
     def test_locks(self) -> None:
         """Whoever has the folder has its locks."""

@@ -125,6 +125,12 @@ class Life(InFolder):
             self.assertEqual((last["event"], last["answered"], last["ended"]), ("stopped", True, True))
         self.assertTrue((self.folder / "state" / str(TWO)).is_dir())
 
+    def test_end_at_once(self) -> None:
+        """It ends cleanly from the moment on at which it says that it serves."""
+        for _ in range(5):
+            with broker(self.folder) as running:
+                self.assertEqual(running.end(), 0)
+
     def test_end_with_clients_that_go_on(self) -> None:
         """No connection is kept for more requests."""
         with broker(self.folder) as running:
@@ -170,6 +176,31 @@ class Hostile(InFolder):
             for connection in slow:
                 connection.close()
             self.assertEqual(running.provision().status, 200)
+
+    def test_empty_lines(self) -> None:
+        """A client that sends nothing else keeps no connection."""
+        with broker(self.folder, "--request-seconds", "1") as running, connected(running) as connection:
+            began = time.monotonic()
+            with contextlib.suppress(OSError):
+                while time.monotonic() < began + 10:
+                    connection.sendall(b"\r\n")
+                    time.sleep(0.1)
+            self.assertLess(time.monotonic(), began + 8)
+
+    def test_one_after_another(self) -> None:
+        """A request that follows another one on its connection has all the time that it may take."""
+        with broker(self.folder, "--request-seconds", "3") as running, connected(running) as connection:
+            poll = head(b"GET", f"{PATH}/last_operation".encode())
+            connection.sendall(poll[:20])
+            time.sleep(2)
+            connection.sendall(poll[20:] + poll[:20])
+            time.sleep(2)
+            connection.sendall(poll[20:])
+            got = b""
+            while got.count(b"HTTP/1.1 410") < 2:
+                more = connection.recv(65536)
+                self.assertTrue(more, got)
+                got += more
 
     @staticmethod
     def drip(connection: socket.socket) -> None:

@@ -2,13 +2,14 @@
 from __future__ import annotations
 
 import unittest
+import uuid
 
 from osb import BrokerRow, Holding, Id, Phase, Request
 from osb_broker.backend import Backend, There
 from osb_broker.folders import Folders
 from osb_broker.sqlite_store import SqliteStore
 from osb_broker.ties import Parted, Tied, tie
-from tests.broker_support import AT_ONCE, SERVICE, InFolder, broker, put
+from tests.broker_support import AT_ONCE, ONE, SERVICE, InFolder, broker, put
 
 READY = Holding(BrokerRow(SERVICE, AT_ONCE, Phase.READY))
 
@@ -46,12 +47,30 @@ class OfTies(InFolder):
         self.assertEqual(self.things("here").owner(), name)
 
     def test_another_backend(self) -> None:
-        """One with which no store has begun is taken only by a store without instances."""
+        """A store is tied to one alone, also while it has no instances."""
         tie(self.store("a"), self.things("here"), False)
-        tie(self.store("a"), self.things("there"), False)
+        for _ in range(2):
+            self.assertIn("has begun with another backend", self.refused(self.store("a"), self.things("there")))
+            self.assertIsNone(self.things("there").owner())
+            put(self.store("a"), READY)
+
+    def test_a_tie_that_was_broken_off(self) -> None:
+        """The store has its name, and perhaps the backend has it."""
+        for backend in ("none", "here"):
+            store = self.store(backend)
+            name = store.begin(str(uuid.uuid4()))
+            if backend == "here":
+                self.things("of here").own(name)
+            tie(store, self.things(f"of {backend}"), True)
+            self.assertEqual((store.is_tied(), self.things(f"of {backend}").owner()), (True, name))
+
+    def test_instances_of_nobody_knows_whom(self) -> None:
+        """A store with instances that was never tied, and folders without an owner, as of a copy."""
         put(self.store("a"), READY)
-        self.assertIn("no store has begun with this backend", self.refused(self.store("a"), self.things("elsewhere")))
-        self.assertIsNone(self.things("elsewhere").owner())
+        self.assertIn("has begun with another backend", self.refused(self.store("a"), self.things("here")))
+        (self.folder / "there" / str(ONE)).mkdir(parents=True)
+        self.assertIn("isn't known of which store", self.refused(self.store("b"), self.things("there")))
+        self.assertEqual((self.store("b").is_tied(), self.things("there").owner()), (False, None))
 
     def test_a_store_that_must_exist(self) -> None:
         store = self.store("a")
@@ -95,7 +114,7 @@ class OfProgram(InFolder):
         with broker(self.folder, "--existing") as running:
             self.assertEqual((running.provision().status, running.end()), (200, 0))
         for words, said in ((["--store", str(self.folder / "store"), "--backend", things], "belongs to the store"),
-                            (["--backend", str(other)], "no store has begun"),
+                            (["--backend", str(other)], "has begun with another backend"),
                             (["--existing", "--state", str(self.folder / "new")], "there is no store")):
             with self.assertRaises(AssertionError) as raised, broker(self.folder, *words):
                 pass

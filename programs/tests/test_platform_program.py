@@ -44,6 +44,13 @@ class ProgramTest(InFolder):
         self.assertRegex(err, r"^1 unsettled, the first since [0-9TZ:-]+: ask the broker what it has of each, and "
                               "remove those that are yours\n$")
 
+    def test_what_a_broker_has_named(self) -> None:
+        """It isn't shown raw."""
+        id = ran(self.folder, "create", *ORDER)[1].strip()
+        with far_end(Said(202, b'{"operation":"a\\nstate\\tgone\\u001b[2J"}')) as end:
+            ran(self.folder, "run", "--once", "--broker", end.url)
+        self.assertIn('\noperation\t"a\\nstate\\tgone\\u001b[2J"\n', ran(self.folder, "show", id)[1])
+
     def test_another_broker(self) -> None:
         """It would say of each instance that it is gone: nothing is sent to it, unless it is the same one."""
         id = ran(self.folder, "create", *ORDER)[1].strip()

@@ -1,9 +1,9 @@
 """One step after another, over a far end that says what it is told to, by a clock that the test sets."""
 from __future__ import annotations
 
-from typing import List, Optional
-
+import logging
 import unittest
+from typing import List, Optional
 
 from osb import Id, Record
 from osb.records import Kept
@@ -93,6 +93,31 @@ class StepsTest(InFolder):
                 waits.append(due - self.clock.time)
         for wait, least in zip(waits, (1, 2, 4, 8, 8, 8)):
             self.assertTrue(least <= wait <= 1.5 * least, waits)
+
+    def test_a_deletion_that_fails_again_and_again(self) -> None:
+        """It is backed off from, though its state changes each time."""
+        with far_end(Said(503), *(Said(202), Said(200, b'{"state":"failed"}')) * 2) as end:
+            go, waits = self.parts(end), []
+            for _ in range(5):
+                self.stepped(go)
+                due = self.instances.row(ONE).due
+                assert due is not None
+                waits.append(due - self.clock.time)
+        for wait, least in zip(waits, (1, 2, 4, 8, 8)):
+            self.assertTrue(least <= wait <= 1.5 * least, waits)
+
+    def test_what_cannot_be_told(self) -> None:
+        """The step is done all the same, and its lease has ended."""
+        def tell(_: Instance) -> None:
+            raise BrokenPipeError
+        with far_end(Said(201)) as end:
+            go = self.parts(end)._replace(tell=tell)
+            logging.disable(logging.NOTSET)
+            with self.assertLogs("osb_platform.steps") as logged:
+                self.stepped(go)
+            self.assertIn("can't be told", logged.output[0])
+            self.assertNotIn("lease", logged.output[0])
+            self.assertEqual(self.instances.row(ONE).state, "ready")
 
     def test_what_a_crash_left_is_given_up(self) -> None:
         """It isn't sent again: a Provision's instance is deleted, since it may be there."""

@@ -28,8 +28,8 @@ class Picture(unittest.TestCase):
     def test_what_is_said(self) -> None:
         drawn = minidom.parseString(draw(read(STORM)))
         said = drawn.getElementsByTagName("desc")[0].firstChild.data
-        self.assertEqual(said, "5 instances were ordered in 2 seconds, with these kills: 1 of the platform. After 4 seconds "
-                               "3 are ready and 2 gone, and none is anything else.")
+        self.assertEqual(said, "5 instances were ordered in 2 seconds, with these kills: 1 of the platform. After 4 "
+                               "seconds 3 are ready and 2 gone, and none is anything else.")
         words = [it.firstChild.data for it in drawn.getElementsByTagName("text")]
         for word in ("ready: 3", "being made: 0", "being deleted: 0", "unsettled: 0", "gone: 2", "kill -9: platform"):
             self.assertIn(word, words)

@@ -9,6 +9,7 @@ import threading
 import time
 import unittest
 from typing import Any, Callable, Dict, Iterator, List, Optional, Tuple
+from unittest import mock
 
 from osb import Answer, Body, Id, Kind, OsbError, Record, State, Status
 from osb.client import Client, Exchanged
@@ -170,6 +171,9 @@ class Sent(Quiet):
             self.assertNotIn(PASSWORD, str(raised.exception))
 
 
+CHUNKED = b"HTTP/1.1 201 Said\r\nTransfer-Encoding: chunked\r\n\r\n"
+
+
 class NoAnswer(Quiet):
     def test_to_a_provision(self) -> None:
         whole = response(201)
@@ -177,10 +181,38 @@ class NoAnswer(Quiet):
                 ("a gateway's", response(404)), ("a 4xx that is no object", response(400, b"<html>")),
                 ("nothing", b""), ("a head that was cut", whole[:20]), ("a body that was cut", whole[:-1]),
                 ("a body that is too long", response(201, b"{}".ljust(1001))), ("no HTTP", b"hello\r\n\r\n"),
-                ("chunks that were cut", b"HTTP/1.1 201 Said\r\nTransfer-Encoding: chunked\r\n\r\n2\r\n{}\r\n"),
+                ("chunks that were cut", CHUNKED + b"2\r\n{}\r\n"), ("a chunk of no size", CHUNKED + b"-5\r\n{}"),
+                ("a chunk without an end", CHUNKED + b"-1\r\n" + b" " * (3 << 20)),
                 ("no final response", b"HTTP/1.1 102 Said\r\n\r\n")):
             with far_end([], saying(said)) as url:
                 self.assertEqual(client(url).create(ONE, SERVICE, SYNC), exchanged(State.CLEANING, None), what)
+
+    def test_recorded_too_late(self) -> None:
+        """What took all the time to be recorded isn't sent any more."""
+        class Slow(MemoryRecords):
+            def insert(self, id: Id, kept: Kept) -> None:
+                super().insert(id, kept)
+                time.sleep(0.3)
+        came: List[bytes] = []
+        with far_end(came, saying(response(201))) as url:
+            late = client(url, Slow(), seconds=0.2).create(ONE, SERVICE, SYNC)
+            self.assertEqual(late, exchanged(State.CLEANING, None))
+            self.assertEqual(came, [])
+            client(url).create(ONE, SERVICE, SYNC)
+
+    def test_an_address_that_takes_none(self) -> None:
+        """The next one has its part of the time."""
+        with contextlib.ExitStack() as stack:
+            full = stack.enter_context(socket.create_server(("127.0.0.1", 0), backlog=0))
+            for _ in range(4):
+                waiting = stack.enter_context(socket.socket())
+                waiting.setblocking(False)
+                waiting.connect_ex(full.getsockname())
+            url = stack.enter_context(far_end([], saying(response(201))))
+            found = [(socket.AF_INET, socket.SOCK_STREAM, 0, "", at)
+                     for at in (full.getsockname(), ("127.0.0.1", int(url.rpartition(":")[2])))]
+            stack.enter_context(mock.patch("socket.getaddrinfo", lambda *_, **__: found))
+            self.assertEqual(client(url, seconds=3.0).create(ONE, SERVICE, SYNC).record.state, State.READY)
 
     def test_no_connection(self) -> None:
         with socket.create_server(("127.0.0.1", 0)) as server:

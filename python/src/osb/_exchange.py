@@ -17,6 +17,8 @@ _log = logging.getLogger("osb.client")
 
 # What is sent at once: between two pieces the time that is left is looked at.
 _PIECE = 1 << 14
+# How many bytes a response may have besides its body: its head, and what parts the body.
+_AROUND = 1 << 20
 
 
 class Response(NamedTuple):
@@ -51,7 +53,7 @@ class Address(NamedTuple):
         return cls(is_tls, parts.hostname, parts.port or (443 if is_tls else 80), parts.path.rstrip("/"))
 
 
-class _Deadline:
+class Deadline:
     """The moment until which an exchange may last."""
 
     def __init__(self, seconds: float) -> None:
@@ -66,17 +68,22 @@ class _Deadline:
 
 
 class _Reader(io.RawIOBase):
-    """What comes on a connection. Each read may take the time that is left, and no more."""
+    """What comes on a connection. Each read may take the time that is left, and no more, and all of them so many bytes.
+    """
 
-    def __init__(self, connection: socket.socket, deadline: _Deadline) -> None:
-        self._connection, self._deadline = connection, deadline
+    def __init__(self, connection: socket.socket, deadline: Deadline, most: int) -> None:
+        self._connection, self._deadline, self._left = connection, deadline, most
 
     def readable(self) -> bool:
         return True
 
     def readinto(self, buffer: Any) -> int:
         self._connection.settimeout(self._deadline.left())
-        return self._connection.recv_into(buffer)
+        count = self._connection.recv_into(buffer)
+        self._left -= count
+        if self._left < 0:
+            raise ConnectionError("the response has too many bytes")
+        return count
 
 
 class _Lines(io.BufferedReader):
@@ -90,10 +97,12 @@ class _Lines(io.BufferedReader):
 
 
 class _Timed:
-    """A connection as http.client uses one, each of whose operations may take the time that is left, and no more."""
+    """A connection as http.client uses one, each of whose operations may take the time that is left, and no more, and
+    on which so many bytes may come.
+    """
 
-    def __init__(self, connection: socket.socket, deadline: _Deadline) -> None:
-        self._connection, self._deadline = connection, deadline
+    def __init__(self, connection: socket.socket, deadline: Deadline, most: int) -> None:
+        self._connection, self._deadline, self._most = connection, deadline, most
 
     def sendall(self, data: bytes) -> None:
         for at in range(0, len(data), _PIECE):
@@ -101,7 +110,7 @@ class _Timed:
             self._connection.sendall(data[at:at + _PIECE])
 
     def makefile(self, _mode: str) -> io.BufferedReader:
-        return _Lines(_Reader(self._connection, self._deadline))
+        return _Lines(_Reader(self._connection, self._deadline, self._most))
 
     def close(self) -> None:
         """The connection is closed by who opened it, once the response is read."""
@@ -118,15 +127,20 @@ class FarEnd:
     longest: int
     """How many bytes the body of a response may have."""
 
-    def exchange(self, method: str, target: str, body: bytes, headers: Dict[str, str]) -> Optional[Response]:
+    def deadline(self) -> Deadline:
+        """That of an exchange that begins now."""
+        return Deadline(self.seconds)
+
+    def exchange(self, deadline: Deadline, method: str, target: str, body: bytes, headers: Dict[str, str]
+                 ) -> Optional[Response]:
         """Sends a request on a connection of its own, and takes its response, of which no redirect is followed. None
         where no whole response came within the limits, or a connection didn't come about; the log has why. Only the
         look-up of the host's name has a limit of its own, which is the system's.
         """
         try:
-            deadline = _Deadline(self.seconds)
+            deadline.left()
             with _connected(self.address, self.tls, deadline) as connection:
-                asking = self._asking(_Timed(connection, deadline))
+                asking = self._asking(_Timed(connection, deadline, self.longest + _AROUND))
                 asking.putrequest(method, target, skip_accept_encoding=True)
                 for name, value in headers.items():
                     asking.putheader(name, value)
@@ -134,7 +148,7 @@ class FarEnd:
                     asking.putheader("Content-Length", str(len(body)))
                 asking.endheaders(body or None)
                 return _taken(asking.getresponse(), self.longest)
-        except (OSError, http.client.HTTPException, UnicodeError) as error:
+        except (OSError, http.client.HTTPException, ValueError) as error:  # that of an odd size of a chunk, for one
             _log.warning("%s %s at %s has no answer: %r", method, target.partition("?")[0], self.address.host, error)
             return None
 
@@ -162,7 +176,7 @@ def _taken(response: http.client.HTTPResponse, longest: int) -> Response:
 
 
 @contextlib.contextmanager
-def _connected(address: Address, tls: ssl.SSLContext, deadline: _Deadline) -> Iterator[socket.socket]:
+def _connected(address: Address, tls: ssl.SSLContext, deadline: Deadline) -> Iterator[socket.socket]:
     with _open(address, deadline) as plain:
         if not address.is_tls:
             yield plain
@@ -172,13 +186,14 @@ def _connected(address: Address, tls: ssl.SSLContext, deadline: _Deadline) -> It
             yield connection
 
 
-def _open(address: Address, deadline: _Deadline) -> socket.socket:
-    """A connection to the first of the host's addresses that takes one."""
+def _open(address: Address, deadline: Deadline) -> socket.socket:
+    """A connection to the first of the host's addresses that takes one. Each has its part of the time that is left."""
     failed: OSError = OSError("the host has no address")
-    for family, kind, protocol, _, at in socket.getaddrinfo(address.host, address.port, type=socket.SOCK_STREAM):
+    found = socket.getaddrinfo(address.host, address.port, type=socket.SOCK_STREAM)
+    for tried, (family, kind, protocol, _, at) in enumerate(found):
         connection = socket.socket(family, kind, protocol)
         try:
-            connection.settimeout(deadline.left())
+            connection.settimeout(deadline.left() / (len(found) - tried))
             connection.connect(at)
             return connection
         except OSError as error:

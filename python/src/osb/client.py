@@ -17,7 +17,7 @@ from dataclasses import dataclass
 from typing import Callable, Optional, Tuple, TypeVar
 
 from osb._checks import check_login, check_longest, check_texts
-from osb._exchange import Address, FarEnd, Response
+from osb._exchange import Address, Deadline, FarEnd, Response
 from osb._texts import utf8
 from osb.enums import Kind, Status
 from osb.errors import OsbError
@@ -86,10 +86,11 @@ class Client:
         body has besides, as parameters. Raises ID_USED, NOT_JSON, NOT_AN_OBJECT, NOT_UTF8: nothing is then recorded or
         sent.
         """
+        deadline = self._far_end.deadline()
         record, request = Record.create(id, service, plan, accepts_incomplete)
         body = write_body(request, self._organization, self._space, further)
         self._records.insert(id, Kept(record))
-        return self._exchange(_Sent(request, record.attempt, None), body)
+        return self._exchange(deadline, _Sent(request, record.attempt, None), body)
 
     def step(self, id: Id) -> Exchanged:
         """Sends the request that is due: a Poll or a Deprovision. Raises UNKNOWN, BUSY, NOTHING_DUE,
@@ -99,7 +100,8 @@ class Client:
             record, request = kept.record.send(id)
             operation = kept.operation if request.kind == Kind.POLL else None
             return Kept(record, kept.operation), _Sent(request, record.attempt, operation)
-        return self._exchange(self._records.update(id, sent), b"")
+        deadline = self._far_end.deadline()
+        return self._exchange(deadline, self._records.update(id, sent), b"")
 
     def remove(self, id: Id) -> Record:
         """Has the instance deleted, as an operator asks: its Deprovision is then due. Raises UNKNOWN, BUSY,
@@ -125,7 +127,7 @@ class Client:
         None where none came whole. Nothing is recorded.
         """
         target = self._far_end.address.prefix + "/v2/catalog"
-        response = self._far_end.exchange("GET", target, b"", self._headers)
+        response = self._far_end.exchange(self._far_end.deadline(), "GET", target, b"", self._headers)
         return None if response is None else (response.status, response.body)
 
     def record(self, id: Id) -> Record:
@@ -138,19 +140,21 @@ class Client:
             return Kept(record, kept.operation), record
         return self._records.update(id, changed)
 
-    def _exchange(self, sent: _Sent, body: bytes) -> Exchanged:
-        response = self._response(sent.request, sent.operation, body)
+    def _exchange(self, deadline: Deadline, sent: _Sent, body: bytes) -> Exchanged:
+        """The deadline is from before the request was recorded: after it the request can't leave any more."""
+        response = self._response(deadline, sent.request, sent.operation, body)
         heard = None if response is None else _heard(sent.request.kind, response)
         record, answer = self._records.update(sent.request.id, lambda kept: _taken(kept, sent, heard))
         named = None if response is None else response.retry_after
         return Exchanged(record, answer, None if named is None else retry_after(named))
 
-    def _response(self, request: Request, operation: Optional[str], body: bytes) -> Optional[Response]:
+    def _response(self, deadline: Deadline, request: Request, operation: Optional[str], body: bytes
+                  ) -> Optional[Response]:
         headers = {**self._headers, "Content-Type": CONTENT_TYPE} if body else self._headers
         target = _unless_memory(lambda: write_target(request, operation, self._far_end.address.prefix))
         if target is None:
             return None
-        return self._far_end.exchange(write_method(request.kind), target, body, headers)
+        return self._far_end.exchange(deadline, write_method(request.kind), target, body, headers)
 
 
 def _unless_memory(call: Callable[[], T]) -> Optional[T]:
