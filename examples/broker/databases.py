@@ -6,8 +6,7 @@ from contextlib import closing
 from pathlib import Path
 
 from osb import Id, Request
-from osb_broker.backend import There
-from osb_broker.folders import is_there
+from osb_broker.backend import There, is_there
 
 
 class Backend:

@@ -2,6 +2,7 @@
 from __future__ import annotations
 
 import enum
+from pathlib import Path
 from typing import ContextManager, Protocol, runtime_checkable
 
 from osb import Id, Request
@@ -16,6 +17,15 @@ class There(enum.Enum):
     """Something that can't be used: a making or a deletion was broken off."""
     WHOLE = "whole"
     """All of it, ready for use."""
+
+
+def is_there(path: Path) -> bool:
+    """Whether there is anything of this name. Raises OSError where nobody can tell, as `Path.exists` may not."""
+    try:
+        path.lstat()
+    except FileNotFoundError:
+        return False
+    return True
 
 
 class Backend(Protocol):

@@ -11,7 +11,7 @@ from pathlib import Path
 from typing import Optional
 
 from osb import Id, Request
-from osb_broker.backend import There
+from osb_broker.backend import There, is_there
 from osb_broker.locks import RangeLocks
 from osb_broker.ties import Parted
 from osb_program.crash import crash
@@ -102,15 +102,6 @@ class Folders:
 
     def _part(self, id: Id) -> Path:
         return self._top / f".part-{id}"
-
-
-def is_there(path: Path) -> bool:
-    """Whether there is anything of this name. Raises OSError where nobody can tell, as `Path.exists` may not."""
-    try:
-        path.lstat()
-    except FileNotFoundError:
-        return False
-    return True
 
 
 def _written(folder: Path) -> None:
