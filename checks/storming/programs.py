@@ -26,10 +26,10 @@ class Killed:
     """A program that is killed again and again: at each of its crash points, and in between at random."""
 
     def __init__(self, program: Program, points: Sequence[str], chance: Random, may_refuse: bool, log: Log) -> None:
-        """`may_refuse`: whether it may end with 2, as it does where a session with its store is ended while it starts.
+        """`may_refuse`: whether it may end with 1 or 2, as it does where a session with its store is ended while it starts.
         """
         self._program, self._chance, self._log = program, chance, log
-        self._usual = [-9, 2] if may_refuse else [-9]
+        self._usual = [-9, 1, 2] if may_refuse else [-9]
         self._open = list(points)
         self.hit: List[str] = []
         self._tried = ""  # the point at which it is to be killed now, where that hasn't come about

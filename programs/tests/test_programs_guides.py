@@ -1,0 +1,150 @@
+"""The commands of the two guides, as they stand there, at other ports and over folders of the test's own."""
+from __future__ import annotations
+
+import contextlib
+import os
+import re
+import shutil
+import signal
+import socket
+import subprocess
+import unittest
+from typing import Dict, List, Tuple
+
+from osb_program.pg import Sessions
+from tests.broker_support import POSTGRESQL, TOP, InFolder, has_waitress
+
+BROKER, PLATFORM = TOP / "docs" / "broker-guide.md", TOP / "docs" / "platform-guide.md"
+
+
+def blocks(document: str, heading: str) -> List[str]:
+    """The indented blocks of a section."""
+    section = re.split(r"^## ", document, flags=re.MULTILINE)
+    text = next(it for it in section if it.startswith(f"{heading}\n"))
+    found = re.findall(r"(?:^    .*\n|^\n(?=    ))+", re.sub(r"```.*?```", "", text, flags=re.DOTALL), re.MULTILINE)
+    return [re.sub("^    ", "", it, flags=re.MULTILINE).strip("\n") for it in found if it.strip()]
+
+
+def free_port() -> int:
+    with socket.create_server(("127.0.0.1", 0)) as free:
+        return int(free.getsockname()[1])
+
+
+class Shell(InFolder):
+    """Runs commands of a guide."""
+
+    def setUp(self) -> None:
+        super().setUp()
+        self.port, self.page = free_port(), free_port()
+
+    def ran(self, script: str, **given: str) -> str:
+        """What it writes on standard output; all that it has started is killed in the end."""
+        environment: Dict[str, str] = {**os.environ, "XDG_STATE_HOME": str(self.folder), **given}
+        shell = subprocess.Popen(["bash", "-e"], cwd=TOP, env=environment, stdin=subprocess.PIPE, text=True,
+                                 stdout=subprocess.PIPE, stderr=subprocess.PIPE, start_new_session=True)
+        try:
+            out, err = shell.communicate(script, timeout=120)
+        finally:
+            with contextlib.suppress(ProcessLookupError):  # where all have ended
+                os.killpg(shell.pid, signal.SIGKILL)
+        self.assertEqual(shell.returncode, 0, f"{out}\n{err}")
+        return out
+
+    def here(self, commands: str) -> str:
+        """The commands with what the test has in the place of the guide's."""
+        served = commands.replace("osb-broker serve", f"osb-broker serve --listen 127.0.0.1:{self.port}")
+        return served.replace(":8080", f":{self.port}").replace(":8090", f":{self.page}").replace(
+            "build/", f"{self.folder}/")
+
+    def up(self) -> str:
+        """Waits until the broker answers."""
+        return f"until curl -sf http://127.0.0.1:{self.port}/healthz >/dev/null; do sleep 0.05; done\n"
+
+
+
+@unittest.skipUnless(shutil.which("curl") and has_waitress(), "curl or waitress isn't installed")
+class Guides(Shell):
+    def test_a_broker(self) -> None:
+        serve, at_once, by_worker = (self.here(it) for it in blocks(BROKER.read_text(), "Start it"))
+        poll = "ask $two/last_operation"
+        self.assertIn(poll, by_worker)
+        made = by_worker.replace(poll, f"until {poll} | grep succeeded; do sleep 0.1; done")
+        out = self.ran(f"{serve} &\n{self.up()}{at_once}\n{made}\nkill %1; wait %1\n")
+        statuses = re.findall(r"HTTP/1.1 (\d+)", out)
+        listed = out.count("00000000-0000-0000-0000-000000000001\n")
+        self.assertEqual((statuses, listed), (["201", "200", "202", "202"], 1), out)
+
+    def test_a_backend(self) -> None:
+        (serve,) = blocks(BROKER.read_text(), "A backend of your own")
+        self.ran(f"{self.here(serve)} &\n{self.up()}kill %1; wait %1\n")
+        self.assertTrue((self.folder / "databases" / "holdings.sqlite").exists())
+
+    def test_a_platform(self) -> None:
+        life, look = (self.here(it) for it in blocks(PLATFORM.read_text(), "Start it"))
+        begun, listed, *end = re.split(r"^(sleep 3; )", life, flags=re.MULTILINE)
+        out = self.ran(f"{begun}{listed}{look}; echo\n{''.join(end)}\nwait\n./osb-platform list\n")
+        lines = [line.split("\t") for line in out.splitlines()]
+        self.assertIn(['{"state":"succeeded"}'], lines)
+        self.assertEqual([line[1] for line in lines if len(line) == 5], ["ready", "gone"], out)
+
+    def test_a_page(self) -> None:
+        (run,) = blocks(PLATFORM.read_text(), "The page")
+        ask = f"until curl -sf http://127.0.0.1:{self.page}/ | grep -o '<title>.*</title>'; do sleep 0.1; done"
+        out = self.ran(f"{self.here(run)} &\n{ask}\nkill %1; wait %1 || true\n", OSB_PLATFORM_PASSWORD="x")
+        self.assertIn("<title>", out)
+
+
+@unittest.skipUnless(POSTGRESQL and shutil.which("curl") and has_waitress(), "OSB_TEST_POSTGRESQL names no database")
+class OverPostgresql(Shell):
+    """What the guides have one do at a server, with other names; but for what is of all of its databases."""
+
+    def setUp(self) -> None:
+        super().setUp()
+        self.name = f"osbguide{os.getpid()}"
+        self.server = Sessions(POSTGRESQL, 1)
+
+    def execute(self, statement: str) -> None:
+        with self.server.session() as session, session.cursor() as cursor:
+            cursor.execute(statement)
+
+    def made(self, sql: str, role: str) -> Tuple[str, str]:
+        """Runs the statements, and gives the URL of the database, and the password; both go in the end."""
+        self.addCleanup(self.execute, f"DROP ROLE IF EXISTS {self.name}")
+        self.addCleanup(self.execute, f"DROP DATABASE IF EXISTS {self.name}s WITH (FORCE)")
+        for statement in re.sub("--.*", "", sql).replace("'..'", "'secret'").split(";"):
+            words = re.sub(r"\bDATABASE \w+", f"DATABASE {self.name}s", statement)
+            words = re.sub(rf"\b(ROLE|OWNER) {role}\b", rf"\1 {self.name}", words).strip()
+            if words and "CONNECT" not in words:
+                self.execute(words)
+        head = re.sub("//[^/]*@", f"//{self.name}@", POSTGRESQL.partition("?")[0].rpartition("/")[0])
+        return f"{head}/{self.name}s", "secret"
+
+    def test_a_broker(self) -> None:
+        serve, password, sql = blocks(BROKER.read_text(), "With PostgreSQL")
+        url, secret = self.made(sql, "broker")
+        self.assertIn("OSB_BACKEND_KEY=..", serve)
+        started = self.here(serve.partition("\n")[2]).replace("postgresql://broker@db/brokers", url)
+        given = {"OSB_BROKER_PASSWORD": "secret", "OSB_BACKEND_KEY": "a key", "PGPASSWORD": secret}
+        at_once = self.here(blocks(BROKER.read_text(), "Start it")[1])
+        at_once = at_once.replace(f"ls {self.folder}/broker/instances", password)
+        out = self.ran(f"{started} &\n{self.up()}{at_once}\nkill %1; wait %1\n", **given)
+        self.assertEqual(re.findall(r"HTTP/1.1 (\d+)", out), ["201", "200"])
+        self.assertRegex(out, r"(?m)\{\}[\w-]{43}$")
+
+    def test_a_platform(self) -> None:
+        run, sql = blocks(PLATFORM.read_text(), "With PostgreSQL, and several workers")
+        url, secret = self.made(sql, "platform")
+        store = f"--store {url}"
+        self.assertIn("--store postgresql://platform@db/platform --broker https://broker.example", run)
+        started = run.replace("--store postgresql://platform@db/platform", store).replace(
+            "https://broker.example", f"http://127.0.0.1:{self.port}")
+        order = (f"one=$(./osb-platform create {store} --service 00000000-0000-0000-0000-0000000000a0 "
+                 "--plan 00000000-0000-0000-0000-0000000000b1)")
+        serve = f"OSB_BROKER_PASSWORD=x ./osb-broker serve --listen 127.0.0.1:{self.port} &\n{self.up()}"
+        out = self.ran(f"{serve}{order}\n{started} --once\nkill %1; wait %1\n", OSB_PLATFORM_PASSWORD="x",
+                       PGPASSWORD=secret)
+        self.assertRegex(out, r"\tready\n")
+
+
+if __name__ == "__main__":
+    unittest.main()
