@@ -42,7 +42,7 @@ class SqliteStore:
         self._guard, self._writing = threading.Lock(), threading.Lock()
         self._waiting: List[_Asked] = []
         self._threads = threading.local()
-        self._writer = self._opened()
+        self._writer = opened(path, seconds)
         self._writer.execute("CREATE TABLE IF NOT EXISTS holdings (id TEXT PRIMARY KEY, holding TEXT NOT NULL, "
                              "unfinished INTEGER NOT NULL) WITHOUT ROWID")
         self._writer.execute("CREATE INDEX IF NOT EXISTS unfinished_holdings ON holdings (id) WHERE unfinished")
@@ -145,11 +145,8 @@ class SqliteStore:
         """The connection of this thread, which reads what is committed."""
         found: Optional[sqlite3.Connection] = getattr(self._threads, "reader", None)
         if found is None:
-            found = self._threads.reader = self._opened()
+            found = self._threads.reader = opened(self._path, self._seconds, is_first=False)
         return found
-
-    def _opened(self) -> sqlite3.Connection:
-        return opened(self._path, self._seconds)
 
 
 # Holdings that are read again and again are those at rest, which name no instance: few have another text.

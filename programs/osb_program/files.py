@@ -9,17 +9,18 @@ from typing import Union
 _RETRY = 0.05
 
 
-def opened(path: Union[str, "os.PathLike[str]"], seconds: float) -> sqlite3.Connection:
+def opened(path: Union[str, "os.PathLike[str]"], seconds: float, is_first: bool = True) -> sqlite3.Connection:
     """A connection for any thread, whose transactions wait for those of others for so many seconds.
 
-    What a killed process had written, and not synced yet, is on disk before anything is read: another process takes it
-    for committed.
+    `is_first`: it is the first one of this process. Then what a killed process had written, and not synced yet, is on
+    disk before anything is read: it would be taken for committed.
     """
     made = sqlite3.connect(path, timeout=seconds, isolation_level=None, check_same_thread=False)
     try:
         _with_log(made, time.monotonic() + seconds)
         made.execute("PRAGMA synchronous = FULL")  # a commit that has returned is on disk
-        made.execute("PRAGMA wal_checkpoint(FULL)").fetchall()
+        if is_first:
+            made.execute("PRAGMA wal_checkpoint(FULL)").fetchall()
         return made
     except BaseException:
         made.close()
