@@ -25,25 +25,31 @@ _FOCUS = """(() => {
 })()"""
 
 
-# What is done to a page, and what the measure has to say of it.
-_FAULTS = {
-    "it scrolls sideways": "document.querySelector('main').style.width = '2000px'",
-    "beyond the window": "it.style.marginLeft = '-40px'", "text beyond the window": "it.style.textIndent = '-40px'",
-    "cut short": "it.style.textOverflow = 'ellipsis'",
-    "text cut off": "it.style.cssText = 'width: 3em; overflow: hidden; white-space: nowrap; overflow-wrap: normal'",
-    "one on another": "document.querySelector('.listed').style.marginTop = '-2.5rem'",
-    "pale": "it.style.color = '#9a9a9a'", "half transparent": "it.style.background = 'rgba(9, 9, 9, .5)'",
-    "small": "document.querySelector('nav a').style.cssText = 'min-height: 0; padding: 0; line-height: 1'",
-    "text cut off below": "it.style.cssText = 'height: 4px; overflow: hidden'",
-    "off below": "document.querySelector('.listed').parentElement.style.cssText = 'height: 60px; overflow: hidden'",
-    "a state without a word": "document.querySelector('.listed .state').textContent = ''",
-    "a state that isn't shown": "document.querySelector('.listed .state').style.display = 'none'",
-    "isn't shown: ol": "document.querySelector('.life').style.visibility = 'hidden'",
-    "0 times main": "document.querySelector('main').outerHTML = ''", "a heading out of": "it.outerHTML = '<h4>h</h4>'",
-    "a table without a caption": "document.querySelector('caption').remove()",
-    "a head without a scope": "document.querySelector('th').removeAttribute('scope')",
-    "a field without a label": "document.querySelector('label').remove()", "an id twice": "it.id = 'main'",
-    "taken for HTML": "document.title = 'harmed'"}
+# How what the measure says of a page begins, once this was done to it.
+_FAULTS = (
+    ("it scrolls sideways", "document.querySelector('main').style.width = '2000px'"),
+    ("beyond the window: ", "it.style.marginLeft = '-40px'"),
+    ("text beyond the window: ", "it.style.textIndent = '-40px'"),
+    ("cut short: ", "it.style.textOverflow = 'ellipsis'"),
+    ("text cut off: ",
+     "it.style.cssText = 'width: 3em; overflow: hidden; white-space: nowrap; overflow-wrap: normal'"),
+    ("one on another: ", "document.querySelector('.listed').style.marginTop = '-2.5rem'"),
+    ("pale, ", "it.style.color = '#9a9a9a'"),
+    ("half transparent: ", "it.style.background = 'rgba(9, 9, 9, .5)'"),
+    ("small: ", "document.querySelector('nav a').style.cssText = 'min-height: 0; padding: 0; line-height: 1'"),
+    ("text cut off below: ", "it.style.cssText = 'height: 4px; overflow: hidden'"),
+    ("text cut off below: ",
+     "document.querySelector('.listed').parentElement.style.cssText = 'height: 60px; overflow: hidden'"),
+    ("a state without a word", "document.querySelector('.listed .state').textContent = ''"),
+    ("a state that isn't shown: ", "document.querySelector('.listed .state').style.display = 'none'"),
+    ("a state that isn't shown: ol", "document.querySelector('.life').style.visibility = 'hidden'"),
+    ("0 times main", "document.querySelector('main').outerHTML = ''"),
+    ("a heading out of its order: ", "it.outerHTML = '<h4>h</h4>'"),
+    ("a table without a caption", "document.querySelector('caption').remove()"),
+    ("a head without a scope", "document.querySelector('th').removeAttribute('scope')"),
+    ("a field without a label", "document.querySelector('label').remove()"),
+    ("an id twice", "it.id = 'main'"),
+    ("what a broker said was taken for HTML", "document.title = 'harmed'"))
 
 
 def planted(tab: Browser, url: str) -> str:
@@ -51,11 +57,11 @@ def planted(tab: Browser, url: str) -> str:
     tab.scheme("light")
     tab.size(*SIZES[0])
     missed = []
-    for told, fault in _FAULTS.items():
+    for told, fault in _FAULTS:
         tab.open(url)
         tab.value(f"(() => {{ const it = document.querySelector('#instances h2'); {fault}; }})()")
-        if not any(told in it for it in tab.value(_MEASURE)):
-            missed.append(told)
+        if not any(it.startswith(told) for it in tab.value(_MEASURE)):
+            missed.append(f"{told}by {fault}")
     return f"not found: {', '.join(missed)}" if missed else ""
 
 

@@ -56,9 +56,10 @@ class Storm:
         broker_points = [] if asked.without in _OTHER_BROKERS else chance.sample(BROKER_POINTS, len(BROKER_POINTS))
         is_disturbed = "postgresql" in (asked.store, asked.backend)
         self._log = Log(asked.log)
-        self.platform = Killed(self._platform(), points, Random(f"{asked.seed} platform"), is_disturbed, self._log)
+        self.platform = Killed(self._platform(), points, Random(f"{asked.seed} platform"),
+                               [1, 2] if is_disturbed else [], self._log)
         self.brokers = [Killed(self._broker(at, n), broker_points[n::len(ports)], Random(f"{asked.seed} broker {n}"),
-                               is_disturbed, self._log) for n, at in enumerate(ports)]
+                               [2] if is_disturbed else [], self._log) for n, at in enumerate(ports)]
         self.operator = Operator(at.instances, asked.seed, asked.instances, asked.seconds)
         self.audit = Audit(at.instances, at.holdings, at.things, at.is_usable)
         self.orders_hit: List[str] = []
@@ -204,7 +205,7 @@ def _verdict(asked: argparse.Namespace, storm: Storm) -> int:
         print(f"wrong in the storm: {id}: {what}")
     for line in counted:
         print(f"wrong in the end: {line}")
-    odd = [it for program in programs for it in program.odd] + storm.failed + storm.operator.failed
+    odd = [it for program in programs for it in program.odd()] + storm.failed + storm.operator.failed
     ends = ("the programs end by kills alone", not odd, "; ".join(odd[:5]))
     settles = ("it settles", storm.settled_in >= 0.0, "it doesn't")
     tries = _untried(asked, storm)
@@ -222,8 +223,10 @@ def _verdict(asked: argparse.Namespace, storm: Storm) -> int:
         ("records, holdings and things agree in the end", not counted, "; ".join(counted)),
         ("each ready and each gone is true when it shows", not audit.wrong, f"{len(audit.wrong)} were wrong"),
         ("each order has a record, and each removal is done", not undone, f"{len(undone)} weren't: {undone[:3]}"),
-        ("one at most works at an instance", not together, f"{len(together)} times there were two: {together[:3]}"),
         ends]
+    if asked.backend == "folders":
+        verdicts.append(("one at most works at an instance", not together,
+                         f"{len(together)} times there were two: {together[:3]}"))
     if asked.points and asked.kills != "none":
         verdicts.append(("each crash point is hit", not storm.left(), ", ".join(storm.left())))
     return _tally(verdicts)
@@ -286,17 +289,20 @@ def _words(given: List[str]) -> argparse.Namespace:
     parser.add_argument("--settle", type=float, default=120.0, help="how many seconds it may take to settle (120)")
     parser.add_argument("--without", choices=("marks", "work", "busy", "attempts", "locks", *_OTHER_BROKERS,
                                                       "platform"),
-                        help="a part of the design is taken out (marks, work, busy, attempts, locks); the broker's library "
-                             "is a handle that stands, and not a value (values); or the broker, the platform, or both are "
-                             "as they are usually written: then it passes where the storm finds that")
+                        help="a part of the design is taken out (marks, work, busy, attempts, locks); the broker's "
+                             "library is a handle that stands, and not a value (values); or the broker, the platform, or "
+                             "both are as they are usually written: then it passes where the storm finds that")
     parser.add_argument("--kills", choices=("both", "brokers", "platform", "none"),
-                        help="what is killed (both; without attempts the brokers, since a platform that is killed hears "
-                             "no late answer)")
+                        help="what is killed (both; without attempts the brokers, since a platform that is killed "
+                             "hears no late answer)")
     parser.add_argument("--no-points", dest="points", action="store_false", help="not every crash point has to be hit")
     parser.add_argument("--keep", type=Path, metavar="FOLDER", help="a new folder that keeps the logs and all files")
     parser.add_argument("--log", type=Path, metavar="FILE",
                         help="what happens, a line of JSON each; python -m storming.picture draws it")
     asked = parser.parse_args(given)
+    for part, places in (("locks", asked.backend), ("values", asked.store)):
+        if asked.without == part and places == "postgresql":
+            parser.error(f"--without {part} isn't made for PostgreSQL")
     asked.kills = asked.kills or ("brokers" if asked.without == "attempts" else "both")
     return asked
 

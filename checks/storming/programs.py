@@ -2,6 +2,7 @@
 from __future__ import annotations
 
 import os
+import re
 import signal
 import subprocess
 import threading
@@ -11,6 +12,10 @@ from random import Random
 from typing import Dict, List, NamedTuple, Optional, Sequence
 
 from storming.log import Log
+
+
+# A traceback, with the line after it that says what it was.
+_CRIES = re.compile(r"^Traceback \(most recent call last\):\n(?:[ \t].*\n)*\S.*", re.MULTILINE)
 
 
 class Program(NamedTuple):
@@ -25,17 +30,17 @@ class Program(NamedTuple):
 class Killed:
     """A program that is killed again and again: at each of its crash points, and in between at random."""
 
-    def __init__(self, program: Program, points: Sequence[str], chance: Random, may_refuse: bool, log: Log) -> None:
-        """`may_refuse`: whether it may end with 1 or 2, as it does where a session with its store is ended while it starts.
+    def __init__(self, program: Program, points: Sequence[str], chance: Random, refusals: Sequence[int], log: Log
+                 ) -> None:
+        """`refusals`: with what it may end by itself, as it does where a session with its store is ended while it starts.
         """
         self._program, self._chance, self._log = program, chance, log
-        self._usual = [-9, 1, 2] if may_refuse else [-9]
+        self._usual = [-9, *refusals]
         self._open = list(points)
         self.hit: List[str] = []
         self._tried = ""  # the point at which it is to be killed now, where that hasn't come about
         self.kills = 0
-        self.odd: List[str] = []
-        """Ends that nobody had a hand in."""
+        self._odd: List[str] = []
         self._process: Optional["subprocess.Popen[bytes]"] = None
         self._stop = threading.Event()
         self._thread = threading.Thread(target=self._run, daemon=True)
@@ -66,14 +71,20 @@ class Killed:
         if self._process is None:
             return
         if self._process.poll() is not None:
-            self.odd.append(f"{self._program.name} has ended with {self._process.returncode} in the calm")
+            self._odd.append(f"{self._program.name} has ended with {self._process.returncode} in the calm")
         else:
             self._process.send_signal(signal.SIGTERM)
             try:
                 self._note(self._process.wait(40), [0])
             except subprocess.TimeoutExpired:
-                self.odd.append(f"{self._program.name} didn't end at SIGTERM")
+                self._odd.append(f"{self._program.name} didn't end at SIGTERM")
                 self._kill()
+
+    def odd(self) -> List[str]:
+        """Ends that nobody had a hand in, and what it has said of an error that it didn't expect."""
+        said = self._program.log.read_text(encoding="utf-8", errors="replace") if self._program.log.exists() else ""
+        cries = [f"{self._program.name}: {it.splitlines()[-1]}" for it in _CRIES.findall(said)]
+        return self._odd + cries
 
     def left(self) -> List[str]:
         """The crash points that weren't hit."""
@@ -123,4 +134,4 @@ class Killed:
 
     def _note(self, status: int, usual: List[int]) -> None:
         if status not in usual:
-            self.odd.append(f"{self._program.name} ended with {status}")
+            self._odd.append(f"{self._program.name} ended with {status}")

@@ -78,8 +78,8 @@ class Databases:
             cursor.execute(f'ALTER DATABASE "{name}" ALLOW_CONNECTIONS true')
 
     def delete(self, id: Id) -> None:
-        """As `Backend` says. What the customer has made in the database of the locks, as a large object, goes too, and a
-        database that the customer has made a template.
+        """As `Backend` says. What the customer has made in the database of the locks, as a large object, goes too, and
+        a database that the customer has made a template.
         """
         name = name_of(id)
         with self._session(id).cursor() as cursor:
@@ -106,7 +106,9 @@ class Databases:
             return None if found is None else str(found[0])
 
     def own(self, store: str) -> str:
-        """As `Tied` says."""
+        """As `Tied` says, but that it looks for no things: on one server there may be those of several stores, each
+        with its own database of the locks.
+        """
         with self._sessions.session() as session, session.cursor() as cursor:
             cursor.execute("INSERT INTO osb_owner (store) VALUES (%s) ON CONFLICT DO NOTHING", [store])
         return self.owner() or store

@@ -1,7 +1,8 @@
 """Holdings in PostgreSQL: one row an instance, and any number of brokers over it."""
 from __future__ import annotations
 
-from typing import Any, Callable, List, Optional, Tuple, TypeVar
+import contextlib
+from typing import Any, Callable, Iterator, List, Optional, Tuple, TypeVar
 
 from osb import Holding, Id
 from osb_broker.fence import LostLock
@@ -20,6 +21,8 @@ CREATE TABLE IF NOT EXISTS osb_store (one boolean PRIMARY KEY DEFAULT true CHECK
 _LAST_TABLE = "osb_store"
 # A number of our own, for those who make the tables at once: IF NOT EXISTS is no lock.
 _TABLES_LOCK = 0x6F73625F686F6C64
+# And one for those who tie the store at once.
+_TYING_LOCK = 0x6F73625F74696564
 
 
 class PgStore:
@@ -91,6 +94,13 @@ class PgStore:
         with self._sessions.session() as session, session.cursor() as cursor:
             cursor.execute("INSERT INTO osb_store (name) VALUES (%s) ON CONFLICT DO NOTHING", [name])
         return self.name() or name
+
+    @contextlib.contextmanager
+    def tying(self) -> Iterator[None]:
+        """As `NamedStore` says: a session of its own holds a lock meanwhile."""
+        with contextlib.closing(self._sessions.opened()) as session, session.cursor() as cursor:
+            cursor.execute("SELECT pg_advisory_lock(%s)", [_TYING_LOCK])
+            yield
 
     def is_tied(self) -> bool:
         """As `NamedStore` says."""

@@ -63,14 +63,16 @@ class _Channel(HTTPChannel):  # type: ignore[misc]
     def __init__(self, *given: Any, **named: Any) -> None:
         super().__init__(*given, **named)
         self.idle_since = time.monotonic()
-        """Since when no request has come."""
+        """Since when nothing of a request has come, and none was being answered."""
 
     def received(self, data: bytes) -> Any:
         """Takes what has come."""
-        before = self.request
+        before, was_idle, now = self.request, self.is_idle(), time.monotonic()
+        if data.strip():
+            self.idle_since = now
         taken = super().received(data)
-        if self.request is not before:
-            self.since = time.monotonic()
+        if self.request is not before or was_idle:
+            self.since = now
         return taken
 
     def is_idle(self) -> bool:

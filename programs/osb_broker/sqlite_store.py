@@ -6,12 +6,12 @@ import functools
 import os
 import sqlite3
 import threading
-from typing import Any, Callable, List, Optional, Tuple, TypeVar, Union
+from typing import Any, Callable, Iterator, List, Optional, Tuple, TypeVar, Union
 
 from osb import Holding, Id
+from osb.sqlite import opened
 from osb.stores import Change
 from osb_broker.fence import LostLock
-from osb_program.files import opened
 
 T = TypeVar("T")
 
@@ -93,6 +93,18 @@ class SqliteStore:
         """As `NamedStore` says."""
         self._reader().execute("INSERT INTO store (one, name) VALUES (1, ?) ON CONFLICT DO NOTHING", [name])
         return self.name() or name
+
+    @contextlib.contextmanager
+    def tying(self) -> Iterator[None]:
+        """As `NamedStore` says: this thread's calls are one transaction, beside which nothing is written."""
+        reader = self._reader()
+        reader.execute("BEGIN IMMEDIATE")
+        try:
+            yield
+        except BaseException:
+            reader.execute("ROLLBACK")
+            raise
+        reader.execute("COMMIT")
 
     def is_tied(self) -> bool:
         """As `NamedStore` says."""

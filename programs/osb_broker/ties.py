@@ -2,7 +2,7 @@
 from __future__ import annotations
 
 import uuid
-from typing import Optional, Protocol, runtime_checkable
+from typing import ContextManager, Optional, Protocol, runtime_checkable
 
 from osb.stores import Store
 from osb_broker.backend import Backend
@@ -17,6 +17,10 @@ class NamedStore(Store, Protocol):
 
     def begin(self, name: str) -> str:
         """Gives it this name for good, where it has none yet. Returns the name that it has."""
+        ...
+
+    def tying(self) -> ContextManager[object]:
+        """Keeps whoever else would tie it waiting until the end of the block."""
         ...
 
     def is_tied(self) -> bool:
@@ -41,8 +45,8 @@ class Tied(Protocol):
         ...
 
     def own(self, store: str) -> str:
-        """Keeps the name of this store for good, where there is none yet. Returns the name that is kept. Raises `Parted`
-        where there are things already, of a store that nobody knows.
+        """Keeps the name of this store for good, where there is none yet, and returns the name that is kept. Raises
+        `Parted` where it sees things already, and it isn't known of which store.
         """
         ...
 
@@ -71,12 +75,12 @@ def tie(store: NamedStore, backend: Backend, must_exist: bool) -> None:
         raise Parted("the store's instances are another backend's: one that keeps the store's name, or doesn't")
     if not isinstance(backend, Tied):
         return
-    # read first: whoever ties them meanwhile does so before there are rows
-    is_begun = store.is_tied() or not store.is_empty()
-    owner = backend.owner()
-    if owner is None and is_begun:
-        raise Parted(f"the store {name} has begun with another backend, and no store with this one")
-    owner = owner or backend.own(name)
-    if owner != name:
-        raise Parted(f"the store is {name}, and what is there belongs to the store {owner}")
-    store.be_tied()
+    with store.tying():
+        owner = backend.owner()
+        if owner is None and (store.is_tied() or not store.is_empty()):
+            raise Parted(f"the store {name} has begun with a backend that keeps its name, and this one keeps none: it "
+                         "is another one, or a copy that isn't whole")
+        owner = owner or backend.own(name)
+        if owner != name:
+            raise Parted(f"the store is {name}, and what is there belongs to the store {owner}")
+        store.be_tied()

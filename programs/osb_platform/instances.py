@@ -108,8 +108,8 @@ class Instances:
         return self._database.now()
 
     def asks(self, broker: str, is_moved: bool) -> str:
-        """Keeps the URL of the broker that has the instances, where none is kept yet, or where it `is_moved`. Returns the
-        one that is kept.
+        """Keeps the URL of the broker that has the instances, where none is kept yet, or where it `is_moved`. Returns
+        the one that is kept.
         """
         with self._database.transaction() as execute:
             execute("INSERT INTO osb_broker_asked VALUES (1, ?) ON CONFLICT DO NOTHING", [broker])

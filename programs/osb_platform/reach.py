@@ -24,7 +24,8 @@ def reached(ask: Ask, seconds: Optional[float], rest: Callable[[float], bool], t
             ) -> Optional[Durations]:
     """Asks for the catalogue until it comes, for about so many seconds at most where any are named, and gives the
     durations that its plans name. `ask` is `osb.client.Client.catalogue`. `rest` waits for so many seconds, and says
-    whether it is to stop: then there is None. `tell` is told why it hasn't come, once for each reason. Raises Unreached.
+    whether it is to stop: then there is None. `tell` is told why it hasn't come, once for each reason. Raises
+    Unreached.
     """
     until = None if seconds is None else time.monotonic() + seconds
     told, wait = "", _FIRST

@@ -9,9 +9,9 @@ import time
 from pathlib import Path
 from typing import Any, Iterator, List, Sequence, Tuple
 
+from osb.sqlite import opened
 from osb_platform.instances import Execute
 from osb_platform.readings import Reading
-from osb_program.files import opened
 
 
 class SqliteDatabase:

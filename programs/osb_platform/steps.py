@@ -101,7 +101,8 @@ def _next(parts: Parts, before: Instance, row: Instance, named: Optional[int], n
     state = row.kept.record.state
     if row.removal and state in _REMOVABLE:
         return (now if not before.removal else now + wait(parts.pace, tries, None, random.random())), tries
-    due = max(now + wait(parts.pace, tries, named, random.random()), held_until(parts.pace, state, row.sent_until))
+    turn = 0 if row.state == "cleaning-polling" != before.state else tries  # the first Poll of a deletion comes soon
+    due = max(now + wait(parts.pace, turn, named, random.random()), held_until(parts.pace, state, row.sent_until))
     until = _polled_until(parts, row)
     return (due if state != State.POLLING or until is None else min(due, max(until, now))), tries
 

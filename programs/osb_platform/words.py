@@ -92,8 +92,8 @@ def _create(create: argparse.ArgumentParser) -> None:
 def _broker(run: argparse.ArgumentParser) -> None:
     run.add_argument("--broker", required=True, metavar="URL", help="the broker's, without /v2")
     run.add_argument("--moved", action="store_true",
-                     help="the broker is that of the runs before, at another URL. Any other is refused: it would say of each "
-                          "instance that it is gone")
+                     help="the broker is that of the runs before, at another URL. Any other is refused: it would say of "
+                          "each instance that it is gone")
     run.add_argument("--user", default="platform", metavar="NAME", help="the platform's at the broker (platform)")
     run.add_argument("--password-file", type=Path, metavar="FILE", help="a file with its password")
     run.add_argument("--organization", default="osb-platform", metavar="TEXT",

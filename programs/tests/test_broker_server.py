@@ -2,11 +2,14 @@
 from __future__ import annotations
 
 import contextlib
+import http.client
 import json
 import os
 import random
 import socket
 import sqlite3
+import subprocess
+import sys
 import threading
 import time
 import unittest
@@ -34,6 +37,19 @@ class Backend(Folders):
         while not (self.state / "go").exists():
             time.sleep(0.01)
         super().make(id, request)
+"""
+
+
+# A server that is told to end before it has begun to serve.
+SIGNALLED = """
+import os, signal, time
+from osb_broker.server import Limits, Server, listening
+class Nothing:
+    is_stopping = False
+server = Server(Nothing(), listening("127.0.0.1", 0, False), Limits(1, 1000, 1.0))
+os.kill(os.getpid(), signal.SIGTERM)
+server.run()
+print(server.stop(time.monotonic() + 9))
 """
 
 
@@ -126,10 +142,11 @@ class Life(InFolder):
         self.assertTrue((self.folder / "state" / str(TWO)).is_dir())
 
     def test_end_at_once(self) -> None:
-        """It ends cleanly from the moment on at which it says that it serves."""
-        for _ in range(5):
-            with broker(self.folder) as running:
-                self.assertEqual(running.end(), 0)
+        """It ends cleanly from the moment on at which it says that it serves, as it does before it begins to."""
+        ran = subprocess.run([sys.executable, "-c", SIGNALLED], capture_output=True, text=True, timeout=60)
+        self.assertEqual((ran.returncode, ran.stdout), (0, "True\n"), ran.stderr)
+        with broker(self.folder) as running:
+            self.assertEqual(running.end(), 0)
 
     def test_end_with_clients_that_go_on(self) -> None:
         """No connection is kept for more requests."""
@@ -188,19 +205,38 @@ class Hostile(InFolder):
             self.assertLess(time.monotonic(), began + 8)
 
     def test_one_after_another(self) -> None:
-        """A request that follows another one on its connection has all the time that it may take."""
-        with broker(self.folder, "--request-seconds", "3") as running, connected(running) as connection:
-            poll = head(b"GET", f"{PATH}/last_operation".encode())
-            connection.sendall(poll[:20])
-            time.sleep(2)
-            connection.sendall(poll[20:] + poll[:20])
-            time.sleep(2)
-            connection.sendall(poll[20:])
-            got = b""
-            while got.count(b"HTTP/1.1 410") < 2:
-                more = connection.recv(65536)
-                self.assertTrue(more, got)
-                got += more
+        """A request that follows another one on its connection, or an empty line, has all the time that it may take."""
+        poll = head(b"GET", f"{PATH}/last_operation".encode())
+        for first in (poll, b"\r\n"):
+            with broker(self.folder, "--request-seconds", "3") as running, connected(running) as connection:
+                connection.sendall(first[:20])
+                time.sleep(2)
+                connection.sendall(first[20:] + poll[:20])
+                time.sleep(2)
+                connection.sendall(poll[20:])
+                got = b""
+                while got.count(b"HTTP/1.1 410") < 1 + (first == poll):
+                    more = connection.recv(65536)
+                    self.assertTrue(more, got)
+                    got += more
+
+    def test_in_use(self) -> None:
+        """Connections on which requests come again and again are kept, however short each of them is."""
+        given = {"Authorization": authorization(PASSWORD), "X-Broker-API-Version": "2.17"}
+        with broker(self.folder, "--request-seconds", "1") as running, contextlib.ExitStack() as stack:
+            where = urlsplit(running.url).netloc
+            asking = [http.client.HTTPConnection(where, timeout=60) for _ in range(5)]
+            for it in asking:
+                it.connect()
+                stack.callback(it.close)
+            first = [it.sock for it in asking]
+            for at in range(40):
+                it = asking[at % 5]
+                it.request("GET", f"{PATH}/last_operation", headers=given)
+                with it.getresponse() as response:
+                    self.assertEqual((response.status, len(response.read()) > 0), (410, True))
+                time.sleep(0.1)
+            self.assertEqual([it.sock for it in asking], first)
 
     @staticmethod
     def drip(connection: socket.socket) -> None:

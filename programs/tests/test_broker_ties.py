@@ -1,8 +1,11 @@
 """A store and a backend that belong together are tied at their first use, and others are refused from then on."""
 from __future__ import annotations
 
+import contextlib
+import threading
 import unittest
 import uuid
+from typing import List, Optional, Tuple
 
 from osb import BrokerRow, Holding, Id, Phase, Request
 from osb_broker.backend import Backend, There
@@ -50,7 +53,7 @@ class OfTies(InFolder):
         """A store is tied to one alone, also while it has no instances."""
         tie(self.store("a"), self.things("here"), False)
         for _ in range(2):
-            self.assertIn("has begun with another backend", self.refused(self.store("a"), self.things("there")))
+            self.assertIn("has begun with a backend", self.refused(self.store("a"), self.things("there")))
             self.assertIsNone(self.things("there").owner())
             put(self.store("a"), READY)
 
@@ -64,10 +67,37 @@ class OfTies(InFolder):
             tie(store, self.things(f"of {backend}"), True)
             self.assertEqual((store.is_tied(), self.things(f"of {backend}").owner()), (True, name))
 
+    def test_two_at_once(self) -> None:
+        """Of two brokers that would tie a new store to two new backends at one moment, one is refused."""
+        both, said = threading.Barrier(2), []  # type: Tuple[threading.Barrier, List[str]]
+
+        class Slow(Folders):
+            def owner(self) -> Optional[str]:
+                found = super().owner()
+                with contextlib.suppress(threading.BrokenBarrierError):
+                    both.wait(0.5)
+                return found
+
+        def begin(name: str) -> None:
+            try:
+                tie(self.store("a"), Slow(self.folder / name), False)
+                said.append("tied")
+            except Parted as why:
+                said.append(str(why))
+        self.store("a").begin(str(uuid.uuid4()))
+        running = [threading.Thread(target=begin, args=[name]) for name in ("here", "there")]
+        for thread in running:
+            thread.start()
+        for thread in running:
+            thread.join()
+        self.assertIn("has begun with a backend", "".join(it for it in said if it != "tied"))
+        self.assertEqual(said.count("tied"), 1)
+        self.assertEqual(sum(self.things(name).owner() is not None for name in ("here", "there")), 1)
+
     def test_instances_of_nobody_knows_whom(self) -> None:
         """A store with instances that was never tied, and folders without an owner, as of a copy."""
         put(self.store("a"), READY)
-        self.assertIn("has begun with another backend", self.refused(self.store("a"), self.things("here")))
+        self.assertIn("has begun with a backend", self.refused(self.store("a"), self.things("here")))
         (self.folder / "there" / str(ONE)).mkdir(parents=True)
         self.assertIn("isn't known of which store", self.refused(self.store("b"), self.things("there")))
         self.assertEqual((self.store("b").is_tied(), self.things("there").owner()), (False, None))
@@ -114,7 +144,7 @@ class OfProgram(InFolder):
         with broker(self.folder, "--existing") as running:
             self.assertEqual((running.provision().status, running.end()), (200, 0))
         for words, said in ((["--store", str(self.folder / "store"), "--backend", things], "belongs to the store"),
-                            (["--backend", str(other)], "has begun with another backend"),
+                            (["--backend", str(other)], "has begun with a backend"),
                             (["--existing", "--state", str(self.folder / "new")], "there is no store")):
             with self.assertRaises(AssertionError) as raised, broker(self.folder, *words):
                 pass

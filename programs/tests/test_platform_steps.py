@@ -95,7 +95,7 @@ class StepsTest(InFolder):
             self.assertTrue(least <= wait <= 1.5 * least, waits)
 
     def test_a_deletion_that_fails_again_and_again(self) -> None:
-        """It is backed off from, though its state changes each time."""
+        """It is backed off from, though its state changes each time; but once it has begun it is soon asked for."""
         with far_end(Said(503), *(Said(202), Said(200, b'{"state":"failed"}')) * 2) as end:
             go, waits = self.parts(end), []
             for _ in range(5):
@@ -103,7 +103,7 @@ class StepsTest(InFolder):
                 due = self.instances.row(ONE).due
                 assert due is not None
                 waits.append(due - self.clock.time)
-        for wait, least in zip(waits, (1, 2, 4, 8, 8)):
+        for wait, least in zip(waits, (1, 1, 4, 1, 8)):
             self.assertTrue(least <= wait <= 1.5 * least, waits)
 
     def test_what_cannot_be_told(self) -> None:

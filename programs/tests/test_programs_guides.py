@@ -4,15 +4,18 @@ from __future__ import annotations
 import contextlib
 import os
 import re
+import shlex
 import shutil
 import signal
 import socket
 import subprocess
 import unittest
+import uuid
 from typing import Dict, List, Tuple
+from urllib.parse import quote, urlencode
 
 from osb_program.pg import Sessions
-from tests.broker_support import POSTGRESQL, TOP, InFolder, has_waitress
+from tests.broker_support import ONE, POSTGRESQL, TOP, InFolder, has_waitress
 
 BROKER, PLATFORM = TOP / "docs" / "broker-guide.md", TOP / "docs" / "platform-guide.md"
 
@@ -35,7 +38,7 @@ class Shell(InFolder):
 
     def setUp(self) -> None:
         super().setUp()
-        self.port, self.page = free_port(), free_port()
+        self.port, self.page, self.instance = free_port(), free_port(), f"{str(uuid.uuid4())[:-1]}1"
 
     def ran(self, script: str, **given: str) -> str:
         """What it writes on standard output; all that it has started is killed in the end."""
@@ -53,8 +56,8 @@ class Shell(InFolder):
     def here(self, commands: str) -> str:
         """The commands with what the test has in the place of the guide's."""
         served = commands.replace("osb-broker serve", f"osb-broker serve --listen 127.0.0.1:{self.port}")
-        return served.replace(":8080", f":{self.port}").replace(":8090", f":{self.page}").replace(
-            "build/", f"{self.folder}/")
+        moved = served.replace(":8080", f":{self.port}").replace(":8090", f":{self.page}")
+        return moved.replace("build/", f"{self.folder}/").replace(str(ONE), self.instance)
 
     def up(self) -> str:
         """Waits until the broker answers."""
@@ -71,7 +74,7 @@ class Guides(Shell):
         made = by_worker.replace(poll, f"until {poll} | grep succeeded; do sleep 0.1; done")
         out = self.ran(f"{serve} &\n{self.up()}{at_once}\n{made}\nkill %1; wait %1\n")
         statuses = re.findall(r"HTTP/1.1 (\d+)", out)
-        listed = out.count("00000000-0000-0000-0000-000000000001\n")
+        listed = out.count(f"{self.instance}\n")
         self.assertEqual((statuses, listed), (["201", "200", "202", "202"], 1), out)
 
     def test_a_backend(self) -> None:
@@ -81,8 +84,8 @@ class Guides(Shell):
 
     def test_a_platform(self) -> None:
         life, look = (self.here(it) for it in blocks(PLATFORM.read_text(), "Start it"))
-        begun, listed, *end = re.split(r"^(sleep 3; )", life, flags=re.MULTILINE)
-        out = self.ran(f"{begun}{listed}{look}; echo\n{''.join(end)}\nwait\n./osb-platform list\n")
+        begun, end = re.split(r"^(?=\./osb-platform remove)", life, flags=re.MULTILINE)
+        out = self.ran(f"{begun}{look}; echo\n{end}\nwait %1; wait %2\n")
         lines = [line.split("\t") for line in out.splitlines()]
         self.assertIn(['{"state":"succeeded"}'], lines)
         self.assertEqual([line[1] for line in lines if len(line) == 5], ["ready", "gone"], out)
@@ -90,8 +93,8 @@ class Guides(Shell):
     def test_a_page(self) -> None:
         (run,) = blocks(PLATFORM.read_text(), "The page")
         ask = f"until curl -sf http://127.0.0.1:{self.page}/ | grep -o '<title>.*</title>'; do sleep 0.1; done"
-        out = self.ran(f"{self.here(run)} &\n{ask}\nkill %1; wait %1 || true\n", OSB_PLATFORM_PASSWORD="x")
-        self.assertIn("<title>", out)
+        out = self.ran(f"{self.here(run)} &\n{ask}\nkill %1; wait %1\n", OSB_PLATFORM_PASSWORD="x")
+        self.assertEqual(out.count("<title>"), 1, out)
 
 
 @unittest.skipUnless(POSTGRESQL and shutil.which("curl") and has_waitress(), "OSB_TEST_POSTGRESQL names no database")
@@ -109,15 +112,23 @@ class OverPostgresql(Shell):
 
     def made(self, sql: str, role: str) -> Tuple[str, str]:
         """Runs the statements, and gives the URL of the database, and the password; both go in the end."""
-        self.addCleanup(self.execute, f"DROP ROLE IF EXISTS {self.name}")
-        self.addCleanup(self.execute, f"DROP DATABASE IF EXISTS {self.name}s WITH (FORCE)")
+        one = "osb_" + self.instance.replace("-", "")
+        for its_role, database in ((self.name, f"{self.name}s"), (one, one)):
+            self.addCleanup(self.execute, f"DROP ROLE IF EXISTS {its_role}")
+            self.addCleanup(self.execute, f"DROP DATABASE IF EXISTS {database} WITH (FORCE)")
         for statement in re.sub("--.*", "", sql).replace("'..'", "'secret'").split(";"):
             words = re.sub(r"\bDATABASE \w+", f"DATABASE {self.name}s", statement)
             words = re.sub(rf"\b(ROLE|OWNER) {role}\b", rf"\1 {self.name}", words).strip()
             if words and "CONNECT" not in words:
                 self.execute(words)
-        head = re.sub("//[^/]*@", f"//{self.name}@", POSTGRESQL.partition("?")[0].rpartition("/")[0])
-        return f"{head}/{self.name}s", "secret"
+        return self.url(), "secret"
+
+    def url(self) -> str:
+        """That of the database, for its role, quoted: the server is that of the tests, however they name it."""
+        from psycopg2.extensions import parse_dsn  # where PostgreSQL is used it is there
+        parts: Dict[str, str] = {**parse_dsn(POSTGRESQL), "user": self.name, "dbname": f"{self.name}s"}
+        parts.pop("password", None)
+        return shlex.quote(f"postgresql://?{urlencode(parts, quote_via=quote)}")
 
     def test_a_broker(self) -> None:
         serve, password, sql = blocks(BROKER.read_text(), "With PostgreSQL")

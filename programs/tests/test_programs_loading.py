@@ -12,8 +12,8 @@ from tests.broker_support import TOP
 @unittest.skipUnless(shutil.which("wrk"), "wrk isn't installed")
 class Load(unittest.TestCase):
     def test_a_short_one(self) -> None:
-        line = [sys.executable, "-m", "loading", "--brokers", "2", "--connections", "4", "--seconds", "1", "--creations",
-                "1", "--steps", "100"]
+        line = [sys.executable, "-m", "loading", "--brokers", "2", "--connections", "4", "--seconds", "1",
+                "--creations", "1", "--steps", "100"]
         said = subprocess.run(line, cwd=TOP / "checks", capture_output=True, text=True, timeout=120)
         self.assertEqual(said.returncode, 0, said.stderr)
         made, polls, *steps = said.stdout.splitlines()

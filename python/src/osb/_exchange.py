@@ -123,7 +123,7 @@ class FarEnd:
     address: Address
     tls: ssl.SSLContext
     seconds: float
-    """How long an exchange may last, from its connection to the end of its response."""
+    """How long an exchange may last, from when its `deadline` is asked for to the end of its response."""
     longest: int
     """How many bytes the body of a response may have."""
 

@@ -6,11 +6,11 @@ import threading
 from dataclasses import dataclass
 from typing import Callable, Dict, List, Optional, Protocol, Tuple, TypeVar
 
-from osb._sqlite import Path, transaction
 from osb.enums import State, Status
 from osb.errors import OsbError
 from osb.ids import Id
 from osb.record import Record
+from osb.sqlite import Path, transaction
 
 T = TypeVar("T")
 

@@ -4,9 +4,9 @@ from __future__ import annotations
 import threading
 from typing import Callable, Dict, List, Optional, Protocol, Tuple, TypeVar
 
-from osb._sqlite import Path, transaction
 from osb.holding import Holding
 from osb.ids import Id
+from osb.sqlite import Path, transaction
 
 T = TypeVar("T")
 Change = Callable[[Holding], Tuple[Holding, T]]

@@ -1,0 +1,71 @@
+"""Files of SQLite, in which what was committed is on disk, and what is read is on disk too."""
+from __future__ import annotations
+
+import contextlib
+import os
+import sqlite3
+import time
+from typing import Iterator, Union
+
+Path = Union[str, "os.PathLike[str]"]
+
+_RETRY = 0.05
+
+
+def opened(path: Path, seconds: float, is_first: bool = True) -> sqlite3.Connection:
+    """A connection for any thread, whose transactions wait for those of others for so many seconds, and begin where
+    they are told to. The file keeps a write-ahead log, so it is one of this machine.
+
+    `is_first`: it is the first one of this process. Then what a killed process had written, and not synced yet, is on
+    disk before anything is read: it would be taken for committed. Raises sqlite3.Error, or OSError.
+    """
+    made = sqlite3.connect(path, timeout=seconds, isolation_level=None, check_same_thread=False)
+    try:
+        _with_log(made, time.monotonic() + seconds)
+        made.execute("PRAGMA synchronous = FULL")  # a commit that has returned is on disk
+        if is_first:
+            made.execute("SELECT 1 FROM sqlite_master").fetchone()  # what is in the log is taken from here on
+            _sync(f"{os.fspath(path)}-wal")
+        return made
+    except BaseException:
+        made.close()
+        raise
+
+
+@contextlib.contextmanager
+def transaction(path: Path, seconds: float) -> Iterator[sqlite3.Connection]:
+    """A transaction on a connection of its own, so that threads, processes and forks share nothing; no other writes
+    beside it, and it begins within so many seconds. It is committed, and then on disk, at the end of the block, or
+    rolled back where the block raises.
+    """
+    with contextlib.closing(opened(path, seconds)) as database:
+        database.execute("BEGIN IMMEDIATE")
+        try:
+            yield database
+        except BaseException:
+            database.rollback()
+            raise
+        database.commit()
+
+
+def _with_log(made: sqlite3.Connection, until: float) -> None:
+    """Has the file keep a write-ahead log. The change to that, of a new file, waits for nobody by itself."""
+    while True:
+        try:
+            made.execute("PRAGMA journal_mode = WAL")
+            return
+        except sqlite3.OperationalError as error:
+            if "locked" not in str(error) or time.monotonic() >= until:
+                raise
+            time.sleep(_RETRY)
+
+
+def _sync(log: str) -> None:
+    """Returns once what stands in the log is on disk, and that there is one."""
+    for name in (log, os.path.dirname(log) or "."):
+        with contextlib.suppress(FileNotFoundError):
+            descriptor = os.open(name, os.O_RDONLY)
+            try:
+                os.fsync(descriptor)
+            finally:
+                os.close(descriptor)
