@@ -14,8 +14,9 @@ from typing import Dict, List, NamedTuple, Optional, Sequence
 from storming.log import Log
 
 
-# A traceback, with the line after it that says what it was.
-_CRIES = re.compile(r"^Traceback \(most recent call last\):\n(?:[ \t].*\n)*\S.*", re.MULTILINE)
+# A line of the platform's log; the broker's are JSON. A traceback right after it is told by it.
+_LOGGED = re.compile(r"\d{4}-\d\d-\d\d [\d:,]+ [A-Z]+ ")
+_TRACEBACK = "Traceback (most recent call last):"
 
 
 class Program(NamedTuple):
@@ -83,8 +84,7 @@ class Killed:
     def odd(self) -> List[str]:
         """Ends that nobody had a hand in, and what it has said of an error that it didn't expect."""
         said = self._program.log.read_text(encoding="utf-8", errors="replace") if self._program.log.exists() else ""
-        cries = [f"{self._program.name}: {it.splitlines()[-1]}" for it in _CRIES.findall(said)]
-        return self._odd + cries
+        return self._odd + [f"{self._program.name}: {it}" for it in cries(said)]
 
     def left(self) -> List[str]:
         """The crash points that weren't hit."""
@@ -135,3 +135,15 @@ class Killed:
     def _note(self, status: int, usual: List[int]) -> None:
         if status not in usual:
             self._odd.append(f"{self._program.name} ended with {status}")
+
+
+def cries(log: str) -> List[str]:
+    """What the errors were that nothing has caught: their tracebacks follow no line of the log. Those of the errors
+    that they came of are parted from them by an empty line.
+    """
+    found, before, lines = [], "-", log.split("\n")
+    for at, line in enumerate(lines):
+        if line == _TRACEBACK and before and not _LOGGED.match(before):
+            found.append(next((it for it in lines[at + 1:] if it and not it.startswith(" ")), "a traceback"))
+        before = line
+    return found

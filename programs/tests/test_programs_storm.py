@@ -1,4 +1,4 @@
-"""The picture of a storm: it is drawn from its log, and from nothing else."""
+"""The storm's own parts: its picture is drawn from its log alone, and an error that nothing caught is seen."""
 from __future__ import annotations
 
 import json
@@ -7,6 +7,7 @@ from typing import Any, List
 from xml.dom import minidom
 
 from storming.picture import NoLog, draw, read
+from storming.programs import cries
 from tests.broker_support import TOP
 
 _PICTURES = TOP / "docs" / "pictures"
@@ -37,6 +38,19 @@ class Picture(unittest.TestCase):
     def test_what_is_no_log(self) -> None:
         for lines in ([], STORM[:1], STORM[:2] + STORM[3:], ["[]"], ["x"], ['{"at": "x"}'], ['{"at": 1, "states": 2}']):
             self.assertRaises(NoLog, read, lines)
+
+
+class Cries(unittest.TestCase):
+    def test_what_nothing_caught(self) -> None:
+        """And not what a line of the log tells, with what it came of."""
+        raised = "Traceback (most recent call last):\n  File \"x\", line 1\n    x\nKeyError: 1\n"
+        chain = f"{raised}\nThe above exception was the direct cause of the following exception:\n\n" \
+            f"{raised.replace('1', '2')}"
+        logged = "2026-01-02 03:04:05,678 ERROR instance x: this step wasn't done\n"
+        for log_, wanted in (("", []), (logged + chain, []), (logged + raised + logged, []), (raised, ["KeyError: 1"]),
+                             ("{}\n" + chain, ["KeyError: 1"]), (logged + chain + raised, ["KeyError: 1"]),
+                             (logged + "osb-platform: x\n" + raised, ["KeyError: 1"])):
+            self.assertEqual(cries(log_), wanted, log_)
 
 
 if __name__ == "__main__":
