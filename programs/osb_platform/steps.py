@@ -59,6 +59,8 @@ def step(parts: Parts, id: Id) -> None:
 
 def _go_on(parts: Parts, row: Instance) -> Optional[int]:
     """Does what is due; the seconds that the broker asks to be left alone for, if any."""
+    if row.state == WITHDRAWN:  # by a worker that crashed then
+        return None
     if row.kept is None:
         if not row.removal:
             return parts.client.create(row.id, row.service, row.plan, True, row.further).retry_after

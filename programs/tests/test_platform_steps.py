@@ -4,6 +4,7 @@ from __future__ import annotations
 import logging
 import unittest
 from typing import List, Optional
+from unittest import mock
 
 from osb import Id, Record
 from osb.records import Kept
@@ -147,6 +148,14 @@ class StepsTest(InFolder):
             self.instances.ask_removal(ONE)
             self.assertEqual((self.stepped(go), end.came), ("cleaning", [PUT]))
             self.assertEqual(self.stepped(go, at=began + 35.0), "gone")
+
+    def test_withdrawn_by_one_that_crashed(self) -> None:
+        """There is nothing more to do with it, and nothing to log."""
+        self.instances.withdraw(ONE)
+        with far_end() as end, mock.patch("osb_platform.steps._log") as log:
+            self.assertEqual(self.stepped(self.parts(end)), "withdrawn")
+            self.assertEqual((end.came, log.mock_calls), ([], []))
+        self.assertIsNone(self.instances.row(ONE).due)
 
     def test_withdrawn(self) -> None:
         """An order that is removed before it was sent is never sent."""
