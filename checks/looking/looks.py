@@ -17,12 +17,14 @@ SCHEMES = ("light", "dark")
 
 _MEASURE = Path(__file__).with_name("measure.js").read_text(encoding="utf-8")
 _PAINT = "performance.getEntriesByName('first-contentful-paint').map(it => it.startTime)[0] || null"
-_FOCUS = """(() => {
+# Once the browser has drawn what the key did. A place may be off by less than a pixel.
+_FOCUS = """new Promise(done => requestAnimationFrame(() => requestAnimationFrame(done))).then(() => {
   const it = document.activeElement, box = it.getBoundingClientRect(), style = getComputedStyle(it);
   return {id: it.id || it.className || it.type,
           outline: style.outlineStyle !== "none" && parseFloat(style.outlineWidth),
-          seen: box.top >= 0 && box.bottom <= innerHeight && box.left >= 0 && box.right <= innerWidth};
-})()"""
+          top: box.top, bottom: box.bottom,
+          seen: box.top > -1 && box.bottom < innerHeight + 1 && box.left > -1 && box.right < innerWidth + 1};
+})"""
 
 
 # How what the measure says of a page begins, once this was done to it.
