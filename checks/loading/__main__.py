@@ -11,6 +11,7 @@ import argparse
 import base64
 import contextlib
 import json
+import os
 import re
 import signal
 import socket
@@ -38,6 +39,8 @@ class Ran(NamedTuple):
     wrong: int
     """Those that had no 2xx, and those that never came."""
     seconds: float
+    processor: float
+    """The seconds of processor time that the brokers took."""
 
 
 class Brokers:
@@ -52,15 +55,19 @@ class Brokers:
         asked = self._asked
         line = ["wrk", "-t1", f"-c{asked.connections}", f"-d{asked.seconds}s", "--timeout", "30s",
                 "-s", _ASK, self._url, "--", kind, str(count), _LOGIN, _NAMED]
+        before = self._processor()
         said = subprocess.run(line, check=True, capture_output=True, text=True).stdout
         found = re.search(r"^answers (\d+) (\d+) (\d+) (\d+)$", said, re.MULTILINE)
         assert found is not None, said
         answers, refused, failed, microseconds = map(int, found.groups())
-        return Ran(answers, refused + failed, microseconds / 1e6)
+        return Ran(answers, refused + failed, microseconds / 1e6, self._processor() - before)
 
     def megabytes(self) -> float:
         """What all of them hold in memory."""
         return sum(_resident(it.pid) for it in self._running) / 1024
+
+    def _processor(self) -> float:
+        return sum(_processor(it.pid) for it in self._running)
 
 
 @contextlib.contextmanager
@@ -106,17 +113,27 @@ def _resident(process: int) -> int:
     return int(found[1])
 
 
+def _processor(process: int) -> float:
+    """How many seconds of processor time it has had."""
+    after_its_name = Path(f"/proc/{process}/stat").read_text(encoding="ascii").rpartition(")")[2].split()
+    return sum(map(int, after_its_name[11:13])) / os.sysconf("SC_CLK_TCK")
+
+
+def _told(what: str, ran: Ran) -> str:
+    return (f"{ran.answers / ran.seconds:.0f} {what} a second, {ran.wrong} wrong, {ran.processor * 1000 / ran.answers:.2f} "
+            "ms of processor time each")
+
+
 def _load(asked: argparse.Namespace) -> None:
     with brokers(asked) as served:
         made = next = first = 0
         while made < asked.creations:
             ran = served.ask("creations", next)
             made, next = made + ran.answers, next + ran.answers + asked.connections  # those are dropped at the end
-            first = first or ran.answers
-            print(f"{ran.answers / ran.seconds:.0f} creations a second, {ran.wrong} wrong; {made} made, the brokers "
-                  f"take {served.megabytes():.0f} MB", flush=True)
+            first = first or max(1, ran.answers - asked.connections)  # some of the last were never asked for
+            print(f"{_told('creations', ran)}; {made} made, the brokers take {served.megabytes():.0f} MB", flush=True)
         ran = served.ask("polls", first)
-        print(f"{ran.answers / ran.seconds:.0f} polls a second, {ran.wrong} wrong", flush=True)
+        print(_told("polls", ran), flush=True)
 
 
 def main() -> None:

@@ -13,12 +13,13 @@ local function target(instance)
     return string.format("/v2/service_instances/00000000-0000-4000-8000-%012x", instance)
 end
 
+-- wrk calls this once without sending what it gives: so there is no first instance
 function request()
     asked = asked + 1
     if kind == "creations" then
         return wrk.format("PUT", target(count + asked), nil, named)
     end
-    return wrk.format("GET", target(1 + asked % count) .. "/last_operation")
+    return wrk.format("GET", target(2 + asked % count) .. "/last_operation")
 end
 
 -- the answers, those that aren't 2xx or 3xx, those that failed, and the microseconds

@@ -9,7 +9,7 @@ import threading
 from typing import Any, Callable, Iterator, List, Optional, Tuple, TypeVar, Union
 
 from osb import Holding, Id
-from osb.sqlite import opened
+from osb.sqlite import begin, opened
 from osb.stores import Change
 from osb_broker.fence import LostLock
 
@@ -98,7 +98,7 @@ class SqliteStore:
     def tying(self) -> Iterator[None]:
         """As `NamedStore` says: this thread's calls are one transaction, beside which nothing is written."""
         reader = self._reader()
-        reader.execute("BEGIN IMMEDIATE")
+        begin(reader, self._seconds)
         try:
             yield
         except BaseException:
@@ -123,7 +123,7 @@ class SqliteStore:
         itself fails, none is written.
         """
         try:
-            self._writer.execute("BEGIN IMMEDIATE")
+            begin(self._writer, self._seconds)
             for asked in together:
                 self._step(asked)
             self._writer.execute("COMMIT")

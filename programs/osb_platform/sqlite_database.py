@@ -9,7 +9,7 @@ import time
 from pathlib import Path
 from typing import Any, Iterator, List, Sequence, Tuple
 
-from osb.sqlite import opened
+from osb.sqlite import begin, opened
 from osb_platform.instances import Execute
 from osb_platform.readings import Reading
 
@@ -17,20 +17,20 @@ from osb_platform.readings import Reading
 class SqliteDatabase:
     """A file of SQLite. Threads of this process write through one connection, in turn."""
 
-    locking = skipping = ""  # BEGIN IMMEDIATE keeps all others from writing
+    locking = skipping = ""  # a transaction of `begin` keeps all others from writing
 
     def __init__(self, path: Path, seconds: float = 60.0) -> None:
         """`seconds`: how long a transaction waits for those of other processes, before it raises
         sqlite3.OperationalError.
         """
-        self._path, self._guard = path, threading.Lock()
+        self._path, self._seconds, self._guard = path, seconds, threading.Lock()
         self._connection = opened(path, seconds)
 
     @contextlib.contextmanager
     def transaction(self) -> Iterator[Execute]:
         """As `Database` says."""
         with self._guard:
-            self._connection.execute("BEGIN IMMEDIATE")
+            begin(self._connection, self._seconds)
             try:
                 yield self._execute
                 self._connection.execute("COMMIT")

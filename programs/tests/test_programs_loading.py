@@ -17,8 +17,9 @@ class Load(unittest.TestCase):
         said = subprocess.run(line, cwd=TOP / "checks", capture_output=True, text=True, timeout=120)
         self.assertEqual(said.returncode, 0, said.stderr)
         made, polls, *steps = said.stdout.splitlines()
-        self.assertRegex(made, r"^[1-9]\d* creations a second, 0 wrong; [1-9]\d* made, the brokers take [1-9]\d* MB$")
-        self.assertRegex(polls, r"^[1-9]\d* polls a second, \d+ wrong$")
+        each = r"\d+\.\d\d ms of processor time each"
+        self.assertRegex(made, rf"^[1-9]\d* creations a second, 0 wrong, {each}; [1-9]\d* made, the brokers take [1-9]\d* MB$")
+        self.assertRegex(polls, rf"^[1-9]\d* polls a second, \d+ wrong, {each}$")
         self.assertEqual([it.split(" ", 1)[1] for it in steps], [
             "steps a second of a platform with 1000 records", "steps a second of a platform with 100000 records"])
 

@@ -6,6 +6,7 @@ import sqlite3
 import subprocess
 import sys
 import tempfile
+import threading
 import time
 import unittest
 from contextlib import closing
@@ -14,7 +15,7 @@ from typing import List
 from unittest import mock
 
 from osb import Holding
-from osb.sqlite import opened, transaction
+from osb.sqlite import begin, opened, transaction
 from osb.stores import SqliteStore
 from tests.support import ONE
 
@@ -85,6 +86,23 @@ class Opened(unittest.TestCase):
             raise KeyError("x")
         with transaction(self.file, 1.0) as database:
             self.assertEqual((pragma(database, "synchronous"), database.execute("SELECT y FROM x").fetchall()), (2, [(3,)]))
+
+    def test_waiting_for_another(self) -> None:
+        """It begins once the other has ended, and not before; the connection's own waiting is as it was."""
+        with closing(opened(self.file, 7.0)) as first, closing(opened(self.file, 7.0)) as second:
+            begin(first, 7.0)
+            first.execute("INSERT INTO x VALUES (5)")
+            began = time.monotonic()
+            self.assertRaisesRegex(sqlite3.OperationalError, "locked", begin, second, 0.2)
+            self.assertGreaterEqual(time.monotonic() - began, 0.2)
+            self.assertEqual(pragma(second, "busy_timeout"), 7000)
+            ends = threading.Timer(0.1, first.execute, ["COMMIT"])
+            ends.start()
+            begin(second, 30.0)
+            self.assertEqual(second.execute("SELECT y FROM x").fetchall(), [(5,)])
+            self.assertEqual(pragma(second, "busy_timeout"), 7000)
+            second.execute("ROLLBACK")
+            ends.join()
 
     def test_waiting_has_an_end(self) -> None:
         with closing(sqlite3.connect(self.folder / "new", isolation_level=None)) as other:

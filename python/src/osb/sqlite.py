@@ -10,6 +10,7 @@ from typing import Iterator, Union
 Path = Union[str, "os.PathLike[str]"]
 
 _RETRY = 0.05
+_AGAIN = 0.0005
 
 
 def opened(path: Path, seconds: float, is_first: bool = True) -> sqlite3.Connection:
@@ -32,6 +33,23 @@ def opened(path: Path, seconds: float, is_first: bool = True) -> sqlite3.Connect
         raise
 
 
+def begin(database: sqlite3.Connection, seconds: float) -> None:
+    """Begins a transaction beside which nobody else writes, within so many seconds, on a connection of `opened`. Else
+    it raises sqlite3.OperationalError.
+
+    It asks again and again, after half a millisecond each time. SQLite's own wait sleeps longer each time, up to a
+    tenth of a second, so where many wait nobody has the file for most of the time.
+    """
+    until = time.monotonic() + seconds
+    ((waits,),) = database.execute("PRAGMA busy_timeout").fetchall()
+    database.execute("PRAGMA busy_timeout = 0")
+    try:
+        while not _begun(database, until):
+            time.sleep(_AGAIN)
+    finally:
+        database.execute(f"PRAGMA busy_timeout = {waits}")
+
+
 @contextlib.contextmanager
 def transaction(path: Path, seconds: float) -> Iterator[sqlite3.Connection]:
     """A transaction on a connection of its own, so that threads, processes and forks share nothing; no other writes
@@ -39,7 +57,7 @@ def transaction(path: Path, seconds: float) -> Iterator[sqlite3.Connection]:
     rolled back where the block raises.
     """
     with contextlib.closing(opened(path, seconds)) as database:
-        database.execute("BEGIN IMMEDIATE")
+        begin(database, seconds)
         try:
             yield database
         except BaseException:
@@ -55,9 +73,24 @@ def _with_log(made: sqlite3.Connection, until: float) -> None:
             made.execute("PRAGMA journal_mode = WAL")
             return
         except sqlite3.OperationalError as error:
-            if "locked" not in str(error) or time.monotonic() >= until:
-                raise
+            _check_locked(error, until)
             time.sleep(_RETRY)
+
+
+def _begun(database: sqlite3.Connection, until: float) -> bool:
+    """Whether the transaction has begun: not where another one writes."""
+    try:
+        database.execute("BEGIN IMMEDIATE")
+        return True
+    except sqlite3.OperationalError as error:
+        _check_locked(error, until)
+        return False
+
+
+def _check_locked(error: sqlite3.OperationalError, until: float) -> None:
+    """Raises the error again, unless it says that others have the file, and there is time left to wait for them."""
+    if "locked" not in str(error) or time.monotonic() >= until:
+        raise error
 
 
 def _sync(log: str) -> None:
