@@ -177,7 +177,7 @@ def _faults(asked: argparse.Namespace) -> Faults:
 
 def main(given: List[str]) -> int:
     """A storm by these words; the exit status."""
-    asked = _words(given)
+    asked = words(given)
     print(f"seed {asked.seed}", flush=True)
     ports = _free_ports(asked.brokers + 1)
     entrance = ports.pop()
@@ -271,7 +271,7 @@ def _free_ports(count: int) -> List[int]:
     return ports
 
 
-def _words(given: List[str]) -> argparse.Namespace:
+def words(given: List[str]) -> argparse.Namespace:
     parser = argparse.ArgumentParser("storm", allow_abbrev=False, description="Broker and platform run over a network "
                                      "that loses, delays, repeats and garbles, and are killed again and again; in the "
                                      "end each instance that the platform has is there, and nothing else.")

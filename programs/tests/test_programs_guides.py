@@ -11,6 +11,7 @@ import socket
 import subprocess
 import unittest
 import uuid
+from pathlib import Path
 from typing import Dict, List, Tuple
 from urllib.parse import quote, urlencode
 
@@ -19,13 +20,20 @@ from tests.broker_support import ONE, POSTGRESQL, TOP, InFolder, has_waitress
 
 BROKER, PLATFORM = TOP / "docs" / "broker-guide.md", TOP / "docs" / "platform-guide.md"
 
+# The sections whose indented blocks are run here, and how many each has. `checks/listings` goes by it.
+RUN = {(BROKER, "Start it"): 3, (BROKER, "A backend of your own"): 1, (BROKER, "With PostgreSQL"): 3,
+       (PLATFORM, "Start it"): 2, (PLATFORM, "The page"): 1, (PLATFORM, "With PostgreSQL, and several workers"): 2}
 
-def blocks(document: str, heading: str) -> List[str]:
-    """The indented blocks of a section."""
-    section = re.split(r"^## ", document, flags=re.MULTILINE)
+
+def blocks(page: Path, heading: str) -> List[str]:
+    """The indented blocks of a section that is run."""
+    section = re.split(r"^## ", page.read_text(), flags=re.MULTILINE)
     text = next(it for it in section if it.startswith(f"{heading}\n"))
     found = re.findall(r"(?:^    .*\n|^\n(?=    ))+", re.sub(r"```.*?```", "", text, flags=re.DOTALL), re.MULTILINE)
-    return [re.sub("^    ", "", it, flags=re.MULTILINE).strip("\n") for it in found if it.strip()]
+    commands = [re.sub("^    ", "", it, flags=re.MULTILINE).strip("\n") for it in found if it.strip()]
+    if len(commands) != RUN[page, heading]:
+        raise ValueError(f"{page}: {heading}: there are {len(commands)} blocks")
+    return commands
 
 
 def free_port() -> int:
@@ -68,7 +76,7 @@ class Shell(InFolder):
 @unittest.skipUnless(shutil.which("curl") and has_waitress(), "curl or waitress isn't installed")
 class Guides(Shell):
     def test_a_broker(self) -> None:
-        serve, at_once, by_worker = (self.here(it) for it in blocks(BROKER.read_text(), "Start it"))
+        serve, at_once, by_worker = (self.here(it) for it in blocks(BROKER, "Start it"))
         poll = "ask $two/last_operation"
         self.assertIn(poll, by_worker)
         made = by_worker.replace(poll, f"until {poll} | grep succeeded; do sleep 0.1; done")
@@ -78,12 +86,12 @@ class Guides(Shell):
         self.assertEqual((statuses, listed), (["201", "200", "202", "202"], 1), out)
 
     def test_a_backend(self) -> None:
-        (serve,) = blocks(BROKER.read_text(), "A backend of your own")
+        (serve,) = blocks(BROKER, "A backend of your own")
         self.ran(f"{self.here(serve)} &\n{self.up()}kill %1; wait %1\n")
         self.assertTrue((self.folder / "databases" / "holdings.sqlite").exists())
 
     def test_a_platform(self) -> None:
-        life, look = (self.here(it) for it in blocks(PLATFORM.read_text(), "Start it"))
+        life, look = (self.here(it) for it in blocks(PLATFORM, "Start it"))
         begun, end = re.split(r"^(?=\./osb-platform remove)", life, flags=re.MULTILINE)
         out = self.ran(f"{begun}{look}; echo\n{end}\nwait %1; wait %2\n")
         lines = [line.split("\t") for line in out.splitlines()]
@@ -91,7 +99,7 @@ class Guides(Shell):
         self.assertEqual([line[1] for line in lines if len(line) == 5], ["ready", "gone"], out)
 
     def test_a_page(self) -> None:
-        (run,) = blocks(PLATFORM.read_text(), "The page")
+        (run,) = blocks(PLATFORM, "The page")
         ask = f"until curl -sf http://127.0.0.1:{self.page}/ | grep -o '<title>.*</title>'; do sleep 0.1; done"
         out = self.ran(f"{self.here(run)} &\n{ask}\nkill %1; wait %1\n", OSB_PLATFORM_PASSWORD="x")
         self.assertEqual(out.count("<title>"), 1, out)
@@ -131,19 +139,19 @@ class OverPostgresql(Shell):
         return shlex.quote(f"postgresql://?{urlencode(parts, quote_via=quote)}")
 
     def test_a_broker(self) -> None:
-        serve, password, sql = blocks(BROKER.read_text(), "With PostgreSQL")
+        serve, password, sql = blocks(BROKER, "With PostgreSQL")
         url, secret = self.made(sql, "broker")
         self.assertIn("OSB_BACKEND_KEY=..", serve)
         started = self.here(serve.partition("\n")[2]).replace("postgresql://broker@db/brokers", url)
         given = {"OSB_BROKER_PASSWORD": "secret", "OSB_BACKEND_KEY": "a key", "PGPASSWORD": secret}
-        at_once = self.here(blocks(BROKER.read_text(), "Start it")[1])
+        at_once = self.here(blocks(BROKER, "Start it")[1])
         at_once = at_once.replace(f"ls {self.folder}/broker/instances", password)
         out = self.ran(f"{started} &\n{self.up()}{at_once}\nkill %1; wait %1\n", **given)
         self.assertEqual(re.findall(r"HTTP/1.1 (\d+)", out), ["201", "200"])
         self.assertRegex(out, r"(?m)\{\}[\w-]{43}$")
 
     def test_a_platform(self) -> None:
-        run, sql = blocks(PLATFORM.read_text(), "With PostgreSQL, and several workers")
+        run, sql = blocks(PLATFORM, "With PostgreSQL, and several workers")
         url, secret = self.made(sql, "platform")
         store = f"--store {url}"
         self.assertIn("--store postgresql://platform@db/platform --broker https://broker.example", run)
