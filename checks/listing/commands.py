@@ -68,6 +68,16 @@ def replayed(taken: Taken) -> None:
         same(its.said(), refusal)
 
 
+@story("run: what stands beside it, or the picture")
+def traced(taken: Taken) -> None:
+    of_crash = f"./osb-replay trace --instance {ONE} < examples/crash.schedule"
+    with room() as its:
+        same(its.run(taken.take("README.md", "./osb-replay trace ")), file("examples/unanswered.trace"))
+        same(its.run(taken.take("docs/schedule.md", f"{of_crash}\n")), file("examples/crash.trace"))
+        its.run(taken.take("docs/schedule.md", f"{of_crash} | tools/picture "))
+        same((its.top / "crash.svg").read_text(encoding="utf-8"), file("docs/pictures/crash.svg"))
+
+
 # ---- C and Rust
 
 

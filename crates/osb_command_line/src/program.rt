@@ -4,13 +4,14 @@ ghost use Rattle.std.specs.Io.KnownBytes.{Appends};
 ghost use Rattle.std.specs.Process.{exit_status};
 ghost use Rattle.osb_lines.specs.Reads.{ReadsFew};
 ghost use Rattle.osb_language.specs.declared.replay_fault.ReplayFault.TheVariants.{Write as WriteFault};
-ghost use Rattle.osb_command_line.specs.Program.{ending, IsAnswered, IsDone, IsWhyUndone};
+ghost use Rattle.osb_command_line.specs.Program.{ending, IsAnswered, IsDone, IsUnwritten, IsWhyUndone};
 ghost use Rattle.osb_words.specs.declared.command_line.Asked.TheVariants.{Table};
 
 use osb_device::{Input, Output};
 use osb_language::{ReplayFault, status_of};
 use osb_schedule::replay;
 use osb_table::write_table;
+use osb_trace::trace;
 use osb_words::Asked;
 use std::alloc::Global;
 use std::io::{Read, Write};
@@ -19,11 +20,11 @@ use std::process::ExitCode;
 // The status of a command line that is refused (this project's choice).
 const REFUSED: u8 = 2;
 
-/// Does what was asked for, from the reader to the writer. It takes memory for a replay alone.
+/// Does what was asked for, from the reader to the writer. It takes memory for a replay and a trace alone.
 ///
 /// # Errors
 ///
-/// Those of [`replay`] and of [`write_table`].
+/// Those of [`replay`], of [`write_table`] and of [`trace`].
 pub fn carry_out<R: Read, W: Write>(
     alloc: Global,
     asked: Asked,
@@ -33,16 +34,17 @@ pub fn carry_out<R: Read, W: Write>(
     ensures done { OnOk result (IsDone asked (R.remaining reader.old.device)
         (R.remaining reader.new.device) (W.contents writer.old.device)
         (W.contents writer.new.device)) }
-    ensures fault { IfErr result (λ fault. IsWhyUndone asked (R.remaining reader.old.device)
-        (R.remaining reader.new.device) reader.new.refused writer.new.refused fault) }
+    ensures fault { IfErr result (IsWhyUndone asked (R.remaining reader.old.device) (R.remaining reader.new.device)
+        reader.new.refused (W.contents writer.old.device) (W.contents writer.new.device) writer.new.refused) }
     ensures answered { OnOk result (IsAnswered asked reader.new.refused writer.new.refused) }
     ensures bound { asked ≢ Table → ReadsFew (R.remaining reader.old.device) (R.remaining reader.new.device) }
     ensures unread { asked ≡ Table → reader.new ≡ reader.old }
-    ensures unwritten { IfErr result (λ fault. fault ≢ WriteFault → writer.new ≡ writer.old) }
+    ensures unwritten { IfErr result (λ fault. fault ≢ WriteFault → IsUnwritten asked writer.old writer.new) }
 {
     match asked {
         Asked::Replay(options) => replay(alloc, reader, writer, options),
         Asked::Table => write_table(writer),
+        Asked::Trace(options) => trace(alloc, reader, writer, options),
     }
 }
 

@@ -2,7 +2,8 @@
 //!
 //! An [`Event`] is an operator's command, or the work of the network, a clock or the broker's backend. What
 //! each does to a platform and a broker is `osb_world`'s to say, and how a schedule spells it
-//! `osb_language`'s. [`Options`] is what a replay does besides running its events and reporting.
+//! `osb_language`'s. [`Options`] is what a replay does besides running its events and reporting, and [`TraceOptions`]
+//! which events a trace tells of.
 //!
 //! ```
 //! let event = Event::Send { id: InstanceId::from_value(1) };
@@ -17,4 +18,4 @@ mod event;
 mod options;
 
 pub use event::Event;
-pub use options::Options;
+pub use options::{Options, TraceOptions};

@@ -1,4 +1,5 @@
-//! What a replay does besides running the schedule and reporting.
+//! What a replay does besides running the schedule and reporting, and which events a trace tells of.
+use osb_message::InstanceId;
 
 /// What a replay does besides running the schedule and reporting (this project's choice).
 #[derive(Clone, Copy, Debug, PartialEq, Eq)]
@@ -10,4 +11,14 @@ pub struct Options {
     /// Whether a last line follows: the platform's saved record, as by
     /// `World::save` of `osb_world`.
     pub saved: bool,
+}
+
+/// Which events a trace tells of (this project's choice).
+#[derive(Clone, Copy, Debug, PartialEq, Eq)]
+pub struct TraceOptions {
+    /// The instance whose events it tells of, and the restarts; every instance's, where there is none.
+    pub instance: Option<InstanceId>,
+    /// Whether the fault-free rounds follow in which each created instance is settled after the last event, in
+    /// ascending order of the ids, as by `World::settle` of `osb_world`.
+    pub settle: bool,
 }

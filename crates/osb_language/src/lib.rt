@@ -23,5 +23,6 @@ mod words;
 
 pub use fault::LineFault;
 pub use limits::LONGEST_LINE;
-pub use line::{Line, read_line};
+pub use line::{Line, read_line, without_carriage_return};
 pub use replay_fault::{ReplayFault, ScheduleFault, status_of};
+pub use words::split_word;

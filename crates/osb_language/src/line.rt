@@ -40,7 +40,8 @@ fn is_ascii(line: &[u8]) -> bool
     line.is_ascii()
 }
 
-fn without_carriage_return(line: &[u8]) -> &[u8]
+/// A line without the one carriage return that may stand at its end (this project's choice). It takes no memory.
+pub fn without_carriage_return(line: &[u8]) -> &[u8]
     ensures front { result.now ≡ strip_carriage_return line.now }
 {
     match line {

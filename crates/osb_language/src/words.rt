@@ -31,7 +31,8 @@ fn word_length(line: &[u8]) -> usize
     memchr2(b' ', b'\t', line).unwrap_or(line.len())
 }
 
-// The first word of a line and what follows it, or none where the line has no word.
+/// The first word of a line and what follows it, or none where the line has no word (this project's choice). It
+/// takes no memory.
 pub fn split_word(line: &[u8]) -> Option<(&[u8], &[u8])>
     ensures words { MatchOption result (words_in line.now ≡ [])
         (λ parts. words_in line.now ≡ parts.0.now ∷ words_in parts.1.now) }

@@ -3,7 +3,7 @@ use Rattle.std.proofs.Common.{◌≡◌, ℕ, zero, suc, ◌+◌, ◌<◌, ◌�
 use Rattle.std.proofs.Common.{length, take, drop, get_or, refl, sym, ap, ◌∙◌, take-append-drop, arith}
 use Rattle.std.specs.Prelude.{slice_index}
 use Rattle.std.proofs.lemmas.Bool.Decides.{nat_tests}
-use Rattle.std.proofs.lemmas.List.{drop_more}
+use Rattle.std.proofs.lemmas.List.{drop_more, take_more}
 use Rattle.std.proofs.lemmas.Grind.{common_steps}
 use Rattle.std.specs.List.{onto_first}
 use Rattle.osb_lines.specs.Lines.{lines, ended_lines}
@@ -88,6 +88,13 @@ cut_at bytes n below feed =
     let here : get_or bytes n 0 ≡ 10 = grind (arith, nat_tests) in
     ap (λ byte. take n bytes ++ byte ∷ drop (n + 1) bytes) (sym here)
     ∙ ap (λ rest. take n bytes ++ rest) (sym (drop_more bytes n 0 below)) ∙ take-append-drop n bytes
+
+-- what stands before a line feed, and the line feed
+pub feed_taken : (bytes : List ℕ) (n : ℕ) → n < length bytes → eqb (slice_index bytes n) 10 ≡ true
+    → take n bytes ++ 10 ∷ [] ≡ take (n + 1) bytes
+feed_taken bytes n below feed =
+    let here : get_or bytes n 0 ≡ 10 = grind (arith, nat_tests) in
+    ap (λ byte. take n bytes ++ byte ∷ []) (sym here) ∙ sym (take_more bytes n 0 below)
 
 -- what is held is one line
 pub held_line : (rest : List ℕ) → 0 < length rest → ended_lines rest ≡ 0 → lines rest ≡ rest ∷ []

@@ -1,6 +1,7 @@
 -- What more bytes do to what is known of the bytes so far.
-use Rattle.std.proofs.Common.{below_more, ◌≡◌, ℕ, ◌+◌, ◌<◌, ◌≤◌, ◌⊎◌, inl, inr, Bool, true, false, eqb, List, [], ◌∷◌}
-use Rattle.std.proofs.Common.{◌++◌, length, take, drop, Some, None, refl, sym, ap, ◌∙◌, subst, append_assoc, append-nil}
+use Rattle.std.proofs.Common.{below_more, ◌≡◌, ℕ, ◌+◌, ◌<◌, ◌≤◌, ◌⊎◌, inl, inr, Bool, true, false, List, [], ◌∷◌}
+use Rattle.std.proofs.Common.{◌++◌, length, length-take, take, drop, Some, None, refl, sym, ap, ◌∙◌, subst, append_assoc, append-nil}
+use Rattle.std.proofs.Common.{take-append-drop}
 use Rattle.std.proofs.Common.{arith, IsTrue}
 use Rattle.std.proofs.lemmas.Grind.{common_steps}
 use Rattle.std.proofs.lemmas.List.{take_at, get_or_at, take-append-le, get_or_append_left, length-append}
@@ -8,7 +9,7 @@ use Rattle.std.proofs.lemmas.Bool.Decides.{nat_tests}
 use Rattle.std.proofs.lemmas.Bool.{cases_lt, false≢true}
 use Rattle.osb_language.specs.declared.fault.LineFault.{LineFault}
 use Rattle.osb_language.specs.declared.fault.LineFault.TheVariants.{LineTooLong, TooManyLines}
-use Rattle.std.specs.Prelude.{Result, Ok, Err, OnOk, slice_index}
+use Rattle.std.specs.Prelude.{Option, Result, Ok, Err, OnOk}
 use Rattle.osb_language.specs.Limits.{longest_line}
 use Rattle.osb_language.proofs.Splitting.{nil_of_length}
 use Rattle.osb_lines.specs.Limits.{most_lines}
@@ -16,10 +17,11 @@ use Rattle.osb_lines.specs.Lines.{lines, ended_lines, line_at}
 use Rattle.osb_lines.specs.Faults.{fault_of, IsJudged, HasNoFault, IsFirstFault}
 use Rattle.osb_lines.specs.Schedule.{said_fault}
 use Rattle.osb_lines.specs.Sink.{IsLineFault}
-use Rattle.osb_lines.specs.Reading.{Reading, most_read, with_line, EndedAs, HasReadAs, HasRead, Refuses}
+use Rattle.osb_lines.specs.Reading.{Reading, most_read, with_line, EndedAs, HasReadAs, HasRead, HasTakenNext, IsLast, Refuses}
+use Rattle.osb_lines.specs.Reading.{RefusesAt}
 use Rattle.osb_language.specs.declared.replay_fault.ScheduleFault.{ScheduleFault}
 use Rattle.osb_language.specs.declared.replay_fault.ScheduleFault.TheVariants.{At, Memory}
-use Rattle.osb_lines.proofs.Cutting.{lines_at_feed, cut_at, front_line, held_line, some_line, unended_both}
+use Rattle.osb_lines.proofs.Cutting.{lines_at_feed, front_line, held_line, some_line, unended_both}
 
 pub on_ok_both : {T E : Type 0} (P Q : Type 0) (r : Result T E) → OnOk r P → OnOk r Q → OnOk r (P × Q)
 on_ok_both P Q (Ok x) p q = (p, q)
@@ -103,6 +105,12 @@ faultless_all bytes all stop same each = λ n judged. rw same (each n (rw same a
 judged_sooner : (bytes : List ℕ) (n : ℕ) → IsJudged bytes false n → IsJudged bytes true n
 judged_sooner bytes n (within, why) = (within, inr (inl refl))
 
+-- the line of a fault has a number
+pub refused_somewhere : (n : ℕ) (bytes : List ℕ) (stop : Bool) (fault : ScheduleFault) → RefusesAt n bytes stop fault
+    → Refuses bytes stop fault
+refused_somewhere n bytes stop (At line fault) (number, first) = (n, number, first)
+refused_somewhere n bytes stop Memory first = tt
+
 -- a fault that shows before the end is the first at the end too
 pub refused_sooner : (bytes : List ℕ) (fault : ScheduleFault) → Refuses bytes false fault → Refuses bytes true fault
 refused_sooner bytes (At line fault) (n, number, first) = (
@@ -115,14 +123,6 @@ refused_sooner bytes Memory first = tt
 -- what came before, what is passed, and the rest
 pub passed_rest : (bytes front rest piece : List ℕ) → front ++ rest ≡ piece → (bytes ++ front) ++ rest ≡ bytes ++ piece
 passed_rest bytes front rest piece all = append_assoc bytes front rest ∙ ap (λ tail. bytes ++ tail) all
-
--- the same, the rest cut at a line feed
-pub passed_cut : (bytes front rest piece : List ℕ) (n : ℕ) → front ++ rest ≡ piece → n < length rest
-    → eqb (slice_index rest n) 10 ≡ true
-    → ((bytes ++ front) ++ take n rest) ++ 10 ∷ drop (n + 1) rest ≡ bytes ++ piece
-passed_cut bytes front rest piece n all below feed =
-    append_assoc (bytes ++ front) (take n rest) (10 ∷ drop (n + 1) rest)
-    ∙ ap (λ tail. (bytes ++ front) ++ tail) (cut_at rest n below feed) ∙ passed_rest bytes front rest piece all
 
 -- ---- a reader, and what its sink has taken
 
@@ -147,23 +147,21 @@ module _ {S : Type 0} (T : List (List ℕ) → S → Type 0) where
       → old.ended < most_lines
       → said_fault ended old.held ≡ None → T (ended ++ old.held ∷ []) new.sink → new.held ≡ []
       → new.ended ≡ old.ended + 1
-      → HasRead T (bytes ++ 10 ∷ []) new
+      → HasReadAs T (bytes ++ 10 ∷ []) new (ended ++ old.held ∷ [])
   good_feed bytes old new ended so_far few said took held number =
       let below : length ended < most_lines = omega (arith, so_far.number) in
       let here : fault_of ended old.held ≡ None = fault_said ended old.held below so_far.room ∙ said in
       let longer = length-append ended (old.held ∷ []) in
-      let empty : length new.held ≡ 0 = ap length held in (
-        ended ++ old.held ∷ [],
-        record {
-          split = subst (EndedAs (bytes ++ 10 ∷ []) (ended ++ old.held ∷ [])) (sym held)
-              (ended_feed bytes ended old.held so_far.split here);
-          number = omega (arith, so_far.number);
-          took = took;
-          room = omega arith;
-          few = omega (arith, so_far.number);
-          within = λ some. absurd (omega arith);
-        },
-      )
+      let empty : length new.held ≡ 0 = ap length held in
+      record {
+        split = subst (EndedAs (bytes ++ 10 ∷ []) (ended ++ old.held ∷ [])) (sym held)
+            (ended_feed bytes ended old.held so_far.split here);
+        number = omega (arith, so_far.number);
+        took = took;
+        room = omega arith;
+        few = omega (arith, so_far.number);
+        within = λ some. absurd (omega arith);
+      }
 
   -- more of the line under construction
   pub held_more : (bytes part : List ℕ) (reader : Reading S) (ended : List (List ℕ)) → HasReadAs T bytes reader ended
@@ -229,12 +227,14 @@ module _ {S : Type 0} (T : List (List ℕ) → S → Type 0) where
       (rw (nil_of_length reader.held empty) next) (fault_many ended line many) (inr (inr (inr many))))
 
   -- nothing is held, so every line has ended
-  pub none_held : (bytes : List ℕ) (reader : Reading S) → HasRead T bytes reader → length reader.held ≡ 0
-      → HasNoFault bytes true × T (lines bytes) reader.sink
-  none_held bytes reader (ended, so_far) empty =
+  pub none_held : (bytes : List ℕ) (reader : Reading S) (ended : List (List ℕ)) → HasReadAs T bytes reader ended
+      → length reader.held ≡ 0
+      → IsLast bytes ended false × HasNoFault bytes true × T (lines bytes) reader.sink
+  none_held bytes reader ended so_far empty =
       let all : lines bytes ≡ ended =
       lines_so_far bytes ended reader.held so_far.split
       ∙ ap (λ rest. ended ++ lines rest) (nil_of_length reader.held empty) ∙ append-nil ended in (
+        all,
         faultless_all bytes ended true all so_far.split.faultless,
         subst (λ all. T all reader.sink) (sym all) so_far.took,
       )
@@ -243,7 +243,7 @@ module _ {S : Type 0} (T : List (List ℕ) → S → Type 0) where
   pub last_good : (bytes : List ℕ) (reader : Reading S) (ended : List (List ℕ)) (sink : S) → HasReadAs T bytes reader ended
       → 0 < length reader.held
       → said_fault ended reader.held ≡ None → T (ended ++ reader.held ∷ []) sink
-      → HasNoFault bytes true × T (lines bytes) sink
+      → IsLast bytes ended true × HasNoFault bytes true × T (lines bytes) sink
   last_good bytes reader ended sink so_far some said took =
       let split = so_far.split in
       let below : length ended < most_lines = let few = so_far.within some in omega (arith, so_far.number) in
@@ -252,6 +252,7 @@ module _ {S : Type 0} (T : List (List ℕ) → S → Type 0) where
       lines_so_far bytes ended reader.held split
       ∙ ap (λ tail. ended ++ tail) (held_line reader.held some split.unended) in
       let longer = length-append ended (reader.held ∷ []) in (
+        (reader.held, all),
         faultless_all bytes (ended ++ reader.held ∷ []) true all
             (λ n below. faultless_more ended reader.held split.faultless here n (omega arith)),
         subst (λ all. T all sink) (sym all) took,
@@ -325,17 +326,18 @@ module _ {S : Type 0} (T : List (List ℕ) → S → Type 0) where
   -- the held line's own fault, where a line feed ends it
   pub refused_feed : (bytes more : List ℕ) (reader : Reading S) (ended : List (List ℕ)) (fault : ScheduleFault)
       → HasReadAs T bytes reader ended → reader.ended < most_lines
-      → IsLineFault (reader.ended + 1) (said_fault ended reader.held) fault → Refuses (bytes ++ 10 ∷ more) false fault
+      → IsLineFault (reader.ended + 1) (said_fault ended reader.held) fault
+      → RefusesAt reader.ended (bytes ++ 10 ∷ more) false fault
   refused_feed bytes more reader ended (At line found) so_far few (number, own) =
-      (reader.ended, number, refused_said bytes more reader ended found so_far few own)
+      (number, refused_said bytes more reader ended found so_far few own)
   refused_feed bytes more reader ended Memory so_far few own = tt
 
   -- the held line's own fault, where the input ends it
   pub refused_end : (bytes : List ℕ) (reader : Reading S) (ended : List (List ℕ)) (fault : ScheduleFault)
       → HasReadAs T bytes reader ended → 0 < length reader.held
-      → IsLineFault (reader.ended + 1) (said_fault ended reader.held) fault → Refuses bytes true fault
+      → IsLineFault (reader.ended + 1) (said_fault ended reader.held) fault → RefusesAt reader.ended bytes true fault
   refused_end bytes reader ended (At line found) so_far some (number, own) =
-      (reader.ended, number, last_refused bytes reader ended found so_far some own)
+      (number, last_refused bytes reader ended found so_far some own)
   refused_end bytes reader ended Memory so_far some own = tt
 
   -- the reader has most_read this much of the piece
@@ -345,24 +347,29 @@ module _ {S : Type 0} (T : List (List ℕ) → S → Type 0) where
     pub read : (bytes : List ℕ) → HasRead T bytes old → HasRead T (bytes ++ front) new
     pub moved : most_read old + length front ≤ most_read new
 
-  -- one line more is passed
-  pub passed_line : (piece rest : List ℕ) (n : ℕ) (old now new : Reading S) → Passed piece rest old now → n < length rest
-      → eqb (slice_index rest n) 10 ≡ true
-      → ((bytes : List ℕ) → HasRead T bytes now → HasRead T ((bytes ++ take n rest) ++ 10 ∷ []) new)
-      → most_read now + length (take n rest) < most_read new
-      → Passed piece (drop (n + 1) rest) old new
-  passed_line piece rest n old now new before below feed read moved = record {
-    front = before.front ++ (take n rest ++ 10 ∷ []);
-    all = append_assoc before.front (take n rest ++ 10 ∷ []) (drop (n + 1) rest)
-        ∙ ap (λ tail. before.front ++ tail)
-        (append_assoc (take n rest) (10 ∷ []) (drop (n + 1) rest) ∙ cut_at rest n below feed) ∙ before.all;
-    read = λ bytes so_far. subst (λ all. HasRead T all new)
-        (append_assoc (bytes ++ before.front) (take n rest) (10 ∷ [])
-        ∙ append_assoc bytes before.front (take n rest ++ 10 ∷ []))
+  -- the piece up to its first line feed is passed
+  pub passed_next : (piece rest : List ℕ) (count : ℕ) (old now new : Reading S) → Passed piece rest old now
+      → count ≤ length rest
+      → ((bytes : List ℕ) → HasRead T bytes now → HasRead T (bytes ++ take count rest) new)
+      → most_read now + count ≤ most_read new
+      → Passed piece (drop count rest) old new
+  passed_next piece rest count old now new before within read moved = record {
+    front = before.front ++ take count rest;
+    all = append_assoc before.front (take count rest) (drop count rest)
+        ∙ ap (λ tail. before.front ++ tail) (take-append-drop count rest) ∙ before.all;
+    read = λ bytes so_far. subst (λ all. HasRead T all new) (append_assoc bytes before.front (take count rest))
         (read (bytes ++ before.front) (before.read bytes so_far));
     moved =
-        let line = length-append (take n rest) (10 ∷ []) in
-        let front = length-append before.front (take n rest ++ 10 ∷ []) in
+        let long : length (take count rest) ≡ count = simp length-take (omega arith) in
+        let front = length-append before.front (take count rest) in
         let so_far = before.moved in
         omega arith;
   }
+
+  -- a piece without a line feed is taken whole
+  pub taken_whole : (bytes piece : List ℕ) (old new : Reading S) (taken : Option ℕ)
+      → ((count : ℕ) → taken ≡ Some count → ⊥)
+      → ((bytes : List ℕ) (ended : List (List ℕ)) → HasReadAs T bytes old ended → HasTakenNext T bytes piece ended new taken)
+      → HasRead T bytes old → HasRead T (bytes ++ piece) new
+  taken_whole bytes piece old new None none read (ended, so_far) = (ended, read bytes ended so_far)
+  taken_whole bytes piece old new (Some count) none read so_far = absurd (none count refl)

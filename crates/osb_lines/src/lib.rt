@@ -23,6 +23,7 @@ mod sink;
 
 pub use input_lines::read_lines;
 pub use limits::{LARGEST_READ, MOST_BYTES, MOST_LINES};
+pub use line_reader::LineReader;
 pub use plans::add_plan;
 pub use schedule::{Schedule, read_schedule};
 pub use sink::Sink;

@@ -1,9 +1,10 @@
 //! Lines are cut out of the pieces of an input, judged and taken as their bytes come.
 ghost use Rattle.std.specs.Prelude.{None, IsTrue, ◌↔◌, ◌≡◌, ℕ, ◌+◌, ◌<◌, ◌≤◌, false, true, [], ◌∷◌, ◌++◌, List};
-ghost use Rattle.std.specs.Prelude.{length, IfErr, IfOk, OnOk};
+ghost use Rattle.std.specs.Prelude.{length, IfErr, IfOk, IfSome, OnOk};
 ghost use Rattle.osb_lines.specs.Faults.{HasNoFault};
 ghost use Rattle.osb_lines.specs.Lines.{ended_lines, lines};
-ghost use Rattle.osb_lines.specs.Reading.{most_read, with_line, Refuses, HasRead};
+ghost use Rattle.osb_lines.specs.Reading.{most_read, taken_length, with_line, HasRead, HasReadAs, HasTakenNext};
+ghost use Rattle.osb_lines.specs.Reading.{IsLast, Refuses, RefusesAt};
 ghost use Rattle.osb_lines.specs.Schedule.{said_fault};
 ghost use Rattle.osb_lines.specs.Sink.{IsLineFault};
 
@@ -93,7 +94,7 @@ impl<S: Sink> LineReader<S> {
     fn take_held(&mut self) -> Result<(), ScheduleFault>
         requires room { self.old.ended < MOST_LINES }
         ensures good { (earlier : List (List ℕ)) → S.has_taken earlier self.old.sink
-            → OnOk result ((said_fault earlier self.old.held ≡ None)
+            → self.old.ended ≡ length earlier → OnOk result ((said_fault earlier self.old.held ≡ None)
             × S.has_taken (earlier ++ self.old.held ∷ []) self.new.sink) }
         ensures next { OnOk result ((self.new.held ≡ []) × (self.new.ended ≡ self.old.ended + 1)) }
         ensures refused { (earlier : List (List ℕ)) → S.has_taken earlier self.old.sink
@@ -110,7 +111,7 @@ impl<S: Sink> LineReader<S> {
         requires room { self.old.ended < MOST_LINES }
         requires none { self.old.held ≡ [] }
         ensures good { (earlier : List (List ℕ)) → S.has_taken earlier self.old.sink
-            → OnOk result ((said_fault earlier line.now ≡ None)
+            → self.old.ended ≡ length earlier → OnOk result ((said_fault earlier line.now ≡ None)
             × S.has_taken (earlier ++ line.now ∷ []) self.new.sink) }
         ensures next { OnOk result ((self.new.held ≡ []) × (self.new.ended ≡ self.old.ended + 1)) }
         ensures refused { (earlier : List (List ℕ)) → S.has_taken earlier self.old.sink
@@ -128,7 +129,7 @@ impl<S: Sink> LineReader<S> {
         ensures room { OnOk result ((self.now.ended < MOST_LINES)
             × (length self.now.held + length part.now ≤ LONGEST_LINE)) }
         ensures refused { (bytes more : List ℕ) → HasRead S.has_taken bytes self.now → 0 < length (part.now ++ more)
-            → IfErr result (Refuses (bytes ++ part.now ++ more) false) }
+            → IfErr result (RefusesAt self.now.ended (bytes ++ part.now ++ more) false) }
     {
         if self.is_full() {
             return Err(self.refusal(LineFault::TooManyLines));
@@ -153,10 +154,10 @@ impl<S: Sink> LineReader<S> {
     // Takes a part of a line that may go on after it.
     fn take_part(&mut self, part: &[u8]) -> Result<(), ScheduleFault>
         requires unended { ended_lines part.now ≡ 0 }
-        ensures good { (bytes : List ℕ) → HasRead S.has_taken bytes self.old
-            → OnOk result (HasRead S.has_taken (bytes ++ part.now) self.new) }
+        ensures good { (bytes : List ℕ) (ended : List (List ℕ)) → HasReadAs S.has_taken bytes self.old ended
+            → OnOk result (HasReadAs S.has_taken (bytes ++ part.now) self.new ended) }
         ensures refused { (bytes : List ℕ) → HasRead S.has_taken bytes self.old
-            → IfErr result (Refuses (bytes ++ part.now) false) }
+            → IfErr result (RefusesAt self.old.ended (bytes ++ part.now) false) }
         ensures moves { OnOk result (most_read self.old + length part.now ≤ most_read self.new) }
     {
         if part.is_empty() {
@@ -171,10 +172,11 @@ impl<S: Sink> LineReader<S> {
     // it stands.
     fn end_line(&mut self, part: &[u8]) -> Result<(), ScheduleFault>
         requires unended { ended_lines part.now ≡ 0 }
-        ensures good { (bytes : List ℕ) → HasRead S.has_taken bytes self.old
-            → OnOk result (HasRead S.has_taken (bytes ++ part.now ++ 10 ∷ []) self.new) }
+        ensures good { (bytes : List ℕ) (ended : List (List ℕ)) → HasReadAs S.has_taken bytes self.old ended
+            → OnOk result ((line : List ℕ)
+            × HasReadAs S.has_taken (bytes ++ part.now ++ 10 ∷ []) self.new (ended ++ line ∷ [])) }
         ensures refused { (bytes more : List ℕ) → HasRead S.has_taken bytes self.old
-            → IfErr result (Refuses (bytes ++ part.now ++ 10 ∷ more) false) }
+            → IfErr result (RefusesAt self.old.ended (bytes ++ part.now ++ 10 ∷ more) false) }
         ensures moves { OnOk result (most_read self.old + length part.now < most_read self.new) }
     {
         self.judge_part(part)?;
@@ -185,8 +187,35 @@ impl<S: Sink> LineReader<S> {
         self.take_held()
     }
 
-    // Takes the next piece of the input, and judges each line where that is due: at its line feed,
-    // at its 513th byte, and at any byte after the last line that a schedule may have.
+    /// Takes a piece of the input up to its first line feed, and gives how many bytes these are; or the whole
+    /// piece, and gives none, where it has no line feed. A line is judged where that is due: at its line feed,
+    /// at its 513th byte, and at any byte after the last line that a schedule may have (this project's choice).
+    ///
+    /// # Errors
+    ///
+    /// [`ScheduleFault::At`] with the first faulty line. [`ScheduleFault::Memory`] where the sink found none.
+    pub fn take_next(&mut self, piece: &[u8]) -> Result<Option<usize>, ScheduleFault>
+        ensures good { (bytes : List ℕ) (ended : List (List ℕ)) → HasReadAs S.has_taken bytes self.old ended
+            → IfOk result (HasTakenNext S.has_taken bytes piece.now ended self.new) }
+        ensures refused { (bytes : List ℕ) → HasRead S.has_taken bytes self.old
+            → IfErr result (RefusesAt self.old.ended (bytes ++ piece.now) false) }
+        ensures moves { IfOk result (λ taken.
+            most_read self.old + taken_length piece.now taken ≤ most_read self.new) }
+        ensures within { IfOk result (λ taken. IfSome taken (λ count. (0 < count) × (count ≤ length piece.now))) }
+    {
+        match memchr(b'\n', piece) {
+            Some(feed) => {
+                self.end_line(&piece[..feed])?;
+                Ok(Some(feed + 1))
+            }
+            None => {
+                self.take_part(piece)?;
+                Ok(None)
+            }
+        }
+    }
+
+    // Takes the next piece of the input, line by line.
     pub fn take_piece(&mut self, piece: &[u8]) -> Result<(), ScheduleFault>
         ensures good { (bytes : List ℕ) → HasRead S.has_taken bytes self.old
             → OnOk result (HasRead S.has_taken (bytes ++ piece.now) self.new) }
@@ -195,11 +224,43 @@ impl<S: Sink> LineReader<S> {
         ensures moves { OnOk result (most_read self.old + length piece.now ≤ most_read self.new) }
     {
         let mut rest = piece;
-        while let Some(feed) = memchr(b'\n', rest) {
-            self.end_line(&rest[..feed])?;
-            rest = &rest[feed + 1..];
+        while let Some(count) = self.take_next(rest)? {
+            rest = &rest[count..];
         }
-        self.take_part(rest)
+        Ok(())
+    }
+
+    /// Takes a last line that no line feed ends, and says whether there was one. No more is taken then.
+    ///
+    /// # Errors
+    ///
+    /// [`ScheduleFault::At`] where that line has a fault. [`ScheduleFault::Memory`] where the sink found none.
+    pub fn take_last(&mut self) -> Result<bool, ScheduleFault>
+        ensures good { (bytes : List ℕ) (ended : List (List ℕ)) → HasReadAs S.has_taken bytes self.old ended
+            → IfOk result (λ held. IsLast bytes ended held × HasNoFault bytes true
+            × S.has_taken (lines bytes) self.new.sink) }
+        ensures refused { (bytes : List ℕ) → HasRead S.has_taken bytes self.old
+            → IfErr result (RefusesAt self.old.ended bytes true) }
+    {
+        if !self.holds() {
+            return Ok(false);
+        }
+        self.take_held()?;
+        Ok(true)
+    }
+
+    /// What takes the lines.
+    pub fn sink(&self) -> &S
+        ensures sink { result.now ≡ self.now.sink }
+    {
+        &self.sink
+    }
+
+    /// What has taken the lines.
+    pub fn into_sink(self) -> S
+        ensures sink { result ≡ self.sink }
+    {
+        self.sink
     }
 
     // Judges a last line that no line feed ends, and gives the sink that has taken all of them.
@@ -209,9 +270,7 @@ impl<S: Sink> LineReader<S> {
         ensures refused { (bytes : List ℕ) → HasRead S.has_taken bytes self
             → IfErr result (Refuses bytes true) }
     {
-        if self.holds() {
-            self.take_held()?;
-        }
-        Ok(self.sink)
+        self.take_last()?;
+        Ok(self.into_sink())
     }
 }

@@ -1,5 +1,5 @@
 //! What takes the lines of a schedule.
-ghost use Rattle.std.specs.Prelude.{◌≡◌, ◌+◌, ◌<◌, ◌≤◌, ℕ, List, [], ◌∷◌, ◌++◌, None, IfErr, OnErr, OnOk};
+ghost use Rattle.std.specs.Prelude.{◌≡◌, ◌+◌, ◌<◌, ◌≤◌, ℕ, List, [], ◌∷◌, ◌++◌, length, None, IfErr, OnErr, OnOk};
 ghost use Rattle.osb_lines.specs.Limits.{most_lines};
 ghost use Rattle.osb_lines.specs.Schedule.{said_fault};
 ghost use Rattle.osb_lines.specs.Sink.{IsLineFault};
@@ -27,7 +27,7 @@ pub trait Sink: Drop {
     /// further line.
     fn take_line(&mut self, number: u32, line: &[u8]) -> Result<(), ScheduleFault>
         requires room { happened self.old < most_lines }
-        ensures good { (earlier : List (List ℕ)) → has_taken earlier self.old
+        ensures good { (earlier : List (List ℕ)) → has_taken earlier self.old → number ≡ length earlier + 1
             → OnOk result ((said_fault earlier line.now ≡ None) × has_taken (earlier ++ line.now ∷ []) self.new) }
         ensures refused { (earlier : List (List ℕ)) → has_taken earlier self.old
             → IfErr result (IsLineFault number (said_fault earlier line.now)) }

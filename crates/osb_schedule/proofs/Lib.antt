@@ -1,3 +1,1 @@
 pub mod Reporting
-pub mod Running
-pub mod Runs

@@ -22,14 +22,16 @@ use Rattle.osb_event.specs.declared.event.Event.{Event}
 use Rattle.osb_world.specs.Settling.{settled_cell}
 use Rattle.osb_world.specs.Views.{WorldState, catalogue_of, cell_at, records_of}
 use Rattle.osb_event.specs.declared.options.Options.{Options}
-use Rattle.osb_schedule.specs.declared.run.Ended.{Ended}
+use Rattle.osb_run.specs.declared.run.Ended.{Ended}
 use Rattle.osb_lines.specs.Lines.{lines}
-use Rattle.osb_schedule.specs.Report.{applied_count, broker_word, count_line, creates, id_line, instance_line}
+use Rattle.osb_run.specs.Counts.{applied_count}
+use Rattle.osb_run.specs.Created.{creates}
+use Rattle.osb_schedule.specs.Report.{broker_word, count_line, id_line, instance_line}
 use Rattle.osb_schedule.specs.Report.{record_word, reported_cell, saved_line, settled_as, AreSettled, IsReport}
 use Rattle.osb_schedule.specs.Report.{IsSettledAs}
-use Rattle.osb_schedule.specs.Run.{IsEndOf, IsWorldAfter}
+use Rattle.osb_run.specs.Run.{IsEndOf, IsWorldAfter}
 use Rattle.osb_lines.specs.Schedule.{catalogue_in, events_in}
-use Rattle.osb_schedule.proofs.Runs.{recorded, settled_records}
+use Rattle.osb_run.proofs.Runs.{recorded, settled_records}
 
 -- the cell of an id that is recorded, or isn't, after settling where that is asked for
 settled_as-records : (settle : Bool) (cat : Catalogue) (q : ℕ) (cell : Cell)

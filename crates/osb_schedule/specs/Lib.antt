@@ -1,3 +1,2 @@
 pub mod Replay
 pub mod Report
-pub mod Run

@@ -1,11 +1,9 @@
 -- The report of a schedule (this project's choice).
-use Rattle.std.specs.Prelude.{◌≡◌, ◌↔◌, Bool, true, false, Contains, IsSome, IsTrue, ℕ, ◌+◌, ◌-◌, ◌==◌, if◌then◌else◌}
-use Rattle.std.specs.Prelude.{cond}
+use Rattle.std.specs.Prelude.{◌≡◌, Bool, true, false, Contains, IsSome, ℕ, ◌-◌, if◌then◌else◌}
 use Rattle.std.specs.Prelude.{List, [], ◌∷◌, ◌++◌, length, Option, Some, None, codes}
 use Rattle.std.specs.FinMap as map
 use Rattle.std.specs.Fmt.{decimal}
 use Rattle.std.specs.List.{flat_map, list_any}
-use Rattle.std.specs.List.Sorted.{IsStrictlySortedBy}
 use Rattle.std.specs.Ordering.{nat_cmp}
 use Rattle.osb_message.specs.IdText.{id_text}
 use Rattle.osb_broker.specs.declared.row.BrokerRow.{BrokerRow}
@@ -16,11 +14,13 @@ use Rattle.osb_platform.specs.SavedRecord.{saved_text}
 use Rattle.osb_platform.specs.State.{state_word}
 use Rattle.osb_world.specs.declared.cell.Cell.{Cell}
 use Rattle.osb_event.specs.declared.event.Event.{Event}
-use Rattle.osb_world.specs.Events.{applies_at, cell_after}
+use Rattle.osb_world.specs.Events.{cell_after}
 use Rattle.osb_world.specs.Settling.{settled_cell}
 use Rattle.osb_world.specs.Views.{WorldState, catalogue_of, cell_at}
 use Rattle.osb_event.specs.declared.options.Options.{Options}
 use Rattle.osb_lines.specs.Lines.{lines}
+use Rattle.osb_run.specs.Counts.{applied_count}
+use Rattle.osb_run.specs.Created.{creates, AreCreated}
 use Rattle.osb_lines.specs.Schedule.{catalogue_in, events_in}
 
 -- what the platform records, in a word
@@ -43,26 +43,6 @@ id_line id cell = instance_line id (record_word cell.platform) (broker_word cell
 -- the line of a count
 abbrev pub count_line : List ℕ → ℕ → List ℕ
 count_line name count = name ++ 32 ∷ decimal count ++ 10 ∷ []
-
--- how many of the events that follow these apply to their instance, each after all before it
-abbrev pub applied_after : Catalogue → List Event → List Event → ℕ
-applied_after cat before [] = 0
-applied_after cat before (event ∷ events) =
-    cond (applies_at (λ id. cell_after cat id before) event) 1 0 + applied_after cat (before ++ event ∷ []) events
-
--- how many of the events apply
-abbrev pub applied_count : Catalogue → List Event → ℕ
-applied_count cat events = applied_after cat [] events
-
--- whether the event asks for an instance of the id
-abbrev pub creates : ℕ → Event → Bool
-creates q (Event.Create id service plan accepts) = id == q
-creates q event = false
-
--- the ids that some Create names, ascending and once
-pub record AreCreated (events : List Event) (ids : List ℕ) : Type 0 where
-  pub ascending : IsStrictlySortedBy nat_cmp ids
-  pub created : (q : ℕ) → Contains ids q ↔ IsTrue (list_any (creates q) events)
 
 -- the cell as it is, or settled
 unfoldable pub settled_as : Bool → Catalogue → ℕ → Cell → Cell

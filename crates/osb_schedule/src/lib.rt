@@ -34,7 +34,6 @@
 
 mod replaying;
 mod report;
-mod run;
 
 pub use osb_device::{DeviceFault, Input, Output};
 pub use osb_event::Options;

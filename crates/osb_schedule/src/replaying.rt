@@ -6,12 +6,12 @@ ghost use Rattle.osb_schedule.specs.Replay.{WritesReport};
 ghost use Rattle.osb_language.specs.declared.replay_fault.ReplayFault.TheVariants.{Write};
 
 use crate::report::report;
-use crate::run::Run;
 use osb_device::{DeviceFault, Input, Output};
 use osb_event::Options;
 use osb_language::ReplayFault;
 use osb_lines::read_lines;
 use osb_message::Memory;
+use osb_run::Run;
 use std::alloc::Global;
 use std::io::{Read, Write};
 

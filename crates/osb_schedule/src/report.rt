@@ -7,14 +7,14 @@ ghost use Rattle.std.specs.Ordering.{nat_cmp};
 ghost use Rattle.osb_lines.specs.Lines.{lines};
 ghost use Rattle.osb_schedule.specs.Report.{broker_word, count_line, id_line, instance_line, saved_line};
 ghost use Rattle.osb_schedule.specs.Report.{AreSettled, IsReport, IsSettledAs};
-ghost use Rattle.osb_schedule.specs.Run.{IsEndOf};
+ghost use Rattle.osb_run.specs.Run.{IsEndOf};
 ghost use Rattle.osb_world.specs.Views.{cell_at, records_of};
 
-use crate::run::Ended;
 use osb_broker::BrokerRow;
 use osb_event::Options;
 use osb_message::{InstanceId, Memory};
 use osb_platform::SaveFault;
+use osb_run::Ended;
 use osb_world::World;
 use std::alloc::Global;
 

@@ -8,7 +8,8 @@ use Rattle.clap.specs.Walk.{Row, Text}
 use Rattle.clap.specs.declared.error.Error.{Error}
 use Rattle.clap.specs.declared.error.kind.ErrorKind.{ErrorKind}
 use Rattle.clap.specs.declared.error.kind.ErrorKind.TheVariants.{OutOfMemory}
-use Rattle.osb_words.specs.CommandLine.{asked_of, asked_words, command, IsWordsFault, IsTold}
+use Rattle.osb_words.specs.CommandLine.{asked_of, asked_words, command, IsNoHelp, IsTold}
+use Rattle.osb_words.specs.CommandLine.{IsWordsFault}
 use Rattle.osb_words.specs.declared.command_line.WordsFault.{WordsFault}
 use Rattle.osb_words.specs.declared.command_line.WordsFault.TheVariants.{Help, Refused, Memory}
 
@@ -43,3 +44,10 @@ unasked made words found R is kinds matched nothing = (
   subst (λ a. fault_of a words ≡ []) is (kinds (ap is_simple_and_free is ∙ command_is_free)),
   ap asked_of (sym ((matched (ap is_simple is ∙ command_is_simple)).1 ∙ ap (λ a. subcommand_of a words) is)) ∙ nothing,
 )
+
+-- words that ask for nothing are refused
+pub refused_unasked : (words : List Text) (fault : WordsFault) → IsNoHelp fault
+    → (fault_of command words ≡ []) × (asked_words words ≡ None) → IsWordsFault words fault
+refused_unasked words (Help text) none why = absurd none
+refused_unasked words (Refused text) none why = inr why
+refused_unasked words Memory none why = tt

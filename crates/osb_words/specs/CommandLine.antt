@@ -1,17 +1,19 @@
 -- The command line (this project's choice): the command, as `clap` defines commands, and what words ask for.
-use Rattle.std.specs.Prelude.{◌≡◌, ◌≢◌, ◌⊎◌, Bool, true, false, List, [], Option, Some, None, codes, if◌then◌else◌, ⊤}
+use Rattle.std.specs.Prelude.{◌≡◌, ◌≢◌, ◌⊎◌, Bool, true, false, List, [], ℕ, Option, Some, None, option_map, codes}
+use Rattle.std.specs.Prelude.{if◌then◌else◌, ⊤}
 use Rattle.std.specs.Str.{bytes_eq}
 use Rattle.std.specs.Option.{option_map_or}
 use Rattle.clap.specs.Faults.{fault_of}
 use Rattle.clap.specs.Kinds.{IsAmong}
-use Rattle.clap.specs.Walk.{Row, Rule, Text, one_of}
+use Rattle.clap.specs.Walk.{Row, Rule, Text, first_of, one_of}
 use Rattle.clap.specs.Simple.{App, new_app, new_rule, on_top, subcommand_of, with_rule, with_subcommand}
-use Rattle.clap.specs.declared.builder.action.ArgAction.TheVariants.{SetTrue}
+use Rattle.clap.specs.declared.builder.action.ArgAction.TheVariants.{Set, SetTrue}
 use Rattle.clap.specs.declared.error.kind.ErrorKind.{ErrorKind}
 use Rattle.clap.specs.declared.error.kind.ErrorKind.TheVariants.{DisplayHelp, OutOfMemory}
 use Rattle.osb_event.specs.declared.options.Options.{Options}
+use Rattle.osb_message.specs.IdText.{id_of}
 use Rattle.osb_words.specs.declared.command_line.Asked.{Asked}
-use Rattle.osb_words.specs.declared.command_line.Asked.TheVariants.{Replay, Table}
+use Rattle.osb_words.specs.declared.command_line.Asked.TheVariants.{Replay, Table, Trace}
 use Rattle.osb_words.specs.declared.command_line.WordsFault.{WordsFault}
 use Rattle.osb_words.specs.declared.command_line.WordsFault.TheVariants.{Help, Refused, Memory}
 
@@ -24,6 +26,13 @@ flag name = record (new_rule name) { long = Some name; action = Some SetTrue }
 abbrev pub replay_command : App
 replay_command = with_rule (with_rule (new_app (codes "replay")) (flag (codes "settle"))) (flag (codes "saved"))
 
+-- an option with a value
+abbrev pub valued : Text → Rule
+valued name = record (new_rule name) { long = Some name; action = Some Set; value_names = 1 }
+
+abbrev pub trace_command : App
+trace_command = with_rule (with_rule (new_app (codes "trace")) (valued (codes "instance"))) (flag (codes "settle"))
+
 abbrev pub table_command : App
 table_command = new_app (codes "table")
 
@@ -32,7 +41,8 @@ abbrev pub program : App
 program = on_top (λ top. record top { subcommand_required = true }) (new_app (codes "osb-replay"))
 
 abbrev pub command : App
-command = with_subcommand (with_subcommand program replay_command.top) table_command.top
+command =
+    with_subcommand (with_subcommand (with_subcommand program replay_command.top) trace_command.top) table_command.top
 
 -- ---- what words ask for
 
@@ -43,12 +53,23 @@ is_set name rows = option_map_or (λ value. bytes_eq value (codes "true")) (one_
 abbrev pub options_of : List Row → Options
 options_of rows = record { settle = is_set (codes "settle") rows; saved = is_set (codes "saved") rows }
 
+-- the instance that is asked for, if one is; none of both where what stands for it is no id
+abbrev pub instance_named : Option Text → Option (Option ℕ)
+instance_named None = Some None
+instance_named (Some text) = option_map (λ id. Some id) (id_of text)
+
+abbrev pub trace_of : List Row → Option Asked
+trace_of rows =
+    option_map (λ instance. Trace (record { instance = instance; settle = is_set (codes "settle") rows }))
+    (instance_named (first_of (codes "instance") rows))
+
 -- what a subcommand with its matches asks for
 abbrev pub asked_of : Option (Text × List Row) → Option Asked
 asked_of None = None
 asked_of (Some (name, rows)) =
     if bytes_eq name (codes "replay") then Some (Replay (options_of rows)) else
-    (if bytes_eq name (codes "table") then Some Table else None)
+    (if bytes_eq name (codes "trace") then trace_of rows else
+    (if bytes_eq name (codes "table") then Some Table else None))
 
 -- what the words ask for: by the subcommand and the matches that the command has on them
 abbrev pub asked_words : List Text → Option Asked

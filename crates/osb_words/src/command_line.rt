@@ -1,15 +1,17 @@
 //! The command line (this project's choice).
-ghost use Rattle.std.specs.Prelude.{◌≡◌, [], false, map, IfErr, IfOk, OnOk, string_bytes};
+ghost use Rattle.std.specs.Prelude.{◌≡◌, [], codes, false, map, IfErr, IfOk, OnOk, string_bytes};
 ghost use Rattle.osb_words.specs.CommandLine.{asked_of, asked_words, command, flag, is_set, program};
-ghost use Rattle.osb_words.specs.CommandLine.{replay_command, table_command, IsWordsFault, IsTold};
+ghost use Rattle.osb_words.specs.CommandLine.{instance_named, replay_command, table_command, trace_command, valued};
+ghost use Rattle.osb_words.specs.CommandLine.{trace_of, IsNoHelp, IsWordsFault, IsTold};
 ghost use Rattle.clap.specs.Faults.{fault_of};
-ghost use Rattle.clap.specs.Words.{app_of, found_of, kind_of, rows_of, rule_of, subcommand_rows_of};
+ghost use Rattle.clap.specs.Words.{app_of, first_of, found_of, kind_of, rows_of, rule_of, subcommand_rows_of};
 ghost use Rattle.clap.specs.declared.builder.command.Command.TheViews.{out-Command};
 
 use crate::help;
 use clap::error::ErrorKind;
 use clap::{Arg, ArgAction, ArgMatches, Command};
-use osb_event::Options;
+use osb_event::{Options, TraceOptions};
+use osb_message::InstanceId;
 use std::alloc::{AllocError, Global};
 use thiserror::Error;
 
@@ -20,6 +22,8 @@ pub enum Asked {
     Replay(Options),
     /// To write the orphan mitigation table.
     Table,
+    /// To trace the schedule on standard input, with these options.
+    Trace(TraceOptions),
 }
 
 /// Why the words of a command line ask for nothing that can be done (this project's choice).
@@ -60,6 +64,31 @@ fn make_replay<'a>(alloc: Global) -> Result<Command<'a>, AllocError>
     Ok(replay)
 }
 
+// An option with a value, which help calls this.
+fn make_valued<'a>(alloc: Global, name: &'a str, value: &'a str, text: &'a str) -> Arg<'a>
+    ensures rule { rule_of result ≡ valued name.now }
+    ensures local { result.global ≡ false }
+{
+    Arg::new(alloc, name)
+        .long(name)
+        .action(ArgAction::Set)
+        .value_name(value)
+        .help(text)
+}
+
+fn make_trace<'a>(alloc: Global) -> Result<Command<'a>, AllocError>
+    ensures shape { IfOk result (λ c. app_of c ≡ trace_command) }
+    ensures local { IfOk result (λ c. (out-Command c).has_globals ≡ false) }
+{
+    let trace = Command::new(alloc, "trace")
+        .about(help::TRACE)
+        .override_usage(help::TRACE_USAGE)
+        .after_help(help::TRACE_OUTPUT)
+        .arg(make_valued(alloc, "instance", "ID", help::INSTANCE))?
+        .arg(make_flag(alloc, "settle", help::TRACE_SETTLE))?;
+    Ok(trace)
+}
+
 fn make_table<'a>(alloc: Global) -> Command<'a>
     ensures shape { app_of result ≡ table_command }
     ensures local { (out-Command result).has_globals ≡ false }
@@ -86,8 +115,10 @@ fn make_command<'a>(alloc: Global) -> Result<Command<'a>, AllocError>
     ensures shape { IfOk result (λ c. app_of c ≡ command) }
 {
     let replay = make_replay(alloc)?;
+    let trace = make_trace(alloc)?;
     let command = make_program(alloc)?
         .subcommand(replay)?
+        .subcommand(trace)?
         .subcommand(make_table(alloc))?;
     Ok(command)
 }
@@ -102,6 +133,30 @@ fn read_flag(matches: &ArgMatches<'_>, name: &str) -> bool
     }
 }
 
+// The instance that is asked for, if one is; none of both where what stands for it is no id.
+fn read_instance(matches: &ArgMatches<'_>) -> Option<Option<InstanceId>>
+    ensures instance { result ≡ instance_named (first_of (codes "instance") (rows_of (found_of matches.now))) }
+{
+    let Some(text) = matches.get_str("instance") else {
+        return Some(None);
+    };
+    match InstanceId::from_text(text) {
+        Ok(id) => Some(Some(id)),
+        Err(_) => None,
+    }
+}
+
+// The trace that is asked for.
+fn read_trace(matches: &ArgMatches<'_>) -> Option<Asked>
+    ensures trace { result ≡ trace_of (rows_of (found_of matches.now)) }
+{
+    let instance = read_instance(matches)?;
+    Some(Asked::Trace(TraceOptions {
+        instance,
+        settle: read_flag(matches, "settle"),
+    }))
+}
+
 // What the matched words ask for.
 fn asked_by(matches: &ArgMatches<'_>) -> Option<Asked>
     ensures asked { result ≡ asked_of (subcommand_rows_of matches.now) }
@@ -111,8 +166,27 @@ fn asked_by(matches: &ArgMatches<'_>) -> Option<Asked>
             settle: read_flag(inner, "settle"),
             saved: read_flag(inner, "saved"),
         })),
+        Some(("trace", inner)) => read_trace(inner),
         Some(("table", _)) => Some(Asked::Table),
         _ => None,
+    }
+}
+
+// What is said of an instance that is no id.
+const NO_ID: &str = "\
+error: what stands after '--instance' is no GUID, as 00000000-0000-0000-0000-000000000001 is one
+
+For more information, try 'osb-replay trace --help'.
+";
+
+// The fault of a command line whose instance is no id: the words that `clap` takes ask for nothing else that can't be
+// done.
+fn no_id(alloc: Global) -> WordsFault
+    ensures no_help { IsNoHelp result }
+{
+    match String::from_str(alloc, NO_ID) {
+        Ok(text) => WordsFault::Refused(text),
+        Err(_) => WordsFault::Memory,
     }
 }
 
@@ -133,7 +207,8 @@ fn fault_by(alloc: Global, error: &clap::Error) -> WordsFault
 /// What the words of a command line ask for (this project's choice).
 ///
 /// The first word is the program's name, whatever it is. Then stands `replay`, and after it
-/// `--settle`, `--saved`, both or neither, in either order; or `table`. The words are read by `clap`,
+/// `--settle`, `--saved`, both or neither, in either order; or `trace`, and after it `--instance` with an id,
+/// `--settle`, both or neither, in either order; or `table`. The words are read by `clap`,
 /// so what they ask for is what its definition of the matches gives for them under this command. It
 /// takes memory, and changes nothing.
 ///
@@ -154,8 +229,7 @@ pub fn read_words(alloc: Global, words: &[String]) -> Result<Asked, WordsFault>
     match command.try_get_matches_from(words) {
         Ok(matches) => match asked_by(&matches) {
             Some(asked) => Ok(asked),
-            // This doesn't come: the command has no other subcommand but `help`, which is an error.
-            None => Err(WordsFault::Refused(String::new(alloc))),
+            None => Err(no_id(alloc)),
         },
         Err(error) => Err(fault_by(alloc, &error)),
     }

@@ -9,6 +9,7 @@ Broker API 2.17)";
 /// How the program is called, below `Usage: `.
 pub const PROGRAM_USAGE: &str = "\
 osb-replay replay [--settle] [--saved] < SCHEDULE
+       osb-replay trace [--instance ID] [--settle] < SCHEDULE
        osb-replay table";
 
 /// How to start, and how the program ends.
@@ -17,7 +18,8 @@ To start, give a schedule on standard input:
 
   osb-replay replay < first.schedule
 
-'osb-replay replay --help' says what stands in a schedule and in the report.
+'osb-replay replay --help' says what stands in a schedule and in the report, and
+'osb-replay trace --help' how to see what happened, line by line.
 
 Exit status:
   0  done
@@ -72,6 +74,49 @@ the report shows what is recorded and held after these";
 pub const SAVED: &str = "\
 Adds a last line to the report: the platform's saved record, as JSON, from which
 it starts again after a crash";
+
+/// What `trace` does.
+pub const TRACE: &str = "\
+Reads a schedule on standard input and writes what each of its events did, as it is read";
+
+/// How `trace` is called, below `Usage: `.
+pub const TRACE_USAGE: &str = "osb-replay trace [--instance ID] [--settle] < SCHEDULE";
+
+/// What stands in a trace.
+pub const TRACE_OUTPUT: &str = "\
+A trace has a line of names, and a line for each event, whose columns are parted by tabs:
+
+  line      the number of the line in the schedule; 'round 1', 2 or 3: a round of '--settle'
+  event     the event, as the schedule has it
+  step      'applied', or why the event was skipped
+  platform  what the platform records of the instance then, or 'none'
+  broker    what the broker holds of it then, or 'none'
+  out       the request that is out then, or '-'
+  answer    the answer that travels then, its status and what can be read of it, or '-'
+
+An event is skipped for one of these reasons:
+
+  unknown          no instance of the id was ever asked for
+  id-used          an instance of the id was asked for before
+  busy             the state would allow it, but a request is out
+  nothing-out      no request is out
+  nothing-travels  no answer travels
+  nothing-due      the state has no request due
+  not-polling      the platform isn't polling until the instance is made
+  not-removable    the state allows no removal
+  nothing-running  the broker isn't at work on the instance
+
+The line of a restart says how many instances it changed; its columns are those of '--instance', or
+'-'. If a line of the schedule has a fault, the lines before it have been written.";
+
+/// What `--instance` does.
+pub const INSTANCE: &str = "\
+Tells of this instance and of the restarts alone";
+
+/// What `--settle` does in a trace.
+pub const TRACE_SETTLE: &str = "\
+After the last event, gives each instance three rounds in which nothing
+is lost, and tells of these too";
 
 /// What `table` does.
 pub const TABLE: &str = "Writes the orphan mitigation table on standard output";

@@ -1,6 +1,7 @@
 -- An error of the command is told as what it is, and words without one that ask for nothing are refused.
-use Rattle.std.proofs.Common.{inr, sym}
-use Rattle.osb_words.proofs.Explaining.{explained, unasked}
+use Rattle.std.proofs.Common.{sym}
+use Rattle.std.specs.Prelude.{map, string_bytes}
+use Rattle.osb_words.proofs.Explaining.{explained, refused_unasked, unasked}
 use Rattle.osb_words.proofs.command_line.read_words.Goals as goal
 
 pub returns-clause-fault : goal.returns-clause-fault
@@ -9,5 +10,6 @@ returns-clause-fault c =
 
 pub returns-in-Ok-try_get_matches_from-clause-fault : goal.returns-in-Ok-try_get_matches_from-clause-fault
 returns-in-Ok-try_get_matches_from-clause-fault c =
-    inr (unasked _ _ _ _ c.in-Ok.ensures.shape c.in-Ok-try_get_matches_from.ensures.kinds
+    refused_unasked (map string_bytes c.args.words.now) c.no_id.result c.no_id.ensures.no_help
+    (unasked _ _ _ _ c.in-Ok.ensures.shape c.in-Ok-try_get_matches_from.ensures.kinds
     c.in-Ok-try_get_matches_from.ensures.matches (sym c.in-None.ensures.asked))

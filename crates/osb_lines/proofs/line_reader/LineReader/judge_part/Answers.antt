@@ -9,7 +9,6 @@ pub returns-then-is_full-clause-refused : goal.returns-then-is_full-clause-refus
 returns-then-is_full-clause-refused g c = λ bytes more so_far some.
     let all : c.args.self.now.ended ≡ most_lines = c.is_full.ensures.full c.if-is_full.true in
     rw c.refusal.ensures.line (
-      c.args.self.now.ended,
       refl,
       rw (append_assoc bytes c.args.part.now more)
           (refused_many g.S.Sink.has_taken bytes (c.args.part.now ++ more) c.args.self.now so_far all some),
@@ -20,7 +19,6 @@ returns-then-not-fits-clause-refused g c = λ bytes more so_far some.
     let few = c.is_full.ensures.room c.if-is_full.false in
     let long : longest_line < length c.args.self.now.held + length c.args.part.now = search rules in
     rw c.refusal-then-not-fits.ensures.line (
-      c.args.self.now.ended,
       refl,
       refused_long g.S.Sink.has_taken bytes c.args.part.now more c.args.self.now so_far few c.requires.unended
           long,

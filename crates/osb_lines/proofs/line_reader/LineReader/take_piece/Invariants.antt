@@ -3,8 +3,8 @@ use Rattle.std.proofs.Common.{length}
 use Rattle.osb_lines.proofs.Reading.{Passed}
 use Rattle.osb_lines.proofs.line_reader.LineReader.take_piece.Given as goal
 
-abbrev pub invariant-loop-feed : goal.invariant-loop-feed
-invariant-loop-feed g l = Passed g.S.Sink.has_taken l.piece l.rest l.initial.self l.self
+abbrev pub invariant-loop-count : goal.invariant-loop-count
+invariant-loop-count g l = Passed g.S.Sink.has_taken l.piece l.rest l.initial.self l.self
 
-abbrev pub decreases-loop-feed : goal.decreases-loop-feed
-decreases-loop-feed g l = length l.rest
+abbrev pub decreases-loop-count : goal.decreases-loop-count
+decreases-loop-count g l = length l.rest

@@ -7,7 +7,7 @@ use Rattle.osb_lines.proofs.Schedules.{schedule_fault, schedule_more}
 use Rattle.osb_lines.proofs.schedule.ScheduleSink.take_line.Goals as goal
 
 pub returns-in-Ok-clause-good : goal.returns-in-Ok-clause-good
-returns-in-Ok-clause-good c = λ earlier told.
+returns-in-Ok-clause-good c = λ earlier told numbered.
     let says : line_of c.args.line.now ≡ Ok c.in-Ok.said = sym c.read_line.ensures.exact ∙ c.in-Ok.is in
     on_ok_weaker c.take_said.result
     (λ (none, catalogue, events). (

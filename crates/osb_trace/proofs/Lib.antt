@@ -1,0 +1,5 @@
+pub mod Endings
+pub mod Lines
+pub mod Pieces
+pub mod Rounds
+pub mod Telling

@@ -1,0 +1,88 @@
+//! Why an event is skipped (this project's choice).
+ghost use Rattle.std.specs.Prelude.{◌≡◌};
+ghost use Rattle.osb_trace.specs.Reasons.{known_reason, reason_of, reason_word};
+
+use osb_event::Event;
+use osb_platform::{PlatformRow, State};
+use osb_world::Cell;
+
+/// Why an event was skipped (this project's choice).
+#[derive(Clone, Copy, Debug, PartialEq, Eq)]
+pub enum Reason {
+    /// No instance of the id was ever asked for.
+    Unknown,
+    /// An instance of the id was asked for before.
+    IdUsed,
+    /// In this state it could be, were no request out.
+    Busy,
+    /// No request is out.
+    NothingOut,
+    /// No answer travels.
+    NothingTravels,
+    /// In this state no request is due.
+    NothingDue,
+    /// The platform isn't polling until the instance is made.
+    NotPolling,
+    /// In this state an operator can't have the instance removed.
+    NotRemovable,
+    /// The broker isn't at work on the instance.
+    NothingRunning,
+}
+
+impl Reason {
+    /// The word of the reason, as it is printed (this project's choice). It takes no memory.
+    pub fn word(self) -> &'static str
+        ensures word { result.now ≡ reason_word self }
+    {
+        match self {
+            Reason::Unknown => "unknown",
+            Reason::IdUsed => "id-used",
+            Reason::Busy => "busy",
+            Reason::NothingOut => "nothing-out",
+            Reason::NothingTravels => "nothing-travels",
+            Reason::NothingDue => "nothing-due",
+            Reason::NotPolling => "not-polling",
+            Reason::NotRemovable => "not-removable",
+            Reason::NothingRunning => "nothing-running",
+        }
+    }
+}
+
+// Why an event of an instance with this record is skipped.
+fn known_reason(row: PlatformRow, event: Event) -> Reason
+    ensures reason { result ≡ known_reason row event }
+{
+    match event {
+        Event::Create { .. } => Reason::IdUsed,
+        Event::Remove { .. } => match row.state {
+            State::Polling | State::Ready | State::Unsettled => Reason::Busy,
+            _ => Reason::NotRemovable,
+        },
+        Event::Send { .. } => match row.state {
+            State::Polling | State::CleaningPolling | State::Cleaning => Reason::Busy,
+            _ => Reason::NothingDue,
+        },
+        Event::Expire { .. } => match row.state {
+            State::Polling => Reason::Busy,
+            _ => Reason::NotPolling,
+        },
+        Event::Deliver { .. } | Event::Gateway { .. } | Event::Timeout { .. } => Reason::NothingOut,
+        Event::Repeat { .. } | Event::Lose { .. } | Event::Garble { .. } | Event::Answer { .. } => {
+            Reason::NothingTravels
+        }
+        Event::Finish { .. } => Reason::NothingRunning,
+        // It is never skipped.
+        Event::Restart => Reason::Unknown,
+    }
+}
+
+/// Why an event is skipped where there is this of its instance (this project's choice). It says nothing of an event
+/// that applies, and takes no memory.
+pub fn reason_of(cell: &Cell, event: Event) -> Reason
+    ensures reason { result ≡ reason_of cell.now event }
+{
+    match cell.platform {
+        Some(row) => known_reason(row, event),
+        None => Reason::Unknown,
+    }
+}
