@@ -1,3 +1,4 @@
+pub mod Ascending
 pub mod Outs
 pub mod Running
 pub mod Runs

@@ -13,7 +13,7 @@ use Rattle.osb_run.specs.Run.{IsWorldAfter, IsWorldOf}
 use Rattle.osb_world.specs.Views.{WorldState, cell_at}
 use Rattle.osb_world.specs.declared.cell.Cell.{Cell}
 
-some_is : {A : Type 0} (o : Option A) (b : Bool) → is_some o ≡ b → IsSome o ↔ IsTrue b
+pub some_is : {A : Type 0} (o : Option A) (b : Bool) → is_some o ≡ b → IsSome o ↔ IsTrue b
 some_is o b e = ((λ some. sym e ∙ some), (λ yes. e ∙ yes))
 
 -- the recorded ids are those that were created

@@ -9,14 +9,14 @@ use Rattle.osb_language.specs.declared.line.Line.{Line}
 use Rattle.osb_message.specs.Plans.{Catalogue}
 use Rattle.osb_world.specs.Events.{applies_at, cell_after, next_cell}
 use Rattle.osb_language.specs.Language.{line_of}
-use Rattle.osb_run.specs.Counts.{applied_after, applied_count}
+use Rattle.osb_world.specs.Counts.{applied_after, applied_count}
 use Rattle.osb_lines.specs.Schedule.{catalogue_in, event_in, events_in, with_plan}
 use Rattle.osb_lines.proofs.Adding.{catalogue-more, events-more}
 use Rattle.osb_run.specs.Run.{IsRunOf, IsWorldAfter, HasRun}
 use Rattle.osb_run.specs.declared.run.Run.{Run}
 use Rattle.osb_world.specs.declared.step.Step.TheVariants.{Applied, Skipped}
 use Rattle.osb_world.specs.Views.{WorldState, catalogue_of, cell_at, step_of}
-use Rattle.osb_run.proofs.Runs.{cell_after-more}
+use Rattle.osb_world.proofs.Following.{cell_after-more}
 
 -- one event more
 pub world-more : (cat : Catalogue) (events : List Event) (event : Event) (old new : WorldState)

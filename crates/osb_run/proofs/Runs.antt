@@ -1,10 +1,8 @@
--- The cell of an id after a list of events.
-use Rattle.std.proofs.Common.{◌≡◌, ℕ, Bool, true, false, ◌||◌, List, [], ◌∷◌, ◌++◌, refl, sym, ◌∙◌, ap}
+-- Which ids have a record after a list of events.
+use Rattle.std.proofs.Common.{◌≡◌, ℕ, Bool, true, false, ◌||◌, List, [], ◌∷◌, refl, sym, ◌∙◌, ap}
 use Rattle.std.specs.Prelude.{Option, Some, None, is_some, is_none, if◌then◌else◌, option_map}
 use Rattle.std.specs.List.{list_any}
 use Rattle.std.proofs.Math.Bool.{or-false, or-true, or_assoc}
-use Rattle.std.proofs.lemmas.List.Elements.{filter-append}
-use Rattle.std.proofs.lemmas.List.{append-nil}
 use Rattle.osb_message.specs.declared.messages.Answer.{Answer}
 use Rattle.osb_message.specs.declared.messages.Request.{Request}
 use Rattle.osb_broker.specs.declared.outcome.Outcome.{Outcome}
@@ -28,23 +26,6 @@ stepped_by cat q c e es false m = rw m refl
 cell_steps-events_of : (cat : Catalogue) (q : ℕ) (c : Cell) (e : Event) (es : List Event)
     → cell_steps cat c (events_of q (e ∷ es)) ≡ cell_steps cat (next_cell cat q c e) (events_of q es)
 cell_steps-events_of cat q c e es = stepped_by cat q c e es _ refl
-
-steps_more : (cat : Catalogue) (c : Cell) (es : List Event) (e : Event)
-    → cell_steps cat c (es ++ e ∷ []) ≡ cell_step cat (cell_steps cat c es) e
-steps_more cat c [] e = refl
-steps_more cat c (x ∷ es) e = steps_more cat (cell_step cat c x) es e
-
-more_by : (cat : Catalogue) (q : ℕ) (c : Cell) (es : List Event) (e : Event) (b : Bool) → is_of q e ≡ b
-    → cell_steps cat c (es ++ events_of q (e ∷ [])) ≡ next_cell cat q (cell_steps cat c es) e
-more_by cat q c es e true m = rw m (steps_more cat c es e)
-more_by cat q c es e false m = rw m (ap (cell_steps cat c) (append-nil es))
-
--- one event more at the end
-pub cell_after-more : (cat : Catalogue) (q : ℕ) (es : List Event) (e : Event)
-    → cell_after cat q (es ++ e ∷ []) ≡ next_cell cat q (cell_after cat q es) e
-cell_after-more cat q es e =
-    ap (cell_steps cat empty_cell) (filter-append (is_of q) es (e ∷ []))
-    ∙ more_by cat q empty_cell (events_of q es) e _ refl
 
 -- a record is made by a Create, and never goes
 same_mapped : {A : Type 0} (f : A → A) (p : Option A) → is_some (option_map f p) ≡ is_some p

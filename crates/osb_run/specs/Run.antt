@@ -6,7 +6,7 @@ use Rattle.osb_world.specs.Events.{cell_after}
 use Rattle.osb_world.specs.Views.{WorldState, catalogue_of, cell_at}
 use Rattle.osb_run.specs.declared.run.Ended.{Ended}
 use Rattle.osb_run.specs.declared.run.Run.{Run}
-use Rattle.osb_run.specs.Counts.{applied_count}
+use Rattle.osb_world.specs.Counts.{applied_count}
 use Rattle.osb_lines.specs.Schedule.{catalogue_in, events_in}
 
 -- a world with this catalogue, after these events

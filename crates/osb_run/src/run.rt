@@ -1,7 +1,6 @@
 //! What the lines of a schedule do, one after another (this project's choice).
-ghost use Rattle.std.specs.Prelude.{◌≡◌, ◌+◌, ◌<◌, ◌≤◌, ℕ, List, [], ◌∷◌, ◌++◌, None, Ok, IfErr, IfOk, IfSome, IsSome};
-ghost use Rattle.std.specs.Prelude.{count_by, is_some};
-ghost use Rattle.std.specs.Prelude.{OnErr, OnOk};
+ghost use Rattle.std.specs.Prelude.{◌≡◌, ◌≢◌, ◌↔◌, ◌+◌, ◌<◌, ◌≤◌, ℕ, List, [], ◌∷◌, ◌++◌, None, Ok, IfErr, IfOk, IfSome};
+ghost use Rattle.std.specs.Prelude.{count_by, is_some, IsSome, OnErr, OnOk};
 ghost use Rattle.std.specs.FinMap as map;
 ghost use Rattle.osb_message.specs.Plans.{Catalogue as Plans};
 ghost use Rattle.osb_lines.specs.Schedule.{event_in, fault_after, has_begun, plan_fault, with_plan};
@@ -186,7 +185,7 @@ impl Run {
         }
     }
 
-    /// How many instances have a request out after the lines so far: these a restart would change.
+    /// How many instances have a request out after the lines so far: these and no others a restart would change.
     ///
     /// # Errors
     ///
@@ -194,6 +193,9 @@ impl Run {
     pub fn outs(&self, alloc: Global) -> Result<usize, Memory>
         ensures outs { (cat : Plans) (events : List Happening) → IsRunOf cat events self.now
             → IfOk result (IsOutCount cat events) }
+        // Whatever happened before, a restart changes the instance exactly where a request is out.
+        ensures changed { (cat : Plans) (events : List Happening) (id : ℕ) → IsSome (cell_after cat id events).out
+            ↔ (cell_after cat id (events ++ Happening.Restart ∷ []) ≢ cell_after cat id events) }
     {
         let Some(world) = &self.world else {
             return Ok(0);

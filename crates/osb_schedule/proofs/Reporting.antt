@@ -4,14 +4,12 @@ use Rattle.std.proofs.Common.{◌∙◌, subst, arith, below_more}
 use Rattle.std.proofs.lemmas.Grind.{get_or_default_zero}
 use Rattle.std.proofs.lemmas.List.{append-nil}
 use Rattle.std.proofs.lemmas.Bool.{false≢true}
-use Rattle.std.proofs.lemmas.Cmp.{eq_by_cmp_equiv, nat_cmp_total}
-use Rattle.std.proofs.lemmas.Map.Keys.{IsDistinct-from_sorted, apart_from_distinct}
-use Rattle.std.specs.Prelude.{Option, Some, is_some, IsSome, IsTrue, Contains, ◌↔◌, [], ◌∷◌, codes, map}
+use Rattle.std.specs.Prelude.{Some, is_some, IsSome, Contains, ◌↔◌, [], ◌∷◌, codes, map}
 use Rattle.std.specs.declared.cmp.Ordering.TheVariants.{Less}
 use Rattle.std.specs.FinMap.{FinMap, entries, find, get, get-entries, keys}
 use Rattle.std.specs.List.{flat_map, list_any, AllByRecursion}
 use Rattle.std.specs.List.Sorted.{IsStrictlySortedBy}
-use Rattle.std.specs.Ordering.{eq_by_cmp, nat_cmp}
+use Rattle.std.specs.Ordering.{nat_cmp}
 use Rattle.std.proofs.lemmas.Bool.Decides.{nat_tests}
 use Rattle.osb_platform.proofs.Ascending.{keys_ascend, keys_recorded}
 use Rattle.osb_platform.specs.declared.row.PlatformRow.{PlatformRow}
@@ -24,13 +22,15 @@ use Rattle.osb_world.specs.Views.{WorldState, catalogue_of, cell_at, records_of}
 use Rattle.osb_event.specs.declared.options.Options.{Options}
 use Rattle.osb_run.specs.declared.run.Ended.{Ended}
 use Rattle.osb_lines.specs.Lines.{lines}
-use Rattle.osb_run.specs.Counts.{applied_count}
+use Rattle.osb_world.specs.Counts.{applied_count}
 use Rattle.osb_run.specs.Created.{creates}
 use Rattle.osb_schedule.specs.Report.{broker_word, count_line, id_line, instance_line}
 use Rattle.osb_schedule.specs.Report.{record_word, reported_cell, saved_line, settled_as, AreSettled, IsReport}
 use Rattle.osb_schedule.specs.Report.{IsSettledAs}
 use Rattle.osb_run.specs.Run.{IsEndOf, IsWorldAfter}
 use Rattle.osb_lines.specs.Schedule.{catalogue_in, events_in}
+use Rattle.osb_run.proofs.Ascending.{apart}
+use Rattle.osb_run.proofs.Outs.{some_is}
 use Rattle.osb_run.proofs.Runs.{recorded, settled_records}
 
 -- the cell of an id that is recorded, or isn't, after settling where that is asked for
@@ -52,9 +52,6 @@ cells_by settle cat events old new q true created known after done =
 cells_by settle cat events old new q false created known after done =
     let kept = done.others q (λ recorded. false≢true (sym known ∙ recorded)) in
     (rw created (kept ∙ after.1 q), ap (λ (cell : Cell). is_some cell.platform) kept ∙ known)
-
-some_is : {A : Type 0} (o : Option A) (b : Bool) → is_some o ≡ b → IsSome o ↔ IsTrue b
-some_is o b e = ((λ some. sym e ∙ some), (λ yes. e ∙ yes))
 
 pub reported : (options : Options) (bytes : List ℕ) (ended : Ended) (world : WorldState) (text : List ℕ)
     → IsEndOf (lines bytes) ended → IsSettledAs options.settle ended.world world
@@ -158,14 +155,6 @@ pub record IsSettledSoFar (ids : List ℕ) (n : ℕ) (old new : WorldState) : Ty
       (cell_at old (get_or ids k 0))
   pub others : (q : ℕ) → ((k : ℕ) → k < n → get_or ids k 0 ≢ q) → cell_at new q ≡ cell_at old q
   pub catalogue : catalogue_of new ≡ catalogue_of old
-
-apart : (ids : List ℕ) (k n : ℕ) → IsStrictlySortedBy nat_cmp ids → k < n → n < length ids
-    → get_or ids k 0 ≢ get_or ids n 0
-apart ids k n ascending below inside = λ same.
-    let differ = apart_from_distinct (eq_by_cmp nat_cmp) ids k n 0
-    (IsDistinct-from_sorted nat_cmp ids ascending) below inside in
-    false≢true (sym differ ∙ ap (λ id. eq_by_cmp nat_cmp id (get_or ids n 0)) same
-    ∙ (eq_by_cmp_equiv nat_cmp_total).refl (get_or ids n 0))
 
 -- one instance more
 pub settled_more : (ids : List ℕ) (n id : ℕ) (old now new : WorldState) → IsStrictlySortedBy nat_cmp ids

@@ -12,7 +12,7 @@ use Rattle.osb_lines.proofs.Adding.{catalogue-more, events-more}
 use Rattle.osb_lines.specs.Schedule.{catalogue_in, event_in, events_in, with_plan}
 use Rattle.osb_message.specs.Plans.{Catalogue}
 use Rattle.osb_run.proofs.Running.{run-more}
-use Rattle.osb_run.proofs.Runs.{cell_after-more}
+use Rattle.osb_world.proofs.Following.{cell_after-more}
 use Rattle.osb_run.specs.Run.{IsRunOf}
 use Rattle.osb_trace.proofs.Rounds.{said_after}
 use Rattle.osb_trace.specs.Columns.{columns}

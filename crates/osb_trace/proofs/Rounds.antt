@@ -2,15 +2,13 @@
 use Rattle.std.proofs.Common.{◌≡◌, ◌≢◌, ◌<◌, ◌+◌, ℕ, Bool, true, false, List, [], ◌∷◌, ◌++◌, length, take, get_or, refl}
 use Rattle.std.proofs.Common.{sym, ap, ◌∙◌, subst, arith, append_assoc, append-nil}
 use Rattle.std.proofs.KnownBytes.{Appends-trans}
-use Rattle.std.proofs.lemmas.Bool.{false≢true}
-use Rattle.std.proofs.lemmas.Cmp.{eq_by_cmp_equiv, nat_cmp_total}
-use Rattle.std.proofs.lemmas.Map.Keys.{IsDistinct-from_sorted, apart_from_distinct}
 use Rattle.std.specs.Prelude.{Option, map, if◌then◌else◌}
 use Rattle.std.specs.Io.KnownBytes.{Appends}
 use Rattle.std.specs.List.Sorted.{IsStrictlySortedBy}
-use Rattle.std.specs.Ordering.{eq_by_cmp, nat_cmp}
+use Rattle.std.specs.Ordering.{nat_cmp}
 use Rattle.osb_event.specs.declared.event.Event.{Event}
 use Rattle.osb_message.specs.Plans.{Catalogue}
+use Rattle.osb_run.proofs.Ascending.{apart}
 use Rattle.osb_trace.specs.Settling.{round_events, round_head, spelled, told_each, told_round, told_rounds, told_steps, HasCell}
 use Rattle.osb_trace.specs.Telling.{is_asked, said_step, step_word, told_event}
 use Rattle.osb_trace.specs.declared.settling.RoundEvent.{RoundEvent}
@@ -147,14 +145,6 @@ told_each-more instance cat cells [] id = append-nil _
 told_each-more instance cat cells (first ∷ ids) id =
     ap (λ rest. told_one_of instance cat cells first ++ rest) (told_each-more instance cat cells ids id)
     ∙ sym (append_assoc (told_one_of instance cat cells first) (told_each instance cat cells ids) _)
-
-apart : (ids : List ℕ) (k n : ℕ) → IsStrictlySortedBy nat_cmp ids → k < n → n < length ids
-    → get_or ids k 0 ≢ get_or ids n 0
-apart ids k n ascending below inside = λ same.
-    let differ = apart_from_distinct (eq_by_cmp nat_cmp) ids k n 0
-    (IsDistinct-from_sorted nat_cmp ids ascending) below inside in
-    false≢true (sym differ ∙ ap (λ id. eq_by_cmp nat_cmp id (get_or ids n 0)) same
-    ∙ (eq_by_cmp_equiv nat_cmp_total).refl (get_or ids n 0))
 
 -- one instance more that is asked for
 pub asked_more : (instance : Option ℕ) (ids : List ℕ) (n : ℕ) (old now new : WorldState)

@@ -1,8 +1,10 @@
 -- Why an event is skipped (this project's choice). It says nothing of an event that applies.
-use Rattle.std.specs.Prelude.{ℕ, List, codes, is_some, if◌then◌else◌}
+use Rattle.std.specs.Prelude.{◌≡◌, ℕ, false, ⊤, List, codes, None, is_some, IsSome, IsSomeAnd, IsTrue, if◌then◌else◌}
 use Rattle.std.specs.Option.{option_map_or}
 use Rattle.osb_event.specs.declared.event.Event.{Event}
+use Rattle.osb_broker.specs.Finished.{is_running}
 use Rattle.osb_platform.specs.State.{due, is_polling, is_removable}
+use Rattle.osb_platform.specs.Statuses.{is_within}
 use Rattle.osb_platform.specs.declared.row.PlatformRow.{PlatformRow}
 use Rattle.osb_trace.specs.declared.reason.Reason.{Reason}
 use Rattle.osb_trace.specs.declared.reason.Reason.TheVariants.{Unknown, IdUsed, Busy, NothingOut, NothingTravels}
@@ -28,6 +30,23 @@ known_reason row Event.Restart = Unknown
 -- why an event is skipped where there is this cell
 abbrev pub reason_of : Cell → Event → Reason
 reason_of cell event = option_map_or (λ row. known_reason row event) cell.platform Unknown
+
+-- what is so of the instance where an event of it is skipped for this reason
+abbrev pub IsReason : Cell → Reason → Type 0
+IsReason cell Unknown = cell.platform ≡ None
+IsReason cell IdUsed = IsSome cell.platform
+IsReason cell Busy = IsSomeAnd cell.platform (λ row. IsSome row.out)
+IsReason cell NothingOut = cell.out ≡ None
+IsReason cell NothingTravels = cell.travelling ≡ None
+IsReason cell NothingDue = IsSomeAnd cell.platform (λ row. due row.state ≡ None)
+IsReason cell NotPolling = IsSomeAnd cell.platform (λ row. is_polling row.state ≡ false)
+IsReason cell NotRemovable = IsSomeAnd cell.platform (λ row. is_removable row.state ≡ false)
+IsReason cell NothingRunning = is_running cell.broker ≡ false
+
+-- the event can stand in a schedule: a gateway's status is one of 500 to 599
+abbrev pub IsSpoken : Event → Type 0
+IsSpoken (Event.Gateway id status) = IsTrue (is_within 500 599 status)
+IsSpoken event = ⊤
 
 abbrev pub reason_word : Reason → List ℕ
 reason_word Unknown = codes "unknown"

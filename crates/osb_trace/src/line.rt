@@ -6,12 +6,12 @@ ghost use Rattle.osb_language.specs.Words.{words_in};
 ghost use Rattle.osb_trace.specs.Columns.{answer_word, body_word, columns, held_word, out_word, recorded_word};
 ghost use Rattle.osb_trace.specs.Telling.{head, joined, spaced};
 
+use itoa::Buffer;
 use osb_broker::BrokerRow;
 use osb_language::{split_word, without_carriage_return};
 use osb_message::{Answer, Body, ErrorCode, LastState, Memory, Request};
 use osb_platform::PlatformRow;
 use osb_world::Cell;
-use std::alloc::Global;
 
 // What the platform records of an instance.
 fn recorded_word(row: Option<PlatformRow>) -> &'static str
@@ -59,13 +59,22 @@ fn body_word(body: Body) -> &'static str
     }
 }
 
+/// Adds a number, in decimal.
+pub fn push_number(text: &mut Vec<u8>, number: usize) -> Result<(), Memory>
+    ensures added { OnOk result (text.new.items ≡ text.old.items ++ decimal number) }
+{
+    let mut digits = Buffer::new();
+    text.extend_from_slice(digits.format(number).as_bytes())?;
+    Ok(())
+}
+
 // Adds the answer that travels.
-fn push_answer(alloc: Global, text: &mut Vec<u8>, travelling: Option<Answer>) -> Result<(), Memory>
+fn push_answer(text: &mut Vec<u8>, travelling: Option<Answer>) -> Result<(), Memory>
     ensures added { OnOk result (text.new.items ≡ text.old.items ++ answer_word travelling) }
 {
     match travelling {
         Some(answer) => {
-            text.extend_from_slice(answer.status.to_string(alloc)?.as_bytes())?;
+            push_number(text, usize::from(answer.status))?;
             text.extend_from_slice(body_word(answer.body).as_bytes())?;
         }
         None => text.push(b'-')?,
@@ -74,7 +83,7 @@ fn push_answer(alloc: Global, text: &mut Vec<u8>, travelling: Option<Answer>) ->
 }
 
 /// Adds the four columns of an instance, and the end of the line.
-pub fn push_columns(alloc: Global, text: &mut Vec<u8>, cell: &Cell) -> Result<(), Memory>
+pub fn push_columns(text: &mut Vec<u8>, cell: &Cell) -> Result<(), Memory>
     ensures added { OnOk result (text.new.items ≡ text.old.items ++ columns cell.now) }
 {
     text.extend_from_slice(recorded_word(cell.platform).as_bytes())?;
@@ -83,7 +92,7 @@ pub fn push_columns(alloc: Global, text: &mut Vec<u8>, cell: &Cell) -> Result<()
     text.push(b'\t')?;
     text.extend_from_slice(out_word(cell.out).as_bytes())?;
     text.push(b'\t')?;
-    push_answer(alloc, text, cell.travelling)?;
+    push_answer(text, cell.travelling)?;
     text.push(b'\n')?;
     Ok(())
 }
@@ -106,10 +115,10 @@ fn push_words(text: &mut Vec<u8>, line: &[u8]) -> Result<(), Memory>
 }
 
 /// Adds the first two columns: the number of a line of a schedule, and its words.
-pub fn push_head(alloc: Global, text: &mut Vec<u8>, number: u32, line: &[u8]) -> Result<(), Memory>
+pub fn push_head(text: &mut Vec<u8>, number: u32, line: &[u8]) -> Result<(), Memory>
     ensures added { OnOk result (text.new.items ≡ text.old.items ++ head number line.now) }
 {
-    text.extend_from_slice(number.to_string(alloc)?.as_bytes())?;
+    push_number(text, number as usize)?;
     text.push(b'\t')?;
     push_words(text, without_carriage_return(line))?;
     text.push(b'\t')?;

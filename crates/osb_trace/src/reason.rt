@@ -1,6 +1,7 @@
 //! Why an event is skipped (this project's choice).
-ghost use Rattle.std.specs.Prelude.{◌≡◌};
-ghost use Rattle.osb_trace.specs.Reasons.{known_reason, reason_of, reason_word};
+ghost use Rattle.std.specs.Prelude.{◌≡◌, false};
+ghost use Rattle.osb_trace.specs.Reasons.{known_reason, reason_of, reason_word, IsReason, IsSpoken};
+ghost use Rattle.osb_world.specs.Steps.{applies};
 
 use osb_event::Event;
 use osb_platform::{PlatformRow, State};
@@ -76,10 +77,12 @@ fn known_reason(row: PlatformRow, event: Event) -> Reason
     }
 }
 
-/// Why an event is skipped where there is this of its instance (this project's choice). It says nothing of an event
-/// that applies, and takes no memory.
+/// Why an event is skipped where there is this of its instance (this project's choice). Of an event that doesn't
+/// apply, what it says is so. It says nothing of an event that applies, nor of a [`Event::Gateway`] whose status is
+/// none of 500 to 599, as no schedule has. It takes no memory.
 pub fn reason_of(cell: &Cell, event: Event) -> Reason
     ensures reason { result ≡ reason_of cell.now event }
+    ensures so { applies cell.now event ≡ false → IsSpoken event → IsReason cell.now result }
 {
     match cell.platform {
         Some(row) => known_reason(row, event),

@@ -12,7 +12,7 @@ ghost use Rattle.osb_trace.specs.Settling.{round_head};
 ghost use Rattle.osb_trace.specs.Telling.{asked_columns, is_asked, said_step, told_restart, IsLineTold};
 ghost use Rattle.osb_world.specs.Events.{cell_after};
 
-use crate::line::push_columns;
+use crate::line::{push_columns, push_number};
 use crate::reason::reason_of;
 use crate::settling::RoundEvent;
 use crate::tracer::{Heard, Tracer};
@@ -31,7 +31,6 @@ const HEADER: &[u8] = b"line\tevent\tstep\tplatform\tbroker\tout\tanswer\n";
 // Tells of events: the instance that is asked for, the line under construction, and the buffer before the writer.
 #[derive(Drop)]
 pub struct Teller {
-    alloc: Global,
     pub instance: Option<InstanceId>,
     line: Vec<u8>,
     pub buffer: Buffer,
@@ -53,7 +52,6 @@ impl Teller {
         ensures empty { result.buffer ≡ [] }
     {
         Teller {
-            alloc,
             instance,
             line: Vec::new(alloc),
             buffer: Buffer::new(),
@@ -73,7 +71,7 @@ impl Teller {
         };
         self.line.extend_from_slice(word.as_bytes())?;
         self.line.push(b'\t')?;
-        push_columns(self.alloc, &mut self.line, after)
+        push_columns(&mut self.line, after)
     }
 
     // Makes the line of an event of an instance, which has this cell after it.
@@ -105,11 +103,10 @@ impl Teller {
         self.line.clear();
         self.line.extend_from_slice(head)?;
         self.line.extend_from_slice(b"applied, ")?;
-        self.line
-            .extend_from_slice(changed.to_string(self.alloc)?.as_bytes())?;
+        push_number(&mut self.line, changed)?;
         self.line.extend_from_slice(b" changed\t")?;
         match self.instance {
-            Some(id) => push_columns(self.alloc, &mut self.line, &run.cell(id)),
+            Some(id) => push_columns(&mut self.line, &run.cell(id)),
             None => {
                 self.line.extend_from_slice(b"-\t-\t-\t-\n")?;
                 Ok(())
@@ -134,8 +131,7 @@ impl Teller {
     {
         self.line.clear();
         self.line.extend_from_slice(b"round ")?;
-        self.line
-            .extend_from_slice(number.to_string(self.alloc)?.as_bytes())?;
+        push_number(&mut self.line, number as usize)?;
         self.line.push(b'\t')?;
         self.line.extend_from_slice(of.verb.as_bytes())?;
         self.line.extend_from_slice(&id.to_text())?;

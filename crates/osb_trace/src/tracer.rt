@@ -95,7 +95,7 @@ impl Tracer {
             return self.run.take_said(number, said);
         };
         self.head.clear();
-        match push_head(self.alloc, &mut self.head, number, line) {
+        match push_head(&mut self.head, number, line) {
             Ok(()) => self.hear_event(event),
             Err(Memory) => Err(ScheduleFault::Memory),
         }

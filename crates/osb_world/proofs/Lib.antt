@@ -3,11 +3,14 @@ pub mod Commands
 pub mod Deliveries
 pub mod Deprovisions
 pub mod Finishes
+pub mod Following
 pub mod Kept
 pub mod LostAnswers
+pub mod Partings
 pub mod Polls
 pub mod Possibility
 pub mod Provisions
+pub mod Restarts
 pub mod Rounds
 pub mod Sound
 pub mod TakenAnswers

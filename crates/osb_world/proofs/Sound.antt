@@ -55,8 +55,11 @@ kept_steps : (cat : Catalogue) (id : ℕ) (events : List Event) (c : Cell) → I
 kept_steps cat id [] c h = h
 kept_steps cat id (e ∷ es) c h = kept_by cat id c e (events_of id es) (is_of id e) refl (kept_steps cat id es) h
 
+pub possible_after : (cat : Catalogue) (id : ℕ) (events : List Event) → IsPossible cat id (cell_after cat id events)
+possible_after cat id events = kept_steps cat id events empty_cell (possible_empty cat id)
+
 pub agrees_after : (cat : Catalogue) (id : ℕ) (events : List Event) → Agrees (cell_after cat id events)
-agrees_after cat id events = agrees cat id _ (kept_steps cat id events empty_cell (possible_empty cat id))
+agrees_after cat id events = agrees cat id _ (possible_after cat id events)
 
 -- an event that doesn't apply takes no memory
 none_made : (cat : Catalogue) (row : Option BrokerRow) (outcome : Outcome) (o : Option Request) → is_some o ≡ false

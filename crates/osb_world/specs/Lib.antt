@@ -1,6 +1,8 @@
 pub mod Agreement
 pub mod Cell
+pub mod Counts
 pub mod Events
+pub mod Parting
 pub mod Possible
 pub mod Settling
 pub mod Steps

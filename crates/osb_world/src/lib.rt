@@ -15,6 +15,7 @@
 #![tactic(auto)]
 
 mod cell;
+mod parting;
 mod parts;
 mod running;
 mod step;
@@ -22,6 +23,7 @@ mod world;
 
 pub use cell::Cell;
 pub use osb_event::Event;
+pub use parting::by_instance;
 pub use running::run;
 pub use step::Step;
 pub use world::World;

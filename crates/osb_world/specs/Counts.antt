@@ -1,4 +1,4 @@
--- How many of the events of a schedule apply (this project's choice).
+-- How many of a list of events apply (this project's choice).
 use Rattle.std.specs.Prelude.{ℕ, ◌+◌, cond, List, [], ◌∷◌, ◌++◌}
 use Rattle.osb_message.specs.Plans.{Catalogue}
 use Rattle.osb_event.specs.declared.event.Event.{Event}
