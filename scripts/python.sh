@@ -1,11 +1,21 @@
 # Python for the programs of programs/: sourced by their launchers and by their checks.
 
-# python_with MODULE[,MODULE ..]: prints the first Python, 3.9 or later, that has the modules; its status is 0 where there
-# is one. What Debian installs is there for /usr/bin/python3 alone.
+# python_with MODULE[,MODULE ..]: prints the first Python, 3.9 or later, that has the modules; its status is 0 where
+# there is one. What Debian installs is there for /usr/bin/python3 alone.
 python_with() {
+    python_where "import $1"
+}
+
+# python_that_finds MODULE: the same, for one module that takes long to be loaded.
+python_that_finds() {
+    python_where "import importlib.util; importlib.util.find_spec('$1') or sys.exit(1)"
+}
+
+# python_where STATEMENTS: the first one that runs them.
+python_where() {
     local found
     for found in python3 /usr/bin/python3; do
-        if "$found" -c "import sys, $1; sys.exit(sys.version_info < (3, 9))" 2>/dev/null; then
+        if "$found" -c "import sys; $1; sys.exit(sys.version_info < (3, 9))" 2>/dev/null; then
             echo "$found"
             return 0
         fi

@@ -4,6 +4,7 @@ from __future__ import annotations
 import os
 import re
 import shutil
+import subprocess
 from typing import Set
 
 from listing.pages import TOP, Fault, Taken
@@ -241,3 +242,62 @@ def _imported(its: Room, commands: str, **given: str) -> None:
                   "pippinterm/build/venv/bin/python3 -c 'import osb; print(osb.version(), osb.__file__)'")
     version, path = out.split()
     same((version, "/build/venv/lib/" in path), ("200", True))
+
+
+# ---- Logs
+
+_LOGS = """\
+head -n 8 examples/unanswered.schedule | gzip > january.log.gz
+tail -n +9 examples/unanswered.schedule > february.log
+"""
+
+
+@story("run: it writes the report that is shown")
+def log(taken: Taken) -> None:
+    commands = taken.take("docs/logs.md", f"{_LOGS}./osb-replay-log replay ")
+    with room() as its:
+        same(its.run(commands), file("examples/unanswered.settled"))
+
+
+@story("run: it writes the same report")
+def log_by_parallel(taken: Taken) -> None:
+    commands = next(it for it in taken.all if it.page == "docs/logs.md" and "\nparallel " in it.text)
+    taken.blocks.append(commands)
+    needs("parallel")
+    with room() as its:
+        same(its.run(_LOGS + commands.text), file("examples/unanswered.settled"))
+
+
+@story("run on one node: it writes the same report")
+def log_by_slurm(taken: Taken) -> None:
+    commands = next(it for it in taken.all if it.page == "docs/logs.md" and "\nsbatch " in it.text)
+    taken.blocks.append(commands)
+    needs("sbatch")
+    if subprocess.run(["sinfo"], capture_output=True, check=False).returncode != 0:
+        raise Missing("a Slurm that runs")
+    with room() as its:
+        written = its.run(_LOGS + commands.text)
+        same(written.partition("\n")[2], file("examples/unanswered.settled"))
+
+
+@story("run, over a stand-in for Spark")
+def log_by_spark(taken: Taken) -> None:
+    source = taken.take("docs/logs.md", "import glob\n")
+    stand_in = """\
+import subprocess
+class Spark:
+    def parallelize(self, items, many):
+        self.items = items
+        return self
+    def pipe(self, command):
+        for item in self.items:
+            subprocess.run(command, shell=True, input=f"{item}\\n", text=True, check=True)
+        return self
+    def collect(self):
+        return []
+sc = Spark()
+"""
+    with room() as its:
+        (its.top / "spark.py").write_text(stand_in + source, encoding="utf-8")
+        same(its.run(f"{_LOGS}./osb-replay-log split --parts parts january.log.gz february.log\npython3 spark.py\n"
+                     "./osb-replay-log merge parts"), file("examples/unanswered.settled"))

@@ -1,0 +1,155 @@
+"""Replays a log of any length, or parts it for another engine and merges what came of the parts."""
+from __future__ import annotations
+
+import argparse
+import os
+import shutil
+import sys
+import tempfile
+import time
+from contextlib import ExitStack, closing
+from pathlib import Path
+from typing import List, Optional, Tuple
+
+from osb_replay_log import divided, reports, signals, words, work
+from osb_replay_log.dask_engine import Dask, Missing
+from osb_replay_log.engines import Engine, Processes
+from osb_replay_log.faults import NO_MEMORY, REFUSED_WORDS, UNABLE, UNREAD, UNWRITTEN, Unreplayed, unwritten
+from osb_replay_log.logs import Log, from_paths
+from osb_replay_log.program import Program, built
+from osb_replay_log.progress import Progress
+from osb_replay_log.spool import Room
+
+_TRIES = 30
+"""How often a room is tried to be removed, in three seconds."""
+
+
+def run(given: List[str]) -> int:
+    """Does what these words ask for, and gives the exit status."""
+    asked = words.read(given)
+    try:
+        {"replay": _replay, "split": _split, "merge": _merge}[asked.command](asked)
+        return 0
+    except Unreplayed as error:
+        return _refuse(error.status, error.said)
+    except MemoryError:
+        return _refuse(NO_MEMORY, "out of memory")
+
+
+def _refuse(status: int, said: str) -> int:
+    print(f"{words.PROGRAM}: {said}", file=sys.stderr)
+    return status
+
+
+def _replay(asked: argparse.Namespace) -> None:
+    _has_output()
+    options = (*(["--settle"] if asked.settle else []), *(["--saved"] if asked.saved else []))
+    with ExitStack() as stack:
+        done, _, room = _work(asked, stack, options, asked.room, True)
+        with signals.raised():
+            found = [reports.report_in(file) for file in done.files]
+            _write(found, done.restarts, asked.saved, room)
+
+
+def _split(asked: argparse.Namespace) -> None:
+    divided.begin(asked.parts)
+    room = asked.room or asked.parts
+    with ExitStack() as stack:
+        try:
+            if os.stat(room).st_dev != os.stat(asked.parts).st_dev:
+                raise Unreplayed(REFUSED_WORDS, f"{room}: it isn't on the file system of {asked.parts}")
+            done, logs, _ = _work(asked, stack, (), room, False)
+            divided.write(asked.parts, logs, done)
+        except OSError as error:
+            raise unwritten(asked.parts, error) from error
+
+
+def _merge(asked: argparse.Namespace) -> None:
+    _has_output()
+    with ExitStack() as stack, signals.raised():
+        its = divided.read(asked.parts)
+        faulty = divided.faults(its)
+        if faulty:
+            raise work.fault_of(its.logs, faulty, Program(built(), ()), 16 << 20)
+        found = [divided.report(its, number) for number in range(1, its.parts + 1)]
+        for number, report in enumerate(found, 1):
+            if asked.saved and not report.has_record:
+                raise Unreplayed(UNREAD, f"{its.file(number, 'report')}: it has no saved record")
+        _write(found, its.restarts, asked.saved, _room(stack, asked.room) if its.parts > reports.MOST_OPEN else "")
+
+
+def _has_output() -> None:
+    if sys.stdout is None:
+        raise Unreplayed(UNWRITTEN, "write failed")
+
+
+def _room(stack: ExitStack, folder: Optional[str]) -> str:
+    """A new folder in this one, or in the system's for temporary files, which is removed at the end."""
+    try:
+        with signals.held():
+            room = tempfile.mkdtemp(prefix="osb-replay-log-", dir=folder)
+            stack.callback(_remove, room)
+    except OSError as error:
+        raise unwritten(folder or "the folder for temporary files", error) from error
+    return room
+
+
+def _remove(room: str) -> None:
+    with signals.held():
+        for _ in range(_TRIES):
+            shutil.rmtree(room, ignore_errors=True)
+            if not os.path.exists(room):
+                return
+            time.sleep(0.1)
+
+
+def _hush() -> None:
+    """Standard error is the program's alone from here on. Workers, and what sees to their locks, tell there at length
+    of how they end; what a task raises comes otherwise.
+    """
+    sys.stderr = open(os.dup(2), "w", buffering=1, encoding=sys.stderr.encoding, errors="backslashreplace")
+    with open(os.devnull, "wb") as nothing:
+        os.dup2(nothing.fileno(), 2)
+
+
+def _work(asked: argparse.Namespace, stack: ExitStack, options: Tuple[str, ...], room: Optional[str], is_replayed: bool
+          ) -> Tuple[work.Outcome, Tuple[Log, ...], str]:
+    logs = tuple(from_paths(asked.logs))
+    with signals.raised():
+        program, progress = Program(built(), options), Progress()
+    folder = _room(stack, room)
+    os.chdir("/")  # workers look for modules in their current folder, before Python 3.11
+    _hush()
+    engine = stack.enter_context(closing(_engine(asked, folder)))
+    chunk = max(min(asked.chunk_bytes, sum(log.size for log in logs) // (2 * asked.workers)), 1)
+    chunk = min(asked.chunk_bytes, max(chunk, 1 << 20))
+    stack.callback(progress.end)
+    with signals.raised():
+        try:
+            done = work.do(work.Work(logs, program, Room(folder), asked.part_lines, chunk, progress), engine,
+                           is_replayed)
+        except OSError as error:
+            raise unwritten(folder, error) from error
+    progress.end()
+    return done, logs, folder
+
+
+def _engine(asked: argparse.Namespace, folder: str) -> Engine:
+    if asked.engine == "processes" and asked.scheduler is None:
+        return Processes(asked.workers)
+    try:
+        return Dask(asked.scheduler, asked.workers, folder)
+    except Missing:
+        if asked.engine == "dask" or asked.scheduler is not None:
+            raise Unreplayed(UNABLE, "Dask isn't installed: apt-get install python3-distributed") from None
+        print(f"{words.PROGRAM}: Dask isn't installed (apt-get install python3-distributed): the parts are replayed by "
+              "processes of this machine", file=sys.stderr)
+        return Processes(asked.workers)
+
+
+def _write(found: List[reports.Report], restarts: int, is_saved: bool, room: str) -> None:
+    try:
+        with open(sys.stdout.fileno(), "wb", closefd=False) as out:
+            reports.write(found, restarts, is_saved, Path(room), out)
+    except OSError as error:
+        raise Unreplayed(UNWRITTEN, "write failed") from error

@@ -1,0 +1,35 @@
+"""Where a fault stands in a log: a part tells it by the part's lines, so the log is read once more, for its first."""
+from __future__ import annotations
+
+from typing import Callable, Dict, Optional, Sequence, Tuple
+
+from osb_replay_log.faults import FAULTY, UNABLE, Unreplayed
+from osb_replay_log.lines import LONGEST, Kind, is_head, kind_of, name_in
+from osb_replay_log.logs import Log, numbered
+from osb_replay_log.parts import Faulty
+
+Judge = Callable[[bytes], Optional[str]]
+"""Tells what fault a line has that stands behind an event."""
+
+
+def first_fault(logs: Sequence[Log], found: Sequence[Faulty], judge: Judge, chunk: int) -> Unreplayed:
+    """The log's first fault: one of those that parts have told, or that of the first odd line."""
+    wanted: Dict[bytes, Tuple[int, str]] = {it.name: (it.nth, it.fault) for it in found}
+    counts = dict.fromkeys(wanted, 0)
+    is_behind = False
+    for it in numbered(logs, chunk):
+        name = name_in(it.text)
+        is_behind = is_behind or not is_head(it.text)
+        fault: Optional[str] = None
+        if name is None:
+            if is_behind and kind_of(it.text) in (Kind.ODD, Kind.PLAN):
+                fault = judge(it.text[:LONGEST + 1])
+                if fault is None:
+                    return Unreplayed(UNABLE, f"{logs[it.log].path}: line {it.line}: it isn't known what it is")
+        elif name in wanted:
+            counts[name] += 1
+            if counts[name] == wanted[name][0]:
+                fault = wanted[name][1]
+        if fault is not None:
+            return Unreplayed(FAULTY, f"{logs[it.log].path}: line {it.line}: {fault}")
+    return Unreplayed(UNABLE, "a fault was told that isn't there any more: the log has changed meanwhile")

@@ -1,0 +1,128 @@
+"""The proved program, `osb-replay`: a part is given to it, and it writes the part's report, or tells a fault."""
+from __future__ import annotations
+
+import errno
+import os
+import re
+import shutil
+import subprocess
+from functools import lru_cache
+from pathlib import Path
+from typing import IO, Iterable, List, NamedTuple, Optional, Tuple
+
+from osb_replay_log.faults import NO_MEMORY, UNABLE, UNREAD, UNWRITTEN, Unreplayed, reason
+
+_TOP = Path(__file__).resolve().parents[2]
+_FAULT = re.compile(rb"osb-replay: line (\d+): (\w+)\n")
+_TRIES = 3
+"""How often a part is given to it where it is killed, as where a machine has no memory left."""
+_KNOWN = {3: (UNREAD, "read failed"), 4: (UNWRITTEN, "write failed"), 5: (NO_MEMORY, "out of memory")}
+
+
+class Fault(NamedTuple):
+    """The first faulty line of a part, and what is wrong with it."""
+
+    line: int
+    name: str
+
+
+class Program(NamedTuple):
+    """Where the program is, and the words that stand behind `replay`."""
+
+    path: str
+    words: Tuple[str, ...]
+
+    def run(self, given: Iterable[bytes], report: Path) -> Optional[Fault]:
+        """Has the schedule replayed once, and its report written. `given` is gone through from its beginning each time
+        that the program is killed, so it has to be a list, or something else that can be.
+        """
+        for _ in range(_TRIES):
+            status, said = self._once(given, report)
+            if status >= 0:
+                break
+        told = _FAULT.fullmatch(said)
+        if status == 1 and told:
+            return Fault(int(told[1]), told[2].decode())
+        if status in _KNOWN:
+            raise Unreplayed(_KNOWN[status][0], f"osb-replay: {_KNOWN[status][1]}")
+        if status != 0:
+            raise Unreplayed(UNABLE, f"osb-replay ended with status {status}: {said.decode(errors='replace').strip()}")
+        return None
+
+    def _once(self, given: Iterable[bytes], report: Path) -> Tuple[int, bytes]:
+        with open(report, "wb") as out, self._begun(out) as ran:
+            assert ran.stdin is not None and ran.stderr is not None
+            try:
+                _give(ran.stdin, given)
+                said = ran.stderr.read()
+            except BaseException:
+                ran.kill()
+                raise
+        return ran.returncode, said
+
+    def _begun(self, out: IO[bytes]) -> "subprocess.Popen[bytes]":
+        words = [*_with_its_caller(), self.path, "replay", *self.words]
+        _can_be_run(self.path)
+        try:
+            return subprocess.Popen(words, stdin=subprocess.PIPE, stdout=out, stderr=subprocess.PIPE)
+        except OSError as error:
+            raise _not_run(self.path, error) from error
+
+
+@lru_cache(maxsize=None)
+def _with_its_caller() -> List[str]:
+    """What a program is started by that is killed where the caller's thread ends: by setpriv of util-linux, where that
+    is there.
+    """
+    words = [shutil.which("setpriv") or "", "--pdeathsig", "KILL"]
+    try:
+        is_there = subprocess.run([*words, "true"], stdin=subprocess.DEVNULL, stderr=subprocess.DEVNULL,
+                                  check=False).returncode == 0
+    except OSError:
+        is_there = False
+    return words if is_there else []
+
+
+def _can_be_run(path: str) -> None:
+    """Refuses a file that can't be. One that goes meanwhile is told by how its run ends."""
+    try:
+        os.stat(path)
+        if not (os.path.isfile(path) and os.access(path, os.X_OK)):
+            raise PermissionError(errno.EACCES, os.strerror(errno.EACCES))
+    except OSError as error:
+        raise _not_run(path, error) from error
+
+
+def _not_run(path: str, error: OSError) -> Unreplayed:
+    return Unreplayed(UNABLE, f"{path}: it can't be run: {reason(error)}")
+
+
+def _give(stdin: IO[bytes], given: Iterable[bytes]) -> None:
+    """It reads no further than to a fault."""
+    try:
+        for piece in given:
+            stdin.write(piece)
+        stdin.flush()
+    except BrokenPipeError:
+        pass
+    try:
+        stdin.close()
+    except BrokenPipeError:
+        pass
+
+
+def built() -> str:
+    """The program's file, which the launcher ./osb-replay builds where that is due; or that which OSB_REPLAY names."""
+    named = os.environ.get("OSB_REPLAY")
+    if named:
+        _can_be_run(named)
+        return os.path.abspath(named)
+    launcher = _TOP / "osb-replay"
+    try:
+        with open(os.devnull, "rb+") as nothing:
+            status = subprocess.run([launcher, "replay"], stdin=nothing, stdout=nothing, check=False).returncode
+    except OSError as error:
+        raise Unreplayed(UNABLE, f"{launcher} can't be run: {error}") from error
+    if status != 0:
+        raise Unreplayed(UNABLE, "the program osb-replay can't be built")
+    return str(_TOP / "crates" / "osb_replay" / "out" / "osb_replay")

@@ -1,0 +1,151 @@
+"""The work: a log's head is read, the rest of it parted by workers, and each part replayed, or written."""
+from __future__ import annotations
+
+import zlib
+from pathlib import Path
+from typing import Iterator, List, NamedTuple, Optional, Sequence, Tuple
+
+from osb_replay_log.engines import Engine
+from osb_replay_log.faults import FAULTY, Unreplayed
+from osb_replay_log.head import Head, body_of, head_of
+from osb_replay_log.logs import Log, Stretch, lines_of
+from osb_replay_log.parting import Parted, Parting, part
+from osb_replay_log.parts import Bucket, Done, Faulty, finish
+from osb_replay_log.places import first_fault
+from osb_replay_log.program import Program
+from osb_replay_log.progress import Progress
+from osb_replay_log.spool import Room
+
+_MOST_BUCKETS = 4096
+_SAMPLES, _FEW = 16, 1 << 16
+
+
+class Work(NamedTuple):
+    """What is replayed, by what, where, and in which portions."""
+
+    logs: Sequence[Log]
+    program: Program
+    room: Room
+    most: int
+    """How many lines a part has at most."""
+    chunk: int
+    """How many bytes of a log a worker takes at once."""
+    progress: Progress
+
+
+class Outcome(NamedTuple):
+    """The parts' files, and what merging has to know of the log."""
+
+    files: List[str]
+    plans: int
+    restarts: int
+
+
+def do(work: Work, engine: Engine, is_replayed: bool) -> Outcome:
+    """Has the log parted, and each part replayed, or only written. A log with a fault is refused."""
+    head = head_of(work.logs, work.most, work.chunk)
+    _judge_head(work, head)
+    work.room.file("plans").write_bytes(head.text())
+    body = body_of(work.logs, head, work.chunk)
+    many, estimate = estimated(body, work.most)
+    parted = _part(work, engine, len(head.plans), body, many, estimate)
+    done = _finish(work, engine, len(head.plans), parted, many, is_replayed)
+    return Outcome([file for it in done for file in it.files], len(head.plans), sum(it.restarts for it in parted))
+
+
+def judge(program: Program, line: bytes) -> Optional[str]:
+    """Which fault the line has behind an event. No plan is needed for that: a late one is late, whatever it is."""
+    fault = program.run([b"restart\n", line + b"\n"], Path("/dev/null"))
+    return None if fault is None else fault.name
+
+
+def estimated(body: Sequence[Stretch], most: int) -> Tuple[int, int]:
+    """Into how many buckets the log is parted, so that a bucket is about half a part, and how many lines it may have.
+    """
+    if not body:
+        return 1, 1
+    found: List[bytes] = [line for it in _samples(body) for line in next(lines_of(it, _FEW), [])]
+    text = b"\n".join(found) + b"\n"
+    gain, length = len(text) / len(zlib.compress(text)), len(text) / max(len(found), 1)
+    size = sum(it.log.size * gain if it.log.is_gzip else it.end - it.begin for it in body)
+    lines = int(size / length) + 1
+    return max(1, min(_MOST_BUCKETS, -(-2 * lines // most))), lines
+
+
+def _samples(body: Sequence[Stretch]) -> Iterator[Stretch]:
+    """Some bytes of some stretches: of a gzip file's, those at its beginning."""
+    for it in body[::-(-len(body) // _SAMPLES)]:
+        middle = it.begin if it.log.is_gzip else it.begin + max(0, it.end - it.begin - _FEW) // 2
+        yield it._replace(begin=middle, end=min(it.end, middle + _FEW), is_whole=middle == it.begin and it.is_whole)
+
+
+def _judge_head(work: Work, head: Head) -> None:
+    fault = work.program.run([head.text()], work.room.file("head"))
+    if fault is not None:
+        place = head.places[fault.line - 1]
+        raise Unreplayed(FAULTY, f"{place.path}: line {place.line}: {fault.name}")
+
+
+def _part(work: Work, engine: Engine, plans: int, body: Sequence[Stretch], many: int, estimate: int) -> List[Parted]:
+    """What came of each stretch, in their order, up to an odd line: what follows it doesn't count. More restarts before it
+    than a part takes are refused.
+    """
+    found: List[Optional[Parted]] = [None] * len(body)
+    until, lines, restarts = len(body), 0, 0
+
+    def given() -> Iterator[Parting]:
+        for number, stretch in enumerate(body):
+            if number < until and restarts + plans <= work.most:
+                yield Parting(work.room, number, stretch, many, work.chunk, work.most)
+    work.progress.begin()
+    for number, parted in engine.each(_numbered, given()):
+        found[number] = parted
+        if parted.is_odd:
+            until = min(until, number + 1)
+        lines, restarts = lines + parted.lines, restarts + parted.restarts
+        work.progress.tell("parted", lines, max(lines, estimate), False)
+    return _counted(work, plans, [it for it in found[:until] if it is not None])
+
+
+def _counted(work: Work, plans: int, parted: List[Parted]) -> List[Parted]:
+    """The same, unless there are too many restarts."""
+    restarts = sum(it.restarts for it in parted)
+    if restarts + plans > work.most:
+        raise Unreplayed(FAULTY, f"{work.logs[0].path}: {restarts} restarts and {plans} plans and more, which stand in "
+                         f"each part, are more than the {work.most} lines of one")
+    return parted
+
+
+def _numbered(parting: Parting) -> Tuple[int, Parted]:
+    return parting.number, part(parting)
+
+
+def _finish(work: Work, engine: Engine, plans: int, parted: Sequence[Parted], many: int, is_replayed: bool
+            ) -> List[Done]:
+    """What came of each bucket. Where one has a fault, or an odd line was met, the log's first fault is raised."""
+    events, restarts = sum(it.events for it in parted), sum(it.restarts for it in parted)
+    counts = tuple(it.pieces for it in parted)
+    program = work.program if is_replayed else None
+    given = (Bucket(work.room, number, counts, plans, restarts, work.most, not events and not number, program)
+             for number in range(many))
+    done: List[Done] = []
+    replayed = 0
+    work.progress.begin()
+    for it in engine.each(finish, given):
+        done.append(it)
+        replayed += it.events
+        work.progress.tell("replayed" if is_replayed else "written", replayed, events, True)
+    for it in done:
+        if it.large is not None:
+            name = it.large.name.decode(errors="replace")
+            raise Unreplayed(FAULTY, f"instance {name} has {it.large.lines} events: with {restarts} restarts and "
+                             f"{plans} plans they are more than the {work.most} lines of a part")
+    faulty = [fault for it in done for fault in it.faulty]
+    if faulty or any(it.is_odd for it in parted):
+        raise fault_of(work.logs, faulty, work.program, work.chunk)
+    return done
+
+
+def fault_of(logs: Sequence[Log], found: Sequence[Faulty], program: Program, chunk: int) -> Unreplayed:
+    """The log's first fault."""
+    return first_fault(logs, found, lambda line: judge(program, line), chunk)
