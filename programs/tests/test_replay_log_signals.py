@@ -33,12 +33,16 @@ print("not dead")
 class SignalsTest(unittest.TestCase):
     def ran(self, then: str, is_ignored: bool = False) -> "subprocess.CompletedProcess[str]":
         words = [sys.executable, "-u", "-c", TEXT.format(then=then)]
-        before = signal.signal(signal.SIGTERM, signal.SIG_IGN if is_ignored else signal.SIG_DFL)
+        # Those of this process, which the program has first, may be ignored too.
+        before = {it: signal.signal(it, signal.SIG_DFL) for it in (signal.SIGINT, signal.SIGTERM, signal.SIGHUP)}
+        if is_ignored:
+            signal.signal(signal.SIGTERM, signal.SIG_IGN)
         try:
             return subprocess.run(words, env={**os.environ, "PYTHONPATH": str(Path(__file__).parents[1])}, check=False,
                                   stdout=subprocess.PIPE, encoding="utf-8", timeout=60)
         finally:
-            signal.signal(signal.SIGTERM, before)
+            for number, handler in before.items():
+                signal.signal(number, handler)
 
     def test_held(self) -> None:
         """The first one that comes is raised once, where that is asked for, and what it dies of in the end."""
