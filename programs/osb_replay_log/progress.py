@@ -1,4 +1,4 @@
-"""Progress: a line on standard error, where that is a terminal, and nothing where it isn't."""
+"""Progress: a bar on standard error, where that is a terminal, and nothing where it isn't."""
 from __future__ import annotations
 
 import sys
@@ -6,6 +6,7 @@ import time
 from typing import Optional
 
 _SECONDS = 0.2
+_WIDTH = 20
 
 
 class Progress:
@@ -25,8 +26,9 @@ class Progress:
         if not self._is_shown or not done or now - self._told < _SECONDS:
             return
         self._told = now
-        rest = (now - self._begun) * max(lines - done, 0) / done
-        self._write(f"{what} {done:,} of {'' if is_sure else 'about '}{lines:,} lines, {clock(rest)} left")
+        rest = clock((now - self._begun) * max(lines - done, 0) / done)
+        about = "" if is_sure else "about "
+        self._write(f"{what} {bar(done, lines)} {done:,} of {about}{lines:,} lines, {rest} left")
 
     def end(self) -> None:
         """Takes the line away."""
@@ -35,6 +37,11 @@ class Progress:
 
     def _write(self, text: str) -> None:
         print(f"\r{text}\x1b[K", end="", file=sys.stderr, flush=True)
+
+
+def bar(done: int, lines: int) -> str:
+    """So much of it is filled as is done of all."""
+    return f"[{'#' * (_WIDTH * min(done, lines) // max(lines, 1)):<{_WIDTH}}]"
 
 
 def clock(seconds: float) -> str:

@@ -17,7 +17,7 @@ from typing import Iterator, List, Tuple
 from osb_replay_log.dask_engine import Dask
 from osb_replay_log.engines import MOST_DEATHS, Engine, Processes
 from osb_replay_log.faults import Unreplayed
-from osb_replay_log.progress import Progress, clock
+from osb_replay_log.progress import Progress, bar, clock
 
 
 def double(number: int) -> int:
@@ -126,7 +126,13 @@ class ProgressTest(unittest.TestCase):
             shown.tell("replayed", 5000, 10000, False)
             shown.tell("replayed", 5001, 10000, False)
             shown.end()
-        self.assertEqual(said.getvalue(), "\rreplayed 5,000 of about 10,000 lines, 0:00 left\x1b[K\r\x1b[K")
+        told = "replayed [##########          ] 5,000 of about 10,000 lines, 0:00 left"
+        self.assertEqual(said.getvalue(), f"\r{told}\x1b[K\r\x1b[K")
+
+    def test_bar(self) -> None:
+        """It is full only once all is done, and never longer."""
+        cases = ((0, 9), (1, 40), (99, 100), (7, 7), (9, 7), (0, 0))
+        self.assertEqual([bar(*case).count("#") for case in cases], [0, 0, 19, 20, 20, 0])
 
     def test_clock(self) -> None:
         self.assertEqual([clock(it) for it in (0.4, 59.6, 61, 3661)], ["0:00", "1:00", "1:01", "1:01:01"])
