@@ -110,7 +110,7 @@ def _workers(parser: argparse.ArgumentParser, room: str) -> None:
     parser.add_argument("--part-lines", type=_count(1, 100_000), default=100_000, metavar="N",
                         help="lines of a part at most (%(default)s)")
     parser.add_argument("--chunk-bytes", type=_count(1, 1 << 30), default=16 << 20, metavar="N",
-                        help="bytes of a log that a worker takes at once, of which it needs about six times as much "
+                        help="bytes of a log that a worker takes at once, of which it needs about five times as much "
                         "memory (%(default)s)")
     parser.add_argument("logs", nargs="+", metavar="LOG", help="a file of the log")
 
