@@ -20,7 +20,8 @@ HEADER = "line\tevent\tstep\tplatform\tbroker\tout\tanswer\n"
 NO_TRACES = {
     "": "line 1 isn't the header of a trace",
     "id state broker\n": "line 1 isn't the header of a trace",
-    HEADER: "the trace tells of 0 instances",
+    HEADER: "nothing happens to an instance in this trace",
+    f"{HEADER}1\trestart\tapplied, 0 changed\tnone\tnone\t-\t-\n": "nothing happens to an instance in this trace",
     f"{HEADER}1\trestart\tapplied\n": "line 2 has 3 columns",
     f"{HEADER}1\trestart\tapplied, 0 changed\t-\t-\t-\t-\n": "line 2 says nothing of an instance",
     f"{HEADER}\n": "line 2 has 1 columns",
@@ -97,6 +98,10 @@ def refused(picture: str) -> str:
         ran = subprocess.run([picture], input=text.encode(), capture_output=True, check=False)
         if ran.returncode != 1 or ran.stdout or not ran.stderr.startswith(f"picture: {why}".encode()):
             wrong += f"; {why}: {ran}"
+    for closed in ("<&-", ">&-", ">/dev/full"):
+        told = subprocess.run(["sh", "-c", f'"$0" <"$1" {closed}', picture, __file__], capture_output=True, check=False)
+        if told.returncode != 1 or not told.stderr.startswith(b"picture: ") or b"Traceback" in told.stderr:
+            wrong += f"; {closed}: {told}"
     return wrong
 
 

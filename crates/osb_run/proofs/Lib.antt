@@ -1,4 +1,5 @@
 pub mod Ascending
+pub mod Kept
 pub mod Outs
 pub mod Running
 pub mod Runs

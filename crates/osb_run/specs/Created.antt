@@ -1,11 +1,9 @@
 -- Which instances the events of a schedule ask for (this project's choice).
-use Rattle.std.specs.Prelude.{◌≡◌, ◌↔◌, Bool, false, Contains, IsTrue, ℕ, ◌==◌, List, count_by, is_some}
+use Rattle.std.specs.Prelude.{◌↔◌, Bool, false, Contains, IsTrue, ℕ, ◌==◌, List}
 use Rattle.std.specs.List.{list_any}
 use Rattle.std.specs.List.Sorted.{IsStrictlySortedBy}
 use Rattle.std.specs.Ordering.{nat_cmp}
-use Rattle.osb_message.specs.Plans.{Catalogue}
 use Rattle.osb_event.specs.declared.event.Event.{Event}
-use Rattle.osb_world.specs.Events.{cell_after}
 
 -- whether the event asks for an instance of the id
 abbrev pub creates : ℕ → Event → Bool
@@ -16,8 +14,3 @@ creates q event = false
 pub record AreCreated (events : List Event) (ids : List ℕ) : Type 0 where
   pub ascending : IsStrictlySortedBy nat_cmp ids
   pub created : (q : ℕ) → Contains ids q ↔ IsTrue (list_any (creates q) events)
-
--- n of the created instances have a request out after these events
-abbrev pub IsOutCount : Catalogue → List Event → ℕ → Type 0
-IsOutCount cat events n =
-    (ids : List ℕ) × AreCreated events ids × (n ≡ count_by (λ id. is_some (cell_after cat id events).out) ids)

@@ -1,2 +1,3 @@
 pub mod Created
+pub mod Restart
 pub mod Run

@@ -5,7 +5,7 @@ ghost use Rattle.std.specs.FinMap as map;
 ghost use Rattle.osb_message.specs.Plans.{Catalogue as Plans};
 ghost use Rattle.osb_lines.specs.Schedule.{event_in, fault_after, has_begun, plan_fault, with_plan};
 ghost use Rattle.osb_lines.specs.Sink.{IsLineFault};
-ghost use Rattle.osb_run.specs.Created.{IsOutCount};
+ghost use Rattle.osb_run.specs.Restart.{IsChangeCount, IsChanged};
 ghost use Rattle.osb_run.specs.Run.{happened, IsEndOf, IsRunOf, IsWorldAfter, HasRun};
 ghost use Rattle.osb_world.specs.Events.{applies_at, cell_after};
 ghost use Rattle.osb_world.specs.Views.{cell_at, step_of};
@@ -185,17 +185,17 @@ impl Run {
         }
     }
 
-    /// How many instances have a request out after the lines so far: these and no others a restart would change.
+    /// How many instances a restart would change after the lines so far: those that have a request out.
     ///
     /// # Errors
     ///
     /// [`Memory`] where an allocation failed.
     pub fn outs(&self, alloc: Global) -> Result<usize, Memory>
         ensures outs { (cat : Plans) (events : List Happening) → IsRunOf cat events self.now
-            → IfOk result (IsOutCount cat events) }
+            → IfOk result (IsChangeCount cat events) }
         // Whatever happened before, a restart changes the instance exactly where a request is out.
         ensures changed { (cat : Plans) (events : List Happening) (id : ℕ) → IsSome (cell_after cat id events).out
-            ↔ (cell_after cat id (events ++ Happening.Restart ∷ []) ≢ cell_after cat id events) }
+            ↔ IsChanged cat events id }
     {
         let Some(world) = &self.world else {
             return Ok(0);

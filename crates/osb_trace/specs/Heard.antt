@@ -7,7 +7,7 @@ use Rattle.osb_language.specs.declared.fault.LineFault.{LineFault}
 use Rattle.osb_language.specs.declared.line.Line.{Line}
 use Rattle.osb_lines.specs.Schedule.{catalogue_in, events_in}
 use Rattle.osb_message.specs.Plans.{Catalogue}
-use Rattle.osb_run.specs.Created.{IsOutCount}
+use Rattle.osb_run.specs.Restart.{IsChangeCount}
 use Rattle.osb_run.specs.Run.{HasRun}
 use Rattle.osb_trace.specs.Telling.{head}
 use Rattle.osb_trace.specs.declared.tracer.Heard.{Heard}
@@ -21,7 +21,7 @@ use Rattle.osb_world.specs.Views.{step_of}
 abbrev pub IsNamedHeard : Catalogue → List Event → Event → Option ℕ → Heard → Type 0
 IsNamedHeard cat events event (Some id) heard =
     heard ≡ Hears.Event id event (step_of (applies (cell_after cat id events) event))
-IsNamedHeard cat events event None heard = (n : ℕ) × IsOutCount cat events n × (heard ≡ Hears.Restart n)
+IsNamedHeard cat events event None heard = (n : ℕ) × IsChangeCount cat events n × (heard ≡ Hears.Restart n)
 
 -- what was heard of a line that says this
 abbrev pub IsSaidHeard : Catalogue → List Event → Result Line LineFault → List ℕ → Heard → List ℕ → Type 0

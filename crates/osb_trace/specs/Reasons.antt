@@ -1,5 +1,6 @@
 -- Why an event is skipped (this project's choice). It says nothing of an event that applies.
-use Rattle.std.specs.Prelude.{◌≡◌, ℕ, false, ⊤, List, codes, None, is_some, IsSome, IsSomeAnd, IsTrue, if◌then◌else◌}
+use Rattle.std.specs.Prelude.{◌≡◌, ℕ, false, ⊤, List, codes, if◌then◌else◌}
+use Rattle.std.specs.Prelude.{None, is_some, option_map, IsSome, IsSomeAnd, IsTrue}
 use Rattle.std.specs.Option.{option_map_or}
 use Rattle.osb_event.specs.declared.event.Event.{Event}
 use Rattle.osb_broker.specs.Finished.{is_running}
@@ -9,6 +10,7 @@ use Rattle.osb_platform.specs.declared.row.PlatformRow.{PlatformRow}
 use Rattle.osb_trace.specs.declared.reason.Reason.{Reason}
 use Rattle.osb_trace.specs.declared.reason.Reason.TheVariants.{Unknown, IdUsed, Busy, NothingOut, NothingTravels}
 use Rattle.osb_trace.specs.declared.reason.Reason.TheVariants.{NothingDue, NotPolling, NotRemovable, NothingRunning}
+use Rattle.osb_world.specs.Steps.{applies}
 use Rattle.osb_world.specs.declared.cell.Cell.{Cell}
 
 -- why an event of an instance with this record is skipped; where the state alone would allow it, a request is out
@@ -31,17 +33,22 @@ known_reason row Event.Restart = Unknown
 abbrev pub reason_of : Cell → Event → Reason
 reason_of cell event = option_map_or (λ row. known_reason row event) cell.platform Unknown
 
--- what is so of the instance where an event of it is skipped for this reason
-abbrev pub IsReason : Cell → Reason → Type 0
-IsReason cell Unknown = cell.platform ≡ None
-IsReason cell IdUsed = IsSome cell.platform
-IsReason cell Busy = IsSomeAnd cell.platform (λ row. IsSome row.out)
-IsReason cell NothingOut = cell.out ≡ None
-IsReason cell NothingTravels = cell.travelling ≡ None
-IsReason cell NothingDue = IsSomeAnd cell.platform (λ row. due row.state ≡ None)
-IsReason cell NotPolling = IsSomeAnd cell.platform (λ row. is_polling row.state ≡ false)
-IsReason cell NotRemovable = IsSomeAnd cell.platform (λ row. is_removable row.state ≡ false)
-IsReason cell NothingRunning = is_running cell.broker ≡ false
+-- the cell, were no request out
+abbrev pub idle : Cell → Cell
+idle cell =
+    record cell { platform = option_map (λ (row : PlatformRow). record row { out = None }) cell.platform; out = None }
+
+-- what is so of the instance where this event of it is skipped for this reason
+abbrev pub IsReason : Cell → Event → Reason → Type 0
+IsReason cell event Unknown = cell.platform ≡ None
+IsReason cell event IdUsed = IsSome cell.platform
+IsReason cell event Busy = IsSomeAnd cell.platform (λ row. IsSome row.out) × IsTrue (applies (idle cell) event)
+IsReason cell event NothingOut = cell.out ≡ None
+IsReason cell event NothingTravels = cell.travelling ≡ None
+IsReason cell event NothingDue = IsSomeAnd cell.platform (λ row. due row.state ≡ None)
+IsReason cell event NotPolling = IsSomeAnd cell.platform (λ row. is_polling row.state ≡ false)
+IsReason cell event NotRemovable = IsSomeAnd cell.platform (λ row. is_removable row.state ≡ false)
+IsReason cell event NothingRunning = is_running cell.broker ≡ false
 
 -- the event can stand in a schedule: a gateway's status is one of 500 to 599
 abbrev pub IsSpoken : Event → Type 0

@@ -12,7 +12,7 @@ use Rattle.osb_language.specs.declared.fault.LineFault.{LineFault}
 use Rattle.osb_language.specs.declared.line.Line.{Line}
 use Rattle.osb_lines.specs.Schedule.{catalogue_in, events_in}
 use Rattle.osb_message.specs.Plans.{Catalogue}
-use Rattle.osb_run.specs.Created.{IsOutCount}
+use Rattle.osb_run.specs.Restart.{IsChangeCount}
 use Rattle.osb_trace.specs.Columns.{columns, no_columns}
 use Rattle.osb_trace.specs.Reasons.{reason_of, reason_word}
 use Rattle.osb_world.specs.Events.{cell_after}
@@ -71,7 +71,7 @@ told_of instance head cat events event id =
 abbrev pub IsNamedTold : Option ℕ → List ℕ → Catalogue → List Event → Event → Option ℕ → List ℕ → Type 0
 IsNamedTold instance head cat events event (Some id) text = text ≡ told_of instance head cat events event id
 IsNamedTold instance head cat events event None text =
-    (n : ℕ) × IsOutCount cat events n
+    (n : ℕ) × IsChangeCount cat events n
     × (text ≡ told_restart head n (asked_columns instance (λ id. cell_after cat id (events ++ event ∷ []))))
 
 -- this is told of a line that says this, after lines with this catalogue and these events

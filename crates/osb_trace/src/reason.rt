@@ -1,10 +1,12 @@
 //! Why an event is skipped (this project's choice).
-ghost use Rattle.std.specs.Prelude.{◌≡◌, false};
+ghost use Rattle.std.specs.Prelude.{◌≡◌, false, is_some, if◌then◌else◌};
+ghost use Rattle.osb_platform.specs.State.{due, is_polling, is_removable};
+ghost use Rattle.osb_trace.specs.declared.reason.Reason.TheVariants.{Busy, NothingDue, NotPolling, NotRemovable};
 ghost use Rattle.osb_trace.specs.Reasons.{known_reason, reason_of, reason_word, IsReason, IsSpoken};
 ghost use Rattle.osb_world.specs.Steps.{applies};
 
 use osb_event::Event;
-use osb_platform::{PlatformRow, State};
+use osb_platform::{PlatformRow, State, kind_due};
 use osb_world::Cell;
 
 /// Why an event was skipped (this project's choice).
@@ -49,24 +51,45 @@ impl Reason {
     }
 }
 
+// Why an operator doesn't have the instance removed, in this state.
+fn not_removed(state: State) -> Reason
+    ensures reason { result ≡ if is_removable state then Busy else NotRemovable }
+{
+    match state {
+        State::Polling | State::Ready | State::Unsettled => Reason::Busy,
+        _ => Reason::NotRemovable,
+    }
+}
+
+// Why the platform sends nothing, in this state.
+fn not_sent(state: State) -> Reason
+    ensures reason { result ≡ if is_some (due state) then Busy else NothingDue }
+{
+    match kind_due(state) {
+        Some(_) => Reason::Busy,
+        None => Reason::NothingDue,
+    }
+}
+
+// Why the maximum polling duration doesn't pass, in this state.
+fn not_expired(state: State) -> Reason
+    ensures reason { result ≡ if is_polling state then Busy else NotPolling }
+{
+    match state {
+        State::Polling => Reason::Busy,
+        _ => Reason::NotPolling,
+    }
+}
+
 // Why an event of an instance with this record is skipped.
 fn known_reason(row: PlatformRow, event: Event) -> Reason
     ensures reason { result ≡ known_reason row event }
 {
     match event {
         Event::Create { .. } => Reason::IdUsed,
-        Event::Remove { .. } => match row.state {
-            State::Polling | State::Ready | State::Unsettled => Reason::Busy,
-            _ => Reason::NotRemovable,
-        },
-        Event::Send { .. } => match row.state {
-            State::Polling | State::CleaningPolling | State::Cleaning => Reason::Busy,
-            _ => Reason::NothingDue,
-        },
-        Event::Expire { .. } => match row.state {
-            State::Polling => Reason::Busy,
-            _ => Reason::NotPolling,
-        },
+        Event::Remove { .. } => not_removed(row.state),
+        Event::Send { .. } => not_sent(row.state),
+        Event::Expire { .. } => not_expired(row.state),
         Event::Deliver { .. } | Event::Gateway { .. } | Event::Timeout { .. } => Reason::NothingOut,
         Event::Repeat { .. } | Event::Lose { .. } | Event::Garble { .. } | Event::Answer { .. } => {
             Reason::NothingTravels
@@ -82,7 +105,7 @@ fn known_reason(row: PlatformRow, event: Event) -> Reason
 /// none of 500 to 599, as no schedule has. It takes no memory.
 pub fn reason_of(cell: &Cell, event: Event) -> Reason
     ensures reason { result ≡ reason_of cell.now event }
-    ensures so { applies cell.now event ≡ false → IsSpoken event → IsReason cell.now result }
+    ensures so { applies cell.now event ≡ false → IsSpoken event → IsReason cell.now event result }
 {
     match cell.platform {
         Some(row) => known_reason(row, event),

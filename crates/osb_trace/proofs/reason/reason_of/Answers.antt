@@ -12,11 +12,11 @@ use Rattle.osb_trace.proofs.reason.reason_of.Goals as goal
 pub returns-in-Some-clause-so : goal.returns-in-Some-clause-so
 returns-in-Some-clause-so c = λ off spoken.
     let of : Option PlatformRow → Reason = λ held. option_map_or (λ row. known_reason row c.args.event) held Unknown in
-    subst (IsReason c.args.cell.now) ((λ i. of (c.in-Some.is i)) ∙ sym c.known_reason.ensures.reason)
+    subst (IsReason c.args.cell.now c.args.event) ((λ i. of (c.in-Some.is i)) ∙ sym c.known_reason.ensures.reason)
     (reason_so c.args.cell.now c.args.event off spoken)
 
 pub returns-in-None-clause-so : goal.returns-in-None-clause-so
 returns-in-None-clause-so c = λ off spoken.
     let of : Option PlatformRow → Reason = λ held. option_map_or (λ row. known_reason row c.args.event) held Unknown in
-    subst (IsReason c.args.cell.now) (λ i. of (c.in-None.is i))
+    subst (IsReason c.args.cell.now c.args.event) (λ i. of (c.in-None.is i))
     (reason_so c.args.cell.now c.args.event off spoken)
