@@ -226,7 +226,7 @@ class NoAnswer(Quiet):
             with far_end([], answer) as url:
                 begun = time.monotonic()
                 said = client(url, seconds=0.4).create(ONE, SERVICE, SYNC)
-                self.assertLess(time.monotonic() - begun, 2)
+                self.assertLess(time.monotonic() - begun, 10)  # without an end, a minute of 100 Continue
             self.assertEqual(said, exchanged(State.CLEANING, None))
 
     def test_whole_ones(self) -> None:
