@@ -342,8 +342,14 @@ class Build:
             folder, command = self.command(name)
             how = unblocked if name in self.longest else unblocked_and_nice
             process = subprocess.Popen(
-                command, cwd=folder, stdin=subprocess.DEVNULL, stdout=words, stderr=subprocess.STDOUT,
-                start_new_session=True, preexec_fn=how)
+                command,
+                cwd=folder,
+                stdin=subprocess.DEVNULL,
+                stdout=words,
+                stderr=subprocess.STDOUT,
+                start_new_session=True,
+                preexec_fn=how,
+            )
         self.running.append(Job(name, process))
 
     def may_begin(self) -> bool:

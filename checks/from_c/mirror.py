@@ -13,23 +13,48 @@ from pathlib import Path
 CRATES = ["osb_c_types", "osb_c", "osb_c_instance", "osb_c_wire"]
 
 # The C type of a type that crosses; a list is a pointer and a length.
-PLAIN = {"u8": "uint8_t", "u16": "uint16_t", "u32": "uint32_t", "u64": "uint64_t", "usize": "size_t", "bool": "bool",
-         "*mut u8": "void *"}
+PLAIN = {
+    "u8": "uint8_t",
+    "u16": "uint16_t",
+    "u32": "uint32_t",
+    "u64": "uint64_t",
+    "usize": "size_t",
+    "bool": "bool",
+    "*mut u8": "void *",
+}
 
 # How the header's names of an enum's numbers begin, by the enum in the sources. `LastState` and `ErrorCode` stand in
 # the body of an answer.
-PREFIXES = {"Status": "", "Kind": "KIND_", "Body": "BODY_", "LastState": "BODY_", "ErrorCode": "BODY_",
-            "State": "STATE_", "Phase": "PHASE_", "Outcome": "OUTCOME_", "Mode": "MODE_", "Work": "WORK_",
-            "Refusal": "REFUSED_"}
+PREFIXES = {
+    "Status": "",
+    "Kind": "KIND_",
+    "Body": "BODY_",
+    "LastState": "BODY_",
+    "ErrorCode": "BODY_",
+    "State": "STATE_",
+    "Phase": "PHASE_",
+    "Outcome": "OUTCOME_",
+    "Mode": "MODE_",
+    "Work": "WORK_",
+    "Refusal": "REFUSED_",
+}
 
 # Where a name isn't made of the source's by upper case and underscores alone.
-NAMES = {"ErrorCode::Other": "BODY_OTHER_ERROR", "Refusal::NoSuchTarget": "REFUSED_TARGET",
-         "Refusal::NoSuchMethod": "REFUSED_METHOD", "Refusal::BadVersion": "REFUSED_VERSION",
-         "Refusal::TooLong": "REFUSED_LENGTH", "Refusal::BadInstance": "REFUSED_INSTANCE",
-         "Refusal::BadService": "REFUSED_SERVICE", "Refusal::BadPlan": "REFUSED_PLAN",
-         "Refusal::BadAcceptsIncomplete": "REFUSED_ACCEPTS_INCOMPLETE", "Refusal::NotAnObject": "REFUSED_BODY",
-         "Refusal::BadOrganization": "REFUSED_ORGANIZATION", "Refusal::BadSpace": "REFUSED_SPACE",
-         "Refusal::Memory": "MEMORY"}
+NAMES = {
+    "ErrorCode::Other": "BODY_OTHER_ERROR",
+    "Refusal::NoSuchTarget": "REFUSED_TARGET",
+    "Refusal::NoSuchMethod": "REFUSED_METHOD",
+    "Refusal::BadVersion": "REFUSED_VERSION",
+    "Refusal::TooLong": "REFUSED_LENGTH",
+    "Refusal::BadInstance": "REFUSED_INSTANCE",
+    "Refusal::BadService": "REFUSED_SERVICE",
+    "Refusal::BadPlan": "REFUSED_PLAN",
+    "Refusal::BadAcceptsIncomplete": "REFUSED_ACCEPTS_INCOMPLETE",
+    "Refusal::NotAnObject": "REFUSED_BODY",
+    "Refusal::BadOrganization": "REFUSED_ORGANIZATION",
+    "Refusal::BadSpace": "REFUSED_SPACE",
+    "Refusal::Memory": "MEMORY",
+}
 
 # The numbers for none: the function that gives or takes one, and the constants.
 NONE_IN = {"KIND_NONE": "out_out", "MODE_NONE": "mode_from"}

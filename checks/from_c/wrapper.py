@@ -21,8 +21,14 @@ from osb import _lib, _structs
 
 HEADER = Path("include/osb.h").read_text(encoding="utf-8")
 DECLARED = re.sub(r"/\*.*?\*/", "", HEADER, flags=re.S)
-PLAIN: Dict[str, Any] = {"uint8_t": c.c_uint8, "uint16_t": c.c_uint16, "uint32_t": c.c_uint32, "uint64_t": c.c_uint64,
-                         "size_t": c.c_size_t, "bool": c.c_bool}
+PLAIN: Dict[str, Any] = {
+    "uint8_t": c.c_uint8,
+    "uint16_t": c.c_uint16,
+    "uint32_t": c.c_uint32,
+    "uint64_t": c.c_uint64,
+    "size_t": c.c_size_t,
+    "bool": c.c_bool,
+}
 
 wrong: List[str] = []
 
@@ -66,7 +72,7 @@ def header_structs() -> Dict[str, List[Tuple[str, Any]]]:
 
 
 def value_type(kind: str) -> Any:
-    return struct_type(kind[len("struct osb_"):]) if kind.startswith("struct osb_") else PLAIN.get(kind)
+    return struct_type(kind[len("struct osb_") :]) if kind.startswith("struct osb_") else PLAIN.get(kind)
 
 
 def parameter_type(text: str) -> Any:
@@ -93,17 +99,20 @@ def header_functions() -> Dict[str, Tuple[Any, List[Any]]]:
 
 def numbers() -> None:
     enums = header_enums()
-    ours = {name.lower(): it for name, it in vars(osb.enums).items()
-            if isinstance(it, type) and issubclass(it, enum.IntEnum) and it is not enum.IntEnum
-            and not name.startswith("_")}
+    ours = {
+        name.lower(): it
+        for name, it in vars(osb.enums).items()
+        if isinstance(it, type) and issubclass(it, enum.IntEnum) and it is not enum.IntEnum and not name.startswith("_")
+    }
     same("enums", set(ours), set(enums))
     for name, wanted in enums.items():
         if name != "status" and "NONE" in wanted:
             same(f"{name} of none", getattr(_structs, f"{name.upper()}_NONE"), wanted.pop("NONE"))
         members: Type[enum.IntEnum] = ours[name]
         same(name, {it.name: it.value for it in members}, wanted)
-    meanings = re.findall(r"OSB_(\w+) = \d+,?\s*/\* (.*?) \*/", re.search(
-        r"enum osb_status \{(.*?)\};", HEADER, re.S)[1], re.S)  # type: ignore
+    meanings = re.findall(
+        r"OSB_(\w+) = \d+,?\s*/\* (.*?) \*/", re.search(r"enum osb_status \{(.*?)\};", HEADER, re.S)[1], re.S
+    )  # type: ignore
     same("the meanings", {it.name: said for it, said in osb.errors.MEANINGS.items()}, dict(meanings))
 
 

@@ -88,8 +88,9 @@ def c_first(taken: Taken) -> None:
     first, build = (taken.take("docs/c.md", it) for it in ("./libosb build build\ncc ", "./libosb build build\n"))
     with room() as its:
         its.run(build)
-        same(sorted(it.name for it in (its.top / "build").iterdir()),
-             ["libosb.a", "libosb.so", "libosb.so.0", "osb.pc"])
+        same(
+            sorted(it.name for it in (its.top / "build").iterdir()), ["libosb.a", "libosb.so", "libosb.so.0", "osb.pc"]
+        )
         same(its.run(first), taken.take("docs/c.md", file("examples/c/first.out")))
 
 
@@ -107,9 +108,14 @@ def c_installed(taken: Taken) -> None:
 @story("run elsewhere, over the shared object and over the archive: it prints first.out")
 def c_elsewhere(taken: Taken) -> None:
     needs("cc", "pkg-config")
-    export, shared, archive = (taken.take("docs/c.md", it) for it in (
-        "export PKG_CONFIG_PATH=", "cc -std=c99 -o first first.c $(pkg-config --cflags --libs ",
-        "cc -std=c99 -o first first.c $(pkg-config --cflags osb)"))
+    export, shared, archive = (
+        taken.take("docs/c.md", it)
+        for it in (
+            "export PKG_CONFIG_PATH=",
+            "cc -std=c99 -o first first.c $(pkg-config --cflags --libs ",
+            "cc -std=c99 -o first first.c $(pkg-config --cflags osb)",
+        )
+    )
     there = "mkdir ../there\ncp examples/c/first.c ../there\ncd ../there\n"
     out = file("examples/c/first.out")
     with room() as its:
@@ -138,27 +144,43 @@ def rust_story(taken: Taken) -> None:
 
 @story("built and run: they print curl.out and platform.out")
 def go(taken: Taken) -> None:
-    build, start, platform = (taken.take("docs/go.md", it) for it in (
-        "./libosb build build\n", "export PORT=8080 ", "(cd examples/go && go build -o ../../build/platform-go "))
+    build, start, platform = (
+        taken.take("docs/go.md", it)
+        for it in (
+            "./libosb build build\n",
+            "export PORT=8080 ",
+            "(cd examples/go && go build -o ../../build/platform-go ",
+        )
+    )
     needs("go", "pkg-config", "cc", "curl")
     port = free_port()
     started = start.replace("PORT=8080", f"PORT={port}") + up(port)
     with room() as its:
-        same(its.run(f"{build}{started}examples/go/broker/curl.sh\n{platform}kill %1"),
-             file("examples/go/broker/curl.out") + file("examples/go/platform/platform.out"))
+        same(
+            its.run(f"{build}{started}examples/go/broker/curl.sh\n{platform}kill %1"),
+            file("examples/go/broker/curl.out") + file("examples/go/platform/platform.out"),
+        )
 
 
 @story("run beside the repository: a broker is built that serves, and needs no shared object")
 def go_module(taken: Taken) -> None:
-    module, examples, archive = (taken.take("docs/go.md", it) for it in (
-        "go mod init ", "go mod edit -require ", "CGO_LDFLAGS="))
+    module, examples, archive = (
+        taken.take("docs/go.md", it) for it in ("go mod init ", "go mod edit -require ", "CGO_LDFLAGS=")
+    )
     needs("go", "pkg-config", "cc", "curl")
     port = free_port()
-    own = ("mkdir ../program\ncd ../program\ncp ../pippinterm/examples/go/broker/* .\n" + module + examples +
-           'printf \'package main\\n\\nimport _ "pippinterm/examples/backend"\\n\' >imported.go\n' + archive)
+    own = (
+        "mkdir ../program\ncd ../program\ncp ../pippinterm/examples/go/broker/* .\n"
+        + module
+        + examples
+        + "printf 'package main\\n\\nimport _ \"pippinterm/examples/backend\"\\n' >imported.go\n"
+        + archive
+    )
     with room() as its:
-        linked = its.run(f"./libosb build build\nexport PKG_CONFIG_PATH=$PWD/build\n{own}ldd program\n"
-                         f"PORT={port} BROKER_PASSWORD=secret ./program &\n{up(port)}kill %1")
+        linked = its.run(
+            f"./libosb build build\nexport PKG_CONFIG_PATH=$PWD/build\n{own}ldd program\n"
+            f"PORT={port} BROKER_PASSWORD=secret ./program &\n{up(port)}kill %1"
+        )
         if "libosb" in linked:
             raise Fault(f"the program asks for the shared object: {linked}")
 
@@ -168,8 +190,10 @@ def go_module(taken: Taken) -> None:
 
 @story("run: a broker, asked by curl, and a platform")
 def python(taken: Taken) -> None:
-    serve, ask, order = (taken.take("docs/python.md", it) for it in (
-        "./libosb build build\n", "broker=http", "export LIBOSB=$PWD/build/libosb.so PYTHONPATH="))
+    serve, ask, order = (
+        taken.take("docs/python.md", it)
+        for it in ("./libosb build build\n", "broker=http", "export LIBOSB=$PWD/build/libosb.so PYTHONPATH=")
+    )
     needs("curl")
     port = free_port()
     served, asked, ordered = (it.replace("8080", str(port)) for it in (serve, ask, order))
@@ -178,8 +202,10 @@ def python(taken: Taken) -> None:
     with room() as its:
         out = its.run(f"{served.rstrip()} {port} >served &\n{up(port)}{asked}{again}\necho --\n{ordered}kill %1")
     answers, _, printed = out.partition("--\n")
-    same(re.findall(r"^HTTP/1.\d (\d+)|^([0-9a-f-]{36})$", answers, re.MULTILINE),
-         [("200", ""), ("201", ""), ("", str(ONE)), ("200", ""), ("410", ""), ("409", "")])
+    same(
+        re.findall(r"^HTTP/1.\d (\d+)|^([0-9a-f-]{36})$", answers, re.MULTILINE),
+        [("200", ""), ("201", ""), ("", str(ONE)), ("200", ""), ("410", ""), ("409", "")],
+    )
     said = re.search(r"\nprints (`[^;]*);", file("docs/python.md"))
     same(printed.splitlines(), said and re.findall("`([^`]*)`", said[1]))
 
@@ -207,8 +233,11 @@ def waitress(taken: Taken) -> None:
     other, command = taken.take("docs/python.md", "(cd examples/python &&\n    gunicorn ").rstrip().split("\n\n")
     needs("curl")
     application = re.search(r"'(\w+):(.*)'\)$", other)
-    if application is None or f"import {application[1]}, " not in command or \
-            f"waitress.serve({application[1]}.{application[2]}, " not in command:
+    if (
+        application is None
+        or f"import {application[1]}, " not in command
+        or f"waitress.serve({application[1]}.{application[2]}, " not in command
+    ):
         raise Fault("the two commands don't serve the same")
     with room() as its:
         if its.run("/usr/bin/python3 -c 'import waitress' 2>&1 || true"):
@@ -238,8 +267,10 @@ def installed(taken: Taken) -> None:
 
 def _imported(its: Room, commands: str, **given: str) -> None:
     its.run(commands, **given)
-    out = its.run("./libosb build build\ncd ..\nexport LIBOSB=$PWD/pippinterm/build/libosb.so\n"
-                  "pippinterm/build/venv/bin/python3 -c 'import osb; print(osb.version(), osb.__file__)'")
+    out = its.run(
+        "./libosb build build\ncd ..\nexport LIBOSB=$PWD/pippinterm/build/libosb.so\n"
+        "pippinterm/build/venv/bin/python3 -c 'import osb; print(osb.version(), osb.__file__)'"
+    )
     version, path = out.split()
     same((version, "/build/venv/lib/" in path), ("200", True))
 
@@ -299,5 +330,10 @@ sc = Spark()
 """
     with room() as its:
         (its.top / "spark.py").write_text(stand_in + source, encoding="utf-8")
-        same(its.run(f"{_LOGS}./osb-replay-log split --parts parts january.log.gz february.log\npython3 spark.py\n"
-                     "./osb-replay-log merge parts"), file("examples/unanswered.settled"))
+        same(
+            its.run(
+                f"{_LOGS}./osb-replay-log split --parts parts january.log.gz february.log\npython3 spark.py\n"
+                "./osb-replay-log merge parts"
+            ),
+            file("examples/unanswered.settled"),
+        )

@@ -8,8 +8,22 @@ import osb
 from listing.pages import TOP, Fault, Taken
 from listing.stories import same, story
 from listing.values import ONE, PLAN, SERVICE, asked
-from osb import (Answer, Body, BrokerRow, Holding, Kind, Mode, OsbError, Outcome, Phase, Record, Request, State, Status,
-                 work_of)
+from osb import (
+    Answer,
+    Body,
+    BrokerRow,
+    Holding,
+    Kind,
+    Mode,
+    OsbError,
+    Outcome,
+    Phase,
+    Record,
+    Request,
+    State,
+    Status,
+    work_of,
+)
 from osb.tables import decide_restart, well_formed
 
 Arrow = Tuple[str, str, str]  # before, after, cause
@@ -88,14 +102,15 @@ def _row_steps() -> Iterator[Arrow]:
 ANSWERS: Dict[str, Callable[[Kind, Answer], bool]] = {
     "200 or 201, well formed": lambda kind, it: it.status in (200, 201) and well_formed(kind, it),
     "202, well formed": lambda kind, it: it.status == 202 and well_formed(kind, it),
-    "another 200, 408, 409, or 422 other than AsyncRequired": lambda _, it: it.status in (200, 408, 409) or (
-        it.status == 422 and it.body != Body.ASYNC_REQUIRED),
+    "another 200, 408, 409, or 422 other than AsyncRequired": lambda _, it: it.status in (200, 408, 409)
+    or (it.status == 422 and it.body != Body.ASYNC_REQUIRED),
     "422 AsyncRequired, or another 400 to 499": lambda _, it: 400 <= it.status <= 499,
     "200 succeeded": lambda _, it: (it.status, it.body) == (200, Body.SUCCEEDED),
     "200 failed": lambda _, it: (it.status, it.body) == (200, Body.FAILED),
     "200 succeeded, or 410": lambda _, it: (it.status, it.body) == (200, Body.SUCCEEDED) or it.status == 410,
     "410, or 200 well formed": lambda kind, it: it.status == 410 or it.status == 200 and well_formed(kind, it),
-    "anything else": lambda _, it: True}
+    "anything else": lambda _, it: True,
+}
 PLAIN = ("create", "timeout", "restart", "expire", "remove")
 
 
@@ -117,10 +132,14 @@ class Causes:
 
 @story("each step of the library, after every answer and event")
 def record(taken: Taken) -> None:
-    drawn = [(before, after, Causes(cause))
-             for before, after, cause in arrows(taken.take("docs/platform.md", "stateDiagram-v2\n"))]
-    same([(before, after) for before, after, causes in drawn if "create" in causes.events],
-         [(NOTHING, str(Record.create(ONE, SERVICE, PLAN, True)[0].state))])
+    drawn = [
+        (before, after, Causes(cause))
+        for before, after, cause in arrows(taken.take("docs/platform.md", "stateDiagram-v2\n"))
+    ]
+    same(
+        [(before, after) for before, after, causes in drawn if "create" in causes.events],
+        [(NOTHING, str(Record.create(ONE, SERVICE, PLAN, True)[0].state))],
+    )
     same({it for before, after, _ in drawn for it in (before, after)}, {NOTHING, *map(str, State)})
     for state in State:
         leading = [(after, causes) for before, after, causes in drawn if before == str(state)]
@@ -183,8 +202,11 @@ PARTICIPANTS = {"P": "Platform", "B": "Broker", "D": "Broker's database", "E": "
 @story("the story, told once more by the library's values")
 def crash(taken: Taken) -> None:
     drawn = taken.take("docs/instance.md", "sequenceDiagram\n").splitlines()
-    told = ["sequenceDiagram", *(f"    participant {it} as {name}" for it, name in PARTICIPANTS.items()),
-            *(f"    {line}" for line in _life())]
+    told = [
+        "sequenceDiagram",
+        *(f"    participant {it} as {name}" for it, name in PARTICIPANTS.items()),
+        *(f"    {line}" for line in _life()),
+    ]
     for line, wanted in zip(drawn, told):
         same(line, wanted)
     same(len(drawn), len(told))

@@ -35,8 +35,12 @@ class Documents:
 
     def __init__(self) -> None:
         pages = sorted(it.relative_to(TOP) for it in TOP.glob("**/*.md"))
-        self.blocks = [block for page in pages if "out" not in page.parts and "build" not in page.parts
-                       for block in blocks_of(str(page), (TOP / page).read_text(encoding="utf-8"))]
+        self.blocks = [
+            block
+            for page in pages
+            if "out" not in page.parts and "build" not in page.parts
+            for block in blocks_of(str(page), (TOP / page).read_text(encoding="utf-8"))
+        ]
 
 
 class Taken:
@@ -68,10 +72,10 @@ def blocks_of(page: str, text: str) -> Iterator[Block]:
             is_plain = fence[1] == "```" and lines[at].startswith(fence[1])  # the other checks know no other
             mark = _MARK.fullmatch(lines[at - 1]) if at and is_plain else None
             kind = fence[2].strip() if is_plain else lines[at]
-            yield Block(page, at + 1, section, kind, mark[1] if mark else "", _text(lines[at + 1:end]))
+            yield Block(page, at + 1, section, kind, mark[1] if mark else "", _text(lines[at + 1 : end]))
         elif _is_indented(lines, at):
             end = _end_of_indented(lines, at)
-            yield Block(page, at + 1, section, INDENTED, "", _text([it[4:] for it in lines[at:end + 1]]))
+            yield Block(page, at + 1, section, INDENTED, "", _text([it[4:] for it in lines[at : end + 1]]))
         elif re.match(r"\s*<pre\b", lines[at], re.IGNORECASE):
             yield Block(page, at + 1, section, PRE, "", "")
         elif lines[at].startswith("## "):

@@ -36,7 +36,8 @@ exec crates/osb_replay/out/osb_replay "$@"
 # Nothing is done as root, and nothing is installed but below DESTDIR: there ldconfig has to find the library.
 _STAND_INS = {
     "sudo": """#!/bin/sh\n[ "$1" = apt-get ] || exec "$@"\n""",
-    "ldconfig": """#!/bin/sh\n/sbin/ldconfig -v -n -N "$DESTDIR/usr/local/lib" | grep 'libosb.so.0 -> libosb.so.0'\n"""}
+    "ldconfig": """#!/bin/sh\n/sbin/ldconfig -v -n -N "$DESTDIR/usr/local/lib" | grep 'libosb.so.0 -> libosb.so.0'\n""",
+}
 
 
 class Room:
@@ -56,16 +57,29 @@ class Room:
             _put(folder / "bin" / name, text)
         self._environment: Dict[str, str] = {
             **{name: value for name, value in os.environ.items() if not _OWN.match(name)},
-            "PATH": f"{folder}/bin:{os.environ['PATH']}", "DESTDIR": f"{folder}/installed",
-            "XDG_STATE_HOME": f"{folder}/state", "PYTHONDONTWRITEBYTECODE": "1",
-            "GOENV": "off", "GOPROXY": "off", "GOCACHE": f"{folder}/go/cache", "GOPATH": f"{folder}/go/path"}
+            "PATH": f"{folder}/bin:{os.environ['PATH']}",
+            "DESTDIR": f"{folder}/installed",
+            "XDG_STATE_HOME": f"{folder}/state",
+            "PYTHONDONTWRITEBYTECODE": "1",
+            "GOENV": "off",
+            "GOPROXY": "off",
+            "GOCACHE": f"{folder}/go/cache",
+            "GOPATH": f"{folder}/go/path",
+        }
 
     def run(self, script: str, **given: str) -> str:
         """What the commands write on standard output, in the copy's folder. Whatever they have started is killed."""
         out, err = self.folder / "out", self.folder / "err"
         with open(out, "wb") as written, open(err, "wb") as said:
-            shell = subprocess.Popen(["bash", "-e", "-c", script], cwd=self.top, env={**self._environment, **given},
-                                     stdin=subprocess.DEVNULL, stdout=written, stderr=said, start_new_session=True)
+            shell = subprocess.Popen(
+                ["bash", "-e", "-c", script],
+                cwd=self.top,
+                env={**self._environment, **given},
+                stdin=subprocess.DEVNULL,
+                stdout=written,
+                stderr=said,
+                start_new_session=True,
+            )
             try:
                 status = shell.wait(_SECONDS)
             except subprocess.TimeoutExpired:

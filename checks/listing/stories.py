@@ -26,9 +26,11 @@ STORIES: List[Story] = []
 
 def story(how: str, is_enough: bool = True) -> Callable[[Run], Run]:
     """Has the function told with the others."""
+
     def add(run: Run) -> Run:
         STORIES.append(Story(how, run, is_enough))
         return run
+
     return add
 
 

@@ -53,8 +53,22 @@ class Brokers:
     def ask(self, kind: str, count: int) -> Ran:
         """Has wrk ask for `creations` from this number on, or for `polls` of the first so many."""
         asked = self._asked
-        line = ["wrk", "-t1", f"-c{asked.connections}", f"-d{asked.seconds}s", "--timeout", "30s",
-                "-s", _ASK, self._url, "--", kind, str(count), _LOGIN, _NAMED]
+        line = [
+            "wrk",
+            "-t1",
+            f"-c{asked.connections}",
+            f"-d{asked.seconds}s",
+            "--timeout",
+            "30s",
+            "-s",
+            _ASK,
+            self._url,
+            "--",
+            kind,
+            str(count),
+            _LOGIN,
+            _NAMED,
+        ]
         before = self._processor()
         said = subprocess.run(line, check=True, capture_output=True, text=True).stdout
         found = re.search(r"^answers (\d+) (\d+) (\d+) (\d+)$", said, re.MULTILINE)
@@ -75,8 +89,17 @@ def brokers(asked: argparse.Namespace) -> Iterator[Brokers]:
     """Started, and ended at the end of the block."""
     with tempfile.TemporaryDirectory() as folder, contextlib.ExitStack() as stack:
         port = _free_port()
-        line = [sys.executable, "-m", "osb_broker", "serve", "--state", folder, "--share-port", "--listen",
-                f"127.0.0.1:{port}"]
+        line = [
+            sys.executable,
+            "-m",
+            "osb_broker",
+            "serve",
+            "--state",
+            folder,
+            "--share-port",
+            "--listen",
+            f"127.0.0.1:{port}",
+        ]
         log = stack.enter_context(open(Path(folder) / "log", "ab"))
         running = []
         for _ in range(asked.brokers):
@@ -120,8 +143,10 @@ def _processor(process: int) -> float:
 
 
 def _told(what: str, ran: Ran) -> str:
-    return (f"{ran.answers / ran.seconds:.0f} {what} a second, {ran.wrong} wrong, {ran.processor * 1000 / ran.answers:.2f} "
-            "ms of processor time each")
+    return (
+        f"{ran.answers / ran.seconds:.0f} {what} a second, {ran.wrong} wrong, {ran.processor * 1000 / ran.answers:.2f} "
+        "ms of processor time each"
+    )
 
 
 def _load(asked: argparse.Namespace) -> None:

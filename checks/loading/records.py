@@ -37,8 +37,10 @@ def _fill(database: SqliteDatabase, instances: Instances, records: int) -> None:
         execute("UPDATE osb_instances SET due = NULL, state = 'ready'", [])
         columns = "service, plan, further, record, operation, state, since, removal, due, tries"
         for n in range(1, records):
-            execute(f"INSERT INTO osb_instances (id, {columns}) SELECT ?, {columns} FROM osb_instances WHERE id = ?",
-                    [str(_id(n)), str(first)])
+            execute(
+                f"INSERT INTO osb_instances (id, {columns}) SELECT ?, {columns} FROM osb_instances WHERE id = ?",
+                [str(_id(n)), str(first)],
+            )
 
 
 def _step(instances: Instances, ids: List[Id]) -> None:

@@ -8,12 +8,12 @@ import tempfile
 from pathlib import Path
 from typing import Any, Callable, Iterator, List, Optional, Set
 
-from osb_platform.sqlite_database import SqliteDatabase
-from osb_platform.words import STATES
 from looking import looks, stores
 from looking.browser import Broken, Browser, browser, found
 from looking.program import showing
 from looking.reads import read, walked
+from osb_platform.sqlite_database import SqliteDatabase
+from osb_platform.words import STATES
 
 
 class Verdicts:
@@ -80,8 +80,14 @@ def _storm(told: Verdicts, tab: Optional[Browser], folder: Path) -> None:
         for state in ("unsettled", "in-flight"):
             told.add(_seen(f"those that are {state}"), looks.pictures, tab, f"{url}?state={state}", folder, state)
         for state in ("polling", "cleaning"):
-            told.add(_seen(f"one that is {state}, with its life"), looks.pictures, tab, url + _longest(store, state),
-                     folder, f"one-{state}")
+            told.add(
+                _seen(f"one that is {state}, with its life"),
+                looks.pictures,
+                tab,
+                url + _longest(store, state),
+                folder,
+                f"one-{state}",
+            )
         told.add("it goes with the keyboard alone, and the focus is seen", looks.keys, tab, url)
         told.add("it refreshes by itself; focus, typed text and place stay", looks.refreshed, tab, url, store)
     told.add("once the program has ended it says so", looks.alone, tab)
@@ -93,8 +99,12 @@ def _large(told: Verdicts, tab: Optional[Browser], folder: Path, count: int) -> 
     with showing(store) as url:
         told.add(f"{count:,}: each state has its word and its number", _counts, url, store)
         told.add("its first pages and its last ones have no instance twice", _ends, url)
-        for name, target in (("the first page", "/"), ("the last page", "/?page=last"), ("those that are gone",
-                             "/?state=gone"), ("an id's first digit", "/?find=a")):
+        for name, target in (
+            ("the first page", "/"),
+            ("the last page", "/?page=last"),
+            ("those that are gone", "/?state=gone"),
+            ("an id's first digit", "/?find=a"),
+        ):
             told.add(f"{count:,}: {name}, within a second", _soon, url, target)
         if tab is not None:
             told.add(f"{count:,}: the first paint, within a second", _painted, tab, url)
@@ -102,15 +112,18 @@ def _large(told: Verdicts, tab: Optional[Browser], folder: Path, count: int) -> 
 
 
 def _seen(what: str) -> str:
-    return (f"{what}: in light and dark, at {' and '.join(str(width) for width, _ in looks.SIZES)} pixels, nothing is "
-            "cut off, pale or without its word")
+    return (
+        f"{what}: in light and dark, at {' and '.join(str(width) for width, _ in looks.SIZES)} pixels, nothing is "
+        "cut off, pale or without its word"
+    )
 
 
 def _counts(url: str, store: Path) -> str:
     """Whether each state is told with its number."""
     with SqliteDatabase(store).transaction() as execute:
-        counts = {state: count for state, count in execute(
-            "SELECT state, count(*) FROM osb_instances GROUP BY state", [])}
+        counts = {
+            state: count for state, count in execute("SELECT state, count(*) FROM osb_instances GROUP BY state", [])
+        }
     page, _ = read(url)
     wrong = [state for state in STATES if page.count(state) != counts.get(state, 0)]
     return f"told otherwise: {', '.join(wrong)}" if wrong else ""
@@ -157,8 +170,11 @@ def _painted(tab: Browser, url: str) -> str:
 def _longest(store: Path, state: str) -> str:
     """The target of the instance in this state that has the longest life."""
     with SqliteDatabase(store).transaction() as execute:
-        ((id,),) = execute("SELECT id FROM osb_instances AS it WHERE state = ? ORDER BY (SELECT count(*) FROM "
-                           "osb_lives WHERE id = it.id) DESC LIMIT 1", [state])
+        ((id,),) = execute(
+            "SELECT id FROM osb_instances AS it WHERE state = ? ORDER BY (SELECT count(*) FROM "
+            "osb_lives WHERE id = it.id) DESC LIMIT 1",
+            [state],
+        )
     return f"instance/{id}"
 
 
@@ -173,9 +189,13 @@ def _folder(kept: Optional[Path]) -> Iterator[Path]:
 
 
 def _words(given: List[str]) -> argparse.Namespace:
-    parser = argparse.ArgumentParser("page", allow_abbrev=False, description="The page of ./osb-platform over an empty "
-                                     "store, one in the middle of a storm and a large one, as it is read and, where "
-                                     "Chromium is installed, as it is seen.")
+    parser = argparse.ArgumentParser(
+        "page",
+        allow_abbrev=False,
+        description="The page of ./osb-platform over an empty "
+        "store, one in the middle of a storm and a large one, as it is read and, where "
+        "Chromium is installed, as it is seen.",
+    )
     parser.add_argument("--instances", type=int, default=100_000, help="how many the large store has (100000)")
     parser.add_argument("--keep", type=Path, metavar="FOLDER", help="a new folder that keeps the stores and pictures")
     return parser.parse_args(given)

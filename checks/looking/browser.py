@@ -15,9 +15,18 @@ from typing import Any, Dict, Iterator, List, Optional
 
 _NAMES = ("chromium", "chromium-browser", "google-chrome")
 _SECONDS = 60.0
-_FLAGS = ("--headless", "--no-sandbox", "--remote-debugging-pipe", "--disable-gpu", "--no-first-run",
-          "--disable-dev-shm-usage", "--disable-background-networking", "--disable-component-update",
-          "--disable-extensions", "--hide-scrollbars")
+_FLAGS = (
+    "--headless",
+    "--no-sandbox",
+    "--remote-debugging-pipe",
+    "--disable-gpu",
+    "--no-first-run",
+    "--disable-dev-shm-usage",
+    "--disable-background-networking",
+    "--disable-component-update",
+    "--disable-extensions",
+    "--hide-scrollbars",
+)
 
 
 class Broken(Exception):
@@ -45,8 +54,9 @@ class Browser:
 
     def size(self, width: int, height: int) -> None:
         """How large the window is; a narrow one is that of a phone."""
-        self._told("Emulation.setDeviceMetricsOverride", width=width, height=height, deviceScaleFactor=1,
-                   mobile=width < 500)
+        self._told(
+            "Emulation.setDeviceMetricsOverride", width=width, height=height, deviceScaleFactor=1, mobile=width < 500
+        )
 
     def scheme(self, name: str) -> None:
         """`light` or `dark`."""
@@ -71,8 +81,14 @@ class Browser:
         """Presses a key."""
         text = {"text": "\r"} if key == "Enter" else {}
         for kind in ("keyDown", "keyUp"):
-            self._told("Input.dispatchKeyEvent", type=kind, key=key, code=key, windowsVirtualKeyCode=code,
-                       **(text if kind == "keyDown" else {}))
+            self._told(
+                "Input.dispatchKeyEvent",
+                type=kind,
+                key=key,
+                code=key,
+                windowsVirtualKeyCode=code,
+                **(text if kind == "keyDown" else {}),
+            )
 
     def picture(self, to: Path) -> None:
         """Writes what the window shows, as a PNG."""
@@ -120,10 +136,15 @@ def browser(path: str) -> Iterator[Browser]:
         theirs, to = os.pipe()
         back, ours = os.pipe()
         # The browser reads from 3 and writes to 4.
-        line = ["bash", "-c", f'exec "$0" "$@" 3<&{theirs} 4>&{ours}', path, *_FLAGS,
-                f"--user-data-dir={folder}"]
-        process = subprocess.Popen(line, pass_fds=(theirs, ours), stdin=subprocess.DEVNULL, stdout=subprocess.DEVNULL,
-                                   stderr=subprocess.DEVNULL, env={**os.environ, "HOME": folder})
+        line = ["bash", "-c", f'exec "$0" "$@" 3<&{theirs} 4>&{ours}', path, *_FLAGS, f"--user-data-dir={folder}"]
+        process = subprocess.Popen(
+            line,
+            pass_fds=(theirs, ours),
+            stdin=subprocess.DEVNULL,
+            stdout=subprocess.DEVNULL,
+            stderr=subprocess.DEVNULL,
+            env={**os.environ, "HOME": folder},
+        )
         for it in (theirs, ours):
             os.close(it)
         stack.callback(_end, process)

@@ -6,11 +6,11 @@ import time
 from pathlib import Path
 from typing import Any, Callable, List
 
+from looking.browser import Browser
+from looking.stores import PLAN, SERVICE
 from osb import Id
 from osb_platform.instances import Instances
 from osb_platform.sqlite_database import SqliteDatabase
-from looking.browser import Browser
-from looking.stores import PLAN, SERVICE
 
 SIZES = ((1280, 900), (360, 740))
 SCHEMES = ("light", "dark")
@@ -33,15 +33,16 @@ _FAULTS = (
     ("beyond the window: ", "it.style.marginLeft = '-40px'"),
     ("text beyond the window: ", "it.style.textIndent = '-40px'"),
     ("cut short: ", "it.style.textOverflow = 'ellipsis'"),
-    ("text cut off: ",
-     "it.style.cssText = 'width: 3em; overflow: hidden; white-space: nowrap; overflow-wrap: normal'"),
+    ("text cut off: ", "it.style.cssText = 'width: 3em; overflow: hidden; white-space: nowrap; overflow-wrap: normal'"),
     ("one on another: ", "document.querySelector('.listed').style.marginTop = '-2.5rem'"),
     ("pale, ", "it.style.color = '#9a9a9a'"),
     ("half transparent: ", "it.style.background = 'rgba(9, 9, 9, .5)'"),
     ("small: ", "document.querySelector('nav a').style.cssText = 'min-height: 0; padding: 0; line-height: 1'"),
     ("text cut off below: ", "it.style.cssText = 'height: 4px; overflow: hidden'"),
-    ("text cut off below: ",
-     "document.querySelector('.listed').parentElement.style.cssText = 'height: 60px; overflow: hidden'"),
+    (
+        "text cut off below: ",
+        "document.querySelector('.listed').parentElement.style.cssText = 'height: 60px; overflow: hidden'",
+    ),
     ("a state without a word", "document.querySelector('.listed .state').textContent = ''"),
     ("a state that isn't shown: ", "document.querySelector('.listed .state').style.display = 'none'"),
     ("a state that isn't shown: ol", "document.querySelector('.life').style.visibility = 'hidden'"),
@@ -51,7 +52,8 @@ _FAULTS = (
     ("a head without a scope", "document.querySelector('th').removeAttribute('scope')"),
     ("a field without a label", "document.querySelector('label').remove()"),
     ("an id twice", "it.id = 'main'"),
-    ("what a broker said was taken for HTML", "document.title = 'harmed'"))
+    ("what a broker said was taken for HTML", "document.title = 'harmed'"),
+)
 
 
 def planted(tab: Browser, url: str) -> str:
@@ -124,20 +126,24 @@ def refreshed(tab: Browser, url: str, store: Path) -> str:
     """An instance that is ordered shows by itself; the focus, what is typed and the place on the page stay."""
     tab.size(*SIZES[0])
     tab.open(url)
-    held = tab.value("""(() => {
+    held = tab.value(
+        """(() => {
       const link = document.querySelectorAll(".listed a")[6];
       document.getElementById("find").value = "abc";
       link.focus({preventScroll: true});
       scrollBy(0, link.getBoundingClientRect().top - 40);
       return {id: link.id, top: link.getBoundingClientRect().top};
-    })()""")
+    })()"""
+    )
     before = tab.value("document.getElementById('go-ordered').textContent")
     Instances(SqliteDatabase(store)).order(Id.new(), SERVICE, PLAN, "{}")
     _once(lambda: tab.value("document.getElementById('go-ordered').textContent") != before)
-    after = tab.value("""(() => {
+    after = tab.value(
+        """(() => {
       const focused = document.activeElement;
       return {id: focused.id, top: focused.getBoundingClientRect().top, typed: document.getElementById("find").value};
-    })()""")
+    })()"""
+    )
     wrong = [] if after["id"] == held["id"] else [f"the focus is at {after['id']}"]
     if abs(after["top"] - held["top"]) > 1:
         wrong.append(f"the row went from {held['top']} to {after['top']}")

@@ -16,12 +16,27 @@ _SECONDS = 60.0
 @contextlib.contextmanager
 def showing(store: Path) -> Iterator[str]:
     """The URL of its page, until the end of the block."""
-    line = [sys.executable, "-m", "osb_platform", "run", "--store", str(store), "--broker", _NOWHERE, "--page",
-            "127.0.0.1:0"]
+    line = [
+        sys.executable,
+        "-m",
+        "osb_platform",
+        "run",
+        "--store",
+        str(store),
+        "--broker",
+        _NOWHERE,
+        "--page",
+        "127.0.0.1:0",
+    ]
     log = store.with_suffix(".log")
     with open(log, "w", encoding="utf-8") as written:
-        process = subprocess.Popen(line, env={**os.environ, "OSB_PLATFORM_PASSWORD": "secret"}, stderr=written,
-                                   stdin=subprocess.DEVNULL, stdout=subprocess.DEVNULL)
+        process = subprocess.Popen(
+            line,
+            env={**os.environ, "OSB_PLATFORM_PASSWORD": "secret"},
+            stderr=written,
+            stdin=subprocess.DEVNULL,
+            stdout=subprocess.DEVNULL,
+        )
     try:
         yield _url(process, log)
     finally:

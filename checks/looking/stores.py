@@ -23,8 +23,18 @@ _NOW, _LATER, _DONE = Answer(201, Body.EMPTY), Answer(202, Body.EMPTY), Answer(2
 _TAKEN, _FAILED = Answer(409, Body.OTHER_ERROR), Answer(200, Body.FAILED)
 
 # How many of twenty go so. The restless are deleted again and again, and the broker fails.
-_SHARES = {"ordered": 1, "withdrawn": 1, "wanted": 1, "polling": 2, "ready": 5, "cleaning": 2, "cleaning-polling": 2,
-           "gone": 4, "unsettled": 1, "restless": 1}
+_SHARES = {
+    "ordered": 1,
+    "withdrawn": 1,
+    "wanted": 1,
+    "polling": 2,
+    "ready": 5,
+    "cleaning": 2,
+    "cleaning-polling": 2,
+    "gone": 4,
+    "unsettled": 1,
+    "restless": 1,
+}
 
 
 class _Then(SqliteDatabase):
@@ -45,8 +55,7 @@ def empty(path: Path) -> None:
 
 
 def storm(path: Path, count: int = 300, seed: int = 7) -> None:
-    """So many instances in all states, some of them with a request in flight at a worker that is dead since a minute.
-    """
+    """So many instances in all states, some of them with a request in flight at a worker that is dead since a minute."""
     database, chance = _Then(path), Random(f"{seed} storm")
     instances, began = Instances(database, 5.0), time.time() - 7200.0
     lives = [life for life, share in _SHARES.items() for _ in range(share)]
@@ -69,21 +78,27 @@ def large(path: Path, count: int = 100_000, seed: int = 7) -> None:
     chance = Random(f"{seed} large")
     with contextlib.closing(sqlite3.connect(path)) as connection:
         rows = connection.execute("SELECT * FROM osb_instances WHERE state IN ('ready', 'gone')").fetchall()
-        lives = [connection.execute("SELECT number, state, since FROM osb_lives WHERE id = ?", row[:1]).fetchall()
-                 for row in rows]
+        lives = [
+            connection.execute("SELECT number, state, since FROM osb_lives WHERE id = ?", row[:1]).fetchall()
+            for row in rows
+        ]
         made = [_copy(rows[at % len(rows)], lives[at % len(rows)], chance) for at in range(count - 300)]
-        connection.executemany(f"INSERT INTO osb_instances VALUES ({', '.join('?' * len(rows[0]))})",
-                               (row for row, _ in made))
+        connection.executemany(
+            f"INSERT INTO osb_instances VALUES ({', '.join('?' * len(rows[0]))})", (row for row, _ in made)
+        )
         connection.executemany("INSERT INTO osb_lives VALUES (?, ?, ?, ?)", (it for _, life in made for it in life))
         connection.commit()
 
 
-def _copy(row: Tuple[Any, ...], life: List[Tuple[int, str, float]], chance: Random
-          ) -> Tuple[Sequence[Any], List[Tuple[Any, ...]]]:
+def _copy(
+    row: Tuple[Any, ...], life: List[Tuple[int, str, float]], chance: Random
+) -> Tuple[Sequence[Any], List[Tuple[Any, ...]]]:
     id, earlier = str(_id(chance)), chance.uniform(0.0, 90 * 86400.0)
     since = 7  # the column's place
-    return ([id, *row[1:since], row[since] - earlier, *row[since + 1:]],
-            [(id, number, state, at - earlier) for number, state, at in life])
+    return (
+        [id, *row[1:since], row[since] - earlier, *row[since + 1 :]],
+        [(id, number, state, at - earlier) for number, state, at in life],
+    )
 
 
 def _fly(database: _Then, instances: Instances, id: Id, until: float) -> None:
@@ -113,8 +128,10 @@ class _Life:
             self._sent(life)
         due = None if life in ("withdrawn", "ready", "gone", "unsettled") else time.time() + self._chance.uniform(0, 90)
         with self._database.transaction() as execute:
-            execute("UPDATE osb_instances SET due = ?, removal = ? WHERE id = ?",
-                    [due, int(life == "polling" and self._chance.random() < 0.3), str(self._id)])
+            execute(
+                "UPDATE osb_instances SET due = ?, removal = ? WHERE id = ?",
+                [due, int(life == "polling" and self._chance.random() < 0.3), str(self._id)],
+            )
 
     def _sent(self, life: str) -> None:
         self._pass()
@@ -145,8 +162,9 @@ class _Life:
 
     def _answered(self, answer: Answer, operation: "str | None" = None) -> None:
         self._pass()
-        self._instances.update(self._id, lambda kept: (Kept(kept.record.answer(kept.record.attempt, answer), operation),
-                                                       None))
+        self._instances.update(
+            self._id, lambda kept: (Kept(kept.record.answer(kept.record.attempt, answer), operation), None)
+        )
 
     def _asked(self, answer: Answer) -> None:
         """The request that is due is sent and answered."""

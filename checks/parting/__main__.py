@@ -59,8 +59,9 @@ class AnyOrder:
         """There is nothing to end."""
 
 
-def came(program: str, paths: List[str], options: List[str], most: int, chunk: int, chance: random.Random
-         ) -> Tuple[Came, int]:
+def came(
+    program: str, paths: List[str], options: List[str], most: int, chunk: int, chance: random.Random
+) -> Tuple[Came, int]:
     """What osb-replay-log makes of it, and in how many parts."""
     with tempfile.TemporaryDirectory() as folder:
         try:
@@ -109,14 +110,17 @@ def compared(name: str, program: str, seeds: range, is_large: bool) -> Optional[
     faults: Counter[str] = Counter()
     parts: Counter[int] = Counter()
     with ProcessPoolExecutor() as pool:
-        for wrong, fault, count in pool.map(difference, [program] * len(seeds), seeds, [is_large] * len(seeds),
-                                            chunksize=1 if is_large else 16):
+        for wrong, fault, count in pool.map(
+            difference, [program] * len(seeds), seeds, [is_large] * len(seeds), chunksize=1 if is_large else 16
+        ):
             if wrong is not None:
                 return wrong[:2000]
             faults.update([fault] if fault else [])
             parts.update([count] if count else [])
-    print(f"{name}: {min(parts)} to {max(parts)} parts; faults: "
-          f"{', '.join(f'{fault} {count}' for fault, count in sorted(faults.items())) or 'none'}")
+    print(
+        f"{name}: {min(parts)} to {max(parts)} parts; faults: "
+        f"{', '.join(f'{fault} {count}' for fault, count in sorted(faults.items())) or 'none'}"
+    )
     return None
 
 
@@ -152,10 +156,11 @@ def main() -> int:
     begun, results = time.monotonic(), {}
     cases: Dict[str, Callable[[str], Optional[str]]] = {
         f"{asked.small} small logs": lambda it: compared(it, asked.program, range(first, first + asked.small), False),
-        f"{asked.large} schedules of many lines":
-            lambda it: compared(it, asked.program, range(first, first + asked.large), True),
-        f"{asked.longer} lines and more, by the reference":
-            lambda _: longer(asked.program, asked.longer, asked.seed)}
+        f"{asked.large} schedules of many lines": lambda it: compared(
+            it, asked.program, range(first, first + asked.large), True
+        ),
+        f"{asked.longer} lines and more, by the reference": lambda _: longer(asked.program, asked.longer, asked.seed),
+    }
     for name, case in cases.items():
         if not name.startswith("0 "):
             wrong = case(name)

@@ -49,6 +49,7 @@ def by_reference(lines: List[bytes], options: List[str]) -> Came:
     report += [f"{word} {count}" for word, count in counts.items()]
     if "--saved" in options:
         record: Dict[str, object] = {
-            name: {"plan": cell.plan[1], "service": cell.plan[0], "state": cell.platform} for name, cell in cells}
+            name: {"plan": cell.plan[1], "service": cell.plan[0], "state": cell.platform} for name, cell in cells
+        }
         report.append(json.dumps({"instances": record, "version": 2}, separators=(",", ":")))
     return Came(0, "".join(f"{line}\n" for line in report).encode(), "")

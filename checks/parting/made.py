@@ -68,18 +68,49 @@ def names(chance: random.Random, many: int) -> List[str]:
 def faulty(chance: random.Random, ids: List[str]) -> bytes:
     """A line that has a fault wherever it stands behind an event, or nearly one."""
     one, plan = chance.choice(ids), chance.choice(list(PLANS.values()))
-    return chance.choice([
-        b"Restart", b"restart # now", b"send 1", b"send", f"finish {one} maybe".encode(), f"gateway {one} 499".encode(),
-        f"plan {SERVICE} {plan} sync".encode(), f"plan {SERVICE} {one} async".encode(), b"plan", f"plan {one}".encode(),
-        b"#" * 513, b"#" * chance.randint(514, 5000), f"send {one}{' ' * 500}".encode(), "# caf\u00e9".encode(),
-        f"send {one} caf\u00e9".encode(), f"create {one} {SERVICE} {plan}".encode(), b"send 1 2",
-        f"create {one} 1 {plan} no".encode(),
-        f"create {one} {SERVICE} {plan} No".encode(), b"\x0crestart", b"\x0c# no comment", f"send\r{one}".encode(),
-        b"restart\r\r", f"send {one}\r\r".encode(), f"send {one[:-1]}".encode(), f"send {one[:-1]}g".encode(),
-        f"update {one}".encode(), f"send\x0b{one}".encode(), b"\xff", b"\x00", f"send {one}\x00".encode(), b"\r\r",
-        f"plan\x0b{SERVICE} {plan} sync".encode(), b"x" * 4000, f"answer {one} {one}".encode(),
-        b"send " + b"x" * chance.randint(36, 5000), f"send {one} {'x' * chance.randint(471, 5000)}".encode(),
-        b"send " + b"x" * chance.randint(400, 3000) + b" done", b"x" * 36 + b" " + one.encode()])
+    return chance.choice(
+        [
+            b"Restart",
+            b"restart # now",
+            b"send 1",
+            b"send",
+            f"finish {one} maybe".encode(),
+            f"gateway {one} 499".encode(),
+            f"plan {SERVICE} {plan} sync".encode(),
+            f"plan {SERVICE} {one} async".encode(),
+            b"plan",
+            f"plan {one}".encode(),
+            b"#" * 513,
+            b"#" * chance.randint(514, 5000),
+            f"send {one}{' ' * 500}".encode(),
+            "# caf\u00e9".encode(),
+            f"send {one} caf\u00e9".encode(),
+            f"create {one} {SERVICE} {plan}".encode(),
+            b"send 1 2",
+            f"create {one} 1 {plan} no".encode(),
+            f"create {one} {SERVICE} {plan} No".encode(),
+            b"\x0crestart",
+            b"\x0c# no comment",
+            f"send\r{one}".encode(),
+            b"restart\r\r",
+            f"send {one}\r\r".encode(),
+            f"send {one[:-1]}".encode(),
+            f"send {one[:-1]}g".encode(),
+            f"update {one}".encode(),
+            f"send\x0b{one}".encode(),
+            b"\xff",
+            b"\x00",
+            f"send {one}\x00".encode(),
+            b"\r\r",
+            f"plan\x0b{SERVICE} {plan} sync".encode(),
+            b"x" * 4000,
+            f"answer {one} {one}".encode(),
+            b"send " + b"x" * chance.randint(36, 5000),
+            f"send {one} {'x' * chance.randint(471, 5000)}".encode(),
+            b"send " + b"x" * chance.randint(400, 3000) + b" done",
+            b"x" * 36 + b" " + one.encode(),
+        ]
+    )
 
 
 def made(chance: random.Random, most: int, is_faulty: bool) -> Made:
@@ -89,8 +120,10 @@ def made(chance: random.Random, most: int, is_faulty: bool) -> Made:
         head.insert(chance.randrange(3), spelled(chance, chance.choice(OTHERS)).encode())
     many = (1, 3, 10, 40, max(1, most // 20)) if most <= _FEW else (200, most // 20, most // 5)
     ids = names(chance, chance.choice(many))
-    lines = [spelled(chance, event(chance, ids)) if chance.random() < 0.97 else chance.choice(OTHERS)
-             for _ in range(chance.randint(0, most))]
+    lines = [
+        spelled(chance, event(chance, ids)) if chance.random() < 0.97 else chance.choice(OTHERS)
+        for _ in range(chance.randint(0, most))
+    ]
     if most > _FEW:  # a restart takes as long as there are instances
         lines = [line for line in lines if line.strip() != "restart" or chance.random() < 0.003]
     body = [line.encode() for line in lines]

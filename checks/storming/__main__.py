@@ -36,8 +36,9 @@ _OTHER_PLATFORMS = ("platform", "both")
 class Storm:
     """A storm over one platform and some brokers."""
 
-    def __init__(self, asked: argparse.Namespace, folder: Path, at: Places, ports: List[int], entrances: List[int]
-                 ) -> None:
+    def __init__(
+        self, asked: argparse.Namespace, folder: Path, at: Places, ports: List[int], entrances: List[int]
+    ) -> None:
         """`ports`: where the brokers listen. `entrances`: where they are reached."""
         self._asked, self._folder, self.at = asked, folder, at
         self._environment = python_environment(_TOP, asked.seed)
@@ -56,10 +57,19 @@ class Storm:
         broker_points = [] if asked.without in _OTHER_BROKERS else chance.sample(BROKER_POINTS, len(BROKER_POINTS))
         is_disturbed = "postgresql" in (asked.store, asked.backend)
         self._log = Log(asked.log)
-        self.platform = Killed(self._platform(), points, Random(f"{asked.seed} platform"),
-                               [1, 2] if is_disturbed else [], self._log)
-        self.brokers = [Killed(self._broker(at, n), broker_points[n::len(ports)], Random(f"{asked.seed} broker {n}"),
-                               [2] if is_disturbed else [], self._log) for n, at in enumerate(ports)]
+        self.platform = Killed(
+            self._platform(), points, Random(f"{asked.seed} platform"), [1, 2] if is_disturbed else [], self._log
+        )
+        self.brokers = [
+            Killed(
+                self._broker(at, n),
+                broker_points[n :: len(ports)],
+                Random(f"{asked.seed} broker {n}"),
+                [2] if is_disturbed else [],
+                self._log,
+            )
+            for n, at in enumerate(ports)
+        ]
         self.operator = Operator(at.instances, asked.seed, asked.instances, asked.seconds)
         self.audit = Audit(at.instances, at.holdings, at.things, at.is_usable)
         self.orders_hit: List[str] = []
@@ -149,8 +159,18 @@ class Storm:
         self.audit.look()
 
     def _broker(self, port: int, number: int) -> Program:
-        words = ["serve", "--listen", f"127.0.0.1:{port}", *self.at.broker_words, "--sweep-seconds", "0.5",
-                 "--workers", "8", "--stop-seconds", "20"]
+        words = [
+            "serve",
+            "--listen",
+            f"127.0.0.1:{port}",
+            *self.at.broker_words,
+            "--sweep-seconds",
+            "0.5",
+            "--workers",
+            "8",
+            "--stop-seconds",
+            "20",
+        ]
         start = [sys.executable, "-m", "osb_broker"]
         if self._asked.without in ("marks", "work", "busy", "locks"):
             start = [sys.executable, "-m", "storming.without_broker", self._asked.without]
@@ -159,9 +179,24 @@ class Storm:
         return Program(f"broker {number}", start + words, self._environment, self._folder / f"broker-{number}.log")
 
     def _platform(self) -> Program:
-        words = ["run", "--broker", f"http://127.0.0.1:{self._proxy.port()}", *self.at.platform_words, "--seconds",
-                 "2", "--pace", "0.1", "--longest-pace", "1", "--look-seconds", "0.2", "--longest-poll", "1.5",
-                 "--catalog", str(self._catalogue)]
+        words = [
+            "run",
+            "--broker",
+            f"http://127.0.0.1:{self._proxy.port()}",
+            *self.at.platform_words,
+            "--seconds",
+            "2",
+            "--pace",
+            "0.1",
+            "--longest-pace",
+            "1",
+            "--look-seconds",
+            "0.2",
+            "--longest-poll",
+            "1.5",
+            "--catalog",
+            str(self._catalogue),
+        ]
         start = [sys.executable, "-m", "osb_platform"]
         if self._asked.without == "attempts":
             start = [sys.executable, "-m", "storming.without_platform"]
@@ -195,11 +230,15 @@ def main(given: List[str]) -> int:
 def _verdict(asked: argparse.Namespace, storm: Storm) -> int:
     """Tells what came of it."""
     audit, programs = storm.audit, (storm.platform, *storm.brokers)
-    print(f"{len(storm.operator.orders) + len(storm.orders_hit)} ordered, {len(storm.operator.removed)} removals, "
-          f"{sum(it.kills for it in storm.brokers)} kills of brokers, {storm.platform.kills} of the platform")
+    print(
+        f"{len(storm.operator.orders) + len(storm.orders_hit)} ordered, {len(storm.operator.removed)} removals, "
+        f"{sum(it.kills for it in storm.brokers)} kills of brokers, {storm.platform.kills} of the platform"
+    )
     print("requests: " + ", ".join(f"{count} {kind}" for kind, count in sorted(storm.faults.counts.items())))
-    print(f"compared in the storm: {audit.looks['ready']} ready, {audit.looks['gone']} gone; "
-          f"settled after {storm.settled_in:.1f} s")
+    print(
+        f"compared in the storm: {audit.looks['ready']} ready, {audit.looks['gone']} gone; "
+        f"settled after {storm.settled_in:.1f} s"
+    )
     counted = audit.count()
     for id, what in sorted(audit.wrong.items())[:20]:
         print(f"wrong in the storm: {id}: {what}")
@@ -213,20 +252,25 @@ def _verdict(asked: argparse.Namespace, storm: Storm) -> int:
     if asked.without is not None:
         together = storm.at.together()
         left = audit.orphans() + len(audit.wrong) + len(together)
-        print(f"{audit.orphans()} things that no record has in the end, {len(audit.wrong)} false records meanwhile, "
-              f"{len(together)} times two at work at once")
+        print(
+            f"{audit.orphans()} things that no record has in the end, {len(audit.wrong)} false records meanwhile, "
+            f"{len(together)} times two at work at once"
+        )
         return _tally([(f"without {asked.without} the storm finds it", left > 0, "it doesn't"), settles, ends])
     repeats, undone, together = why_not(), storm.operator.undone(), storm.at.together()
     verdicts = [
         ("a seed repeats the faults", not repeats, repeats),
-        settles, tried,
+        settles,
+        tried,
         ("records, holdings and things agree in the end", not counted, "; ".join(counted)),
         ("each ready and each gone is true when it shows", not audit.wrong, f"{len(audit.wrong)} were wrong"),
         ("each order has a record, and each removal is done", not undone, f"{len(undone)} weren't: {undone[:3]}"),
-        ends]
+        ends,
+    ]
     if asked.backend == "folders":
-        verdicts.append(("one at most works at an instance", not together,
-                         f"{len(together)} times there were two: {together[:3]}"))
+        verdicts.append(
+            ("one at most works at an instance", not together, f"{len(together)} times there were two: {together[:3]}")
+        )
     if asked.points and asked.kills != "none":
         verdicts.append(("each crash point is hit", not storm.left(), ", ".join(storm.left())))
     return _tally(verdicts)
@@ -272,9 +316,13 @@ def _free_ports(count: int) -> List[int]:
 
 
 def words(given: List[str]) -> argparse.Namespace:
-    parser = argparse.ArgumentParser("storm", allow_abbrev=False, description="Broker and platform run over a network "
-                                     "that loses, delays, repeats and garbles, and are killed again and again; in the "
-                                     "end each instance that the platform has is there, and nothing else.")
+    parser = argparse.ArgumentParser(
+        "storm",
+        allow_abbrev=False,
+        description="Broker and platform run over a network "
+        "that loses, delays, repeats and garbles, and are killed again and again; in the "
+        "end each instance that the platform has is there, and nothing else.",
+    )
     number: Callable[[str], int] = int
     parser.add_argument("--seconds", type=float, default=60.0, help="how long it lasts (60)")
     parser.add_argument("--instances", type=number, default=200, help="how many are ordered (200)")
@@ -282,23 +330,37 @@ def words(given: List[str]) -> argparse.Namespace:
     parser.add_argument("--faults", type=float, help=f"the share of requests that meet one ({SHARE})")
     parser.add_argument("--brokers", type=number, default=1, help="how many serve (1)")
     parser.add_argument("--haproxy", action="store_true", help="HAProxy stands before the brokers")
-    parser.add_argument("--store", choices=("sqlite", "postgresql"), default="sqlite",
-                        help="where records and holdings are (sqlite); OSB_TEST_POSTGRESQL names PostgreSQL's server")
-    parser.add_argument("--backend", choices=("folders", "postgresql"), default="folders",
-                        help="what is sold (folders)")
+    parser.add_argument(
+        "--store",
+        choices=("sqlite", "postgresql"),
+        default="sqlite",
+        help="where records and holdings are (sqlite); OSB_TEST_POSTGRESQL names PostgreSQL's server",
+    )
+    parser.add_argument(
+        "--backend", choices=("folders", "postgresql"), default="folders", help="what is sold (folders)"
+    )
     parser.add_argument("--settle", type=float, default=120.0, help="how many seconds it may take to settle (120)")
-    parser.add_argument("--without", choices=("marks", "work", "busy", "attempts", "locks", *_OTHER_BROKERS,
-                                                      "platform"),
-                        help="a part of the design is taken out (marks, work, busy, attempts, locks); the broker's "
-                             "library is a handle that stands, and not a value (values); or the broker, the platform, or "
-                             "both are as they are usually written: then it passes where the storm finds that")
-    parser.add_argument("--kills", choices=("both", "brokers", "platform", "none"),
-                        help="what is killed (both; without attempts the brokers, since a platform that is killed "
-                             "hears no late answer)")
+    parser.add_argument(
+        "--without",
+        choices=("marks", "work", "busy", "attempts", "locks", *_OTHER_BROKERS, "platform"),
+        help="a part of the design is taken out (marks, work, busy, attempts, locks); the broker's "
+        "library is a handle that stands, and not a value (values); or the broker, the platform, or "
+        "both are as they are usually written: then it passes where the storm finds that",
+    )
+    parser.add_argument(
+        "--kills",
+        choices=("both", "brokers", "platform", "none"),
+        help="what is killed (both; without attempts the brokers, since a platform that is killed "
+        "hears no late answer)",
+    )
     parser.add_argument("--no-points", dest="points", action="store_false", help="not every crash point has to be hit")
     parser.add_argument("--keep", type=Path, metavar="FOLDER", help="a new folder that keeps the logs and all files")
-    parser.add_argument("--log", type=Path, metavar="FILE",
-                        help="what happens, a line of JSON each; python -m storming.picture draws it")
+    parser.add_argument(
+        "--log",
+        type=Path,
+        metavar="FILE",
+        help="what happens, a line of JSON each; python -m storming.picture draws it",
+    )
     asked = parser.parse_args(given)
     for part, places in (("locks", asked.backend), ("values", asked.store)):
         if asked.without == part and places == "postgresql":

@@ -22,8 +22,13 @@ class Things(NamedTuple):
 class Audit:
     """Looks at all three. What it finds wrong stays."""
 
-    def __init__(self, instances: Instances, holdings: Callable[[], Dict[str, Holding]], things: Callable[[], Things],
-                 is_usable: Callable[[Instance], bool]) -> None:
+    def __init__(
+        self,
+        instances: Instances,
+        holdings: Callable[[], Dict[str, Holding]],
+        things: Callable[[], Things],
+        is_usable: Callable[[Instance], bool],
+    ) -> None:
         """`holdings`: all rows of the broker's store."""
         self._instances, self._holdings, self._things, self._is_usable = instances, holdings, things, is_usable
         self.looks: "Counter[str]" = Counter()
@@ -56,10 +61,15 @@ class Audit:
         held = {id for id, it in all_held.items() if it.row is not None or it.work is not None}
         other = {id for id in ready & held if not _is_ready(all_held[id], rows[id])}
         useless = {id for id in ready & things.whole if not self._is_usable(rows[id])}
-        found = [("records that aren't at rest", {id for id, row in rows.items() if row.state not in REST}),
-                 ("things that no record has", things.some - ready), ("records without a thing", ready - things.whole),
-                 ("holdings that no record has", held - ready), ("records without a holding", ready - held),
-                 ("holdings of another plan, or not ready", other), ("things that can't be used", useless)]
+        found = [
+            ("records that aren't at rest", {id for id, row in rows.items() if row.state not in REST}),
+            ("things that no record has", things.some - ready),
+            ("records without a thing", ready - things.whole),
+            ("holdings that no record has", held - ready),
+            ("records without a holding", ready - held),
+            ("holdings of another plan, or not ready", other),
+            ("things that can't be used", useless),
+        ]
         return [f"{len(ids)} {what}: {' '.join(sorted(ids)[:3])}" for what, ids in found if ids]
 
     def orphans(self) -> int:

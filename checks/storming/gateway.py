@@ -44,8 +44,9 @@ def haproxy(folder: Path, port: int, brokers: List[int]) -> Iterator[None]:
     servers = "".join(f"    server broker-{n} 127.0.0.1:{at}\n" for n, at in enumerate(brokers))
     config.write_text(_CONFIG.format(port=port) + servers, encoding="utf-8")
     with open(folder / "haproxy.log", "wb") as log:
-        process = subprocess.Popen([program, "-db", "-f", str(config)], stdin=subprocess.DEVNULL, stdout=log,
-                                   stderr=log)
+        process = subprocess.Popen(
+            [program, "-db", "-f", str(config)], stdin=subprocess.DEVNULL, stdout=log, stderr=log
+        )
     try:
         _wait_for(port, process, folder / "haproxy.log")
         yield

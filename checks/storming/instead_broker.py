@@ -105,8 +105,7 @@ def _phase(broker: Broker, id: Id) -> Optional[Phase]:
 
 
 class _Usual:
-    """As brokers are usually written: the work, and then its row; nothing is kept of work that goes on, or has ended.
-    """
+    """As brokers are usually written: the work, and then its row; nothing is kept of work that goes on, or has ended."""
 
     def handle(self, service: Any, asked: Asked, body: bytes) -> Answer:
         """By the row alone."""
@@ -138,8 +137,7 @@ def _polled(row: Optional[BrokerRow]) -> Answer:
     return Answer(200, Body.SUCCEEDED if row.phase == Phase.READY else Body.FAILED)
 
 
-def _provisioned(service: Any, request: Request, mode: Optional[Mode], row: Optional[BrokerRow], body: bytes
-                 ) -> Answer:
+def _provisioned(service: Any, request: Request, mode: Optional[Mode], row: Optional[BrokerRow], body: bytes) -> Answer:
     if mode is None:
         return Answer(400, Body.OTHER_ERROR)
     if row is not None:
@@ -153,8 +151,9 @@ def _provisioned(service: Any, request: Request, mode: Optional[Mode], row: Opti
     return Answer(201 if mode == Mode.SYNC else 202, Body.EMPTY)
 
 
-def _deprovisioned(service: Any, request: Request, mode: Optional[Mode], row: Optional[BrokerRow], body: bytes
-                   ) -> Answer:
+def _deprovisioned(
+    service: Any, request: Request, mode: Optional[Mode], row: Optional[BrokerRow], body: bytes
+) -> Answer:
     if row is None:
         return Answer(410, Body.OTHER_ERROR)
     if mode != Mode.SYNC:

@@ -63,7 +63,8 @@ class Operator:
         """What was ordered and has no record, and what was to be removed and is there still."""
         states = dict(self._instances.states())
         return sorted(self.orders - set(states)) + sorted(
-            id for id in self.removed if states.get(id) not in ("gone", "withdrawn"))
+            id for id in self.removed if states.get(id) not in ("gone", "withdrawn")
+        )
 
     def clear(self) -> None:
         """Has those removed that wait for an operator."""
@@ -90,6 +91,14 @@ def _id(chance: Random) -> Id:
 def python_environment(top: str, seed: int) -> Dict[str, str]:
     """What the programs find in their environment."""
     path = os.pathsep.join([f"{top}/programs", f"{top}/python/src", f"{top}/checks"])
-    return {**os.environ, "PYTHONPATH": path, "PYTHONSAFEPATH": "1", "PYTHONDONTWRITEBYTECODE": "1",
-            "STORM_SEED": str(seed), "OSB_BROKER_PASSWORD": "secret", "OSB_PLATFORM_PASSWORD": "secret",
-            "OSB_BACKEND_KEY": KEY.decode(), "PGAPPNAME": "storm"}
+    return {
+        **os.environ,
+        "PYTHONPATH": path,
+        "PYTHONSAFEPATH": "1",
+        "PYTHONDONTWRITEBYTECODE": "1",
+        "STORM_SEED": str(seed),
+        "OSB_BROKER_PASSWORD": "secret",
+        "OSB_PLATFORM_PASSWORD": "secret",
+        "OSB_BACKEND_KEY": KEY.decode(),
+        "PGAPPNAME": "storm",
+    }

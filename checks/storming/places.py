@@ -75,12 +75,17 @@ def places(folder: Path, store: str, backend: str) -> Iterator[Places]:
 
         def disturb() -> None:
             if url:
-                _execute(url, "SELECT pg_terminate_backend(pid) FROM pg_stat_activity WHERE application_name = 'storm' "
-                              "AND datname = current_database() ORDER BY random() LIMIT 1")
+                _execute(
+                    url,
+                    "SELECT pg_terminate_backend(pid) FROM pg_stat_activity WHERE application_name = 'storm' "
+                    "AND datname = current_database() ORDER BY random() LIMIT 1",
+                )
+
         named = url if backend == "postgresql" else str(_SLOW_FOLDERS)
         try:
-            yield Places(instances, holdings, things, is_usable, together, disturb, [*broker, "--backend", named],
-                         platform)
+            yield Places(
+                instances, holdings, things, is_usable, together, disturb, [*broker, "--backend", named], platform
+            )
         finally:
             if backend == "postgresql":
                 _drop(url, things().some & {id for id, _ in instances.states()})
@@ -113,6 +118,7 @@ def _is_its(folder: Path, row: Instance) -> bool:
 def _takes_its_password(url: str, row: Instance) -> bool:
     """Whether the database lets its role in, and takes a table of it."""
     import psycopg2  # where PostgreSQL is used it is there
+
     name = name_of(row.id)
     try:
         asked: Any = psycopg2.connect(url, dbname=name, user=name, password=password_of(KEY, row.id))
@@ -125,9 +131,14 @@ def _takes_its_password(url: str, row: Instance) -> bool:
 
 def _databases(url: str) -> Things:
     """A database that can be connected to, with its role, is whole."""
-    open_ones, closed, roles = (_names(url, where) for where in (
-        "SELECT datname FROM pg_database WHERE datallowconn AND datconnlimit <> -2", "SELECT datname FROM pg_database",
-        "SELECT rolname FROM pg_roles"))
+    open_ones, closed, roles = (
+        _names(url, where)
+        for where in (
+            "SELECT datname FROM pg_database WHERE datallowconn AND datconnlimit <> -2",
+            "SELECT datname FROM pg_database",
+            "SELECT rolname FROM pg_roles",
+        )
+    )
     return Things(open_ones & roles, closed | roles)
 
 

@@ -13,7 +13,6 @@ from typing import Dict, List, NamedTuple, Optional, Sequence
 
 from storming.log import Log
 
-
 # A line of the platform's log; the broker's are JSON. A traceback right after it is told by it.
 _LOGGED = re.compile(r"\d{4}-\d\d-\d\d [\d:,]+ [A-Z]+ ")
 _TRACEBACK = "Traceback (most recent call last):"
@@ -31,10 +30,10 @@ class Program(NamedTuple):
 class Killed:
     """A program that is killed again and again: at each of its crash points, and in between at random."""
 
-    def __init__(self, program: Program, points: Sequence[str], chance: Random, refusals: Sequence[int], log: Log
-                 ) -> None:
-        """`refusals`: with what it may end by itself, as it does where a session with its store is ended while it starts.
-        """
+    def __init__(
+        self, program: Program, points: Sequence[str], chance: Random, refusals: Sequence[int], log: Log
+    ) -> None:
+        """`refusals`: with what it may end by itself, as it does where a session with its store is ended while it starts."""
         self._program, self._chance, self._log = program, chance, log
         self._usual = [-9, *refusals]
         self._open = list(points)
@@ -119,8 +118,13 @@ class Killed:
 
     def _start(self, point: str) -> None:
         with open(self._program.log, "ab") as log:
-            self._process = subprocess.Popen(self._program.line, env={**self._program.environment,
-                                             "OSB_CRASH_AT": point}, stdin=subprocess.DEVNULL, stdout=log, stderr=log)
+            self._process = subprocess.Popen(
+                self._program.line,
+                env={**self._program.environment, "OSB_CRASH_AT": point},
+                stdin=subprocess.DEVNULL,
+                stdout=log,
+                stderr=log,
+            )
 
     def _kill(self) -> None:
         if self._process is not None and self._process.poll() is None:
@@ -144,6 +148,6 @@ def cries(log: str) -> List[str]:
     found, before, lines = [], "-", log.split("\n")
     for at, line in enumerate(lines):
         if line == _TRACEBACK and before and not _LOGGED.match(before):
-            found.append(next((it for it in lines[at + 1:] if it and not it.startswith(" ")), "a traceback"))
+            found.append(next((it for it in lines[at + 1 :] if it and not it.startswith(" ")), "a traceback"))
         before = line
     return found

@@ -53,10 +53,12 @@ class Proxy(socketserver.ThreadingTCPServer):
 
     def deliver_late(self, request: bytes, fault: Fault) -> None:
         """Delivers a copy later; nobody takes its answer."""
+
         def late() -> None:
             with self.carrying():
                 time.sleep(fault.seconds)
                 self.deliver(request, fault.number >> 4)
+
         threading.Thread(target=late, daemon=True).start()
 
 
@@ -107,8 +109,8 @@ def _as_it_comes(answer: bytes, fault: Fault) -> bytes:
     if fault.kind == "garbled" and body:
         return head + gap + b"\0" + body[1:]
     if fault.kind == "body cut":
-        return head + gap + body[:len(body) // 2]
-    return answer[:1 + fault.number % 40] if fault.kind == "head cut" else answer
+        return head + gap + body[: len(body) // 2]
+    return answer[: 1 + fault.number % 40] if fault.kind == "head cut" else answer
 
 
 def _gateway(fault: Fault) -> bytes:
@@ -116,8 +118,10 @@ def _gateway(fault: Fault) -> bytes:
 
 
 def _page(status: int) -> bytes:
-    return (f"HTTP/1.1 {status} Gateway\r\nContent-Type: text/html\r\nContent-Length: {len(_PAGE)}\r\n"
-            "Connection: close\r\n\r\n").encode() + _PAGE
+    return (
+        f"HTTP/1.1 {status} Gateway\r\nContent-Type: text/html\r\nContent-Length: {len(_PAGE)}\r\n"
+        "Connection: close\r\n\r\n"
+    ).encode() + _PAGE
 
 
 def _read(connection: Any) -> Optional[bytes]:
@@ -129,8 +133,9 @@ def _read(connection: Any) -> Optional[bytes]:
             return None
         data += more
     head, _, body = data.partition(b"\r\n\r\n")
-    wanted = next((int(line.partition(b":")[2]) for line in head.lower().split(b"\r\n")
-                   if line.startswith(b"content-length:")), 0)
+    wanted = next(
+        (int(line.partition(b":")[2]) for line in head.lower().split(b"\r\n") if line.startswith(b"content-length:")), 0
+    )
     while len(body) < wanted:
         more = connection.recv(1 << 16)
         if not more:

@@ -19,8 +19,9 @@ def why_not() -> str:
 def _drawn(seed: int, backwards: bool) -> "List[tuple[str, int, Fault]]":
     """What befalls five requests each at 400 paths."""
     faults, paths = Faults(seed, 0.5, KINDS), [f"/{number:03}" for number in range(400)]
-    return [(path, turn, faults.of("GET", path)) for path in (reversed(paths) if backwards else paths)
-            for turn in range(5)]
+    return [
+        (path, turn, faults.of("GET", path)) for path in (reversed(paths) if backwards else paths) for turn in range(5)
+    ]
 
 
 if __name__ == "__main__":

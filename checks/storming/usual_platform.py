@@ -24,8 +24,10 @@ from osb_platform.sqlite_database import SqliteDatabase
 from osb_program import pg
 
 _MEANWHILE = {"creating": "failed", "deleting": "delete-failed"}
-_DUE = ("SELECT id, service, plan, state FROM osb_instances WHERE state IN ('ordered', 'polling', 'deleting-polling') "
-        "OR removal = 1 AND state IN ('ready', 'delete-failed', 'failed')")
+_DUE = (
+    "SELECT id, service, plan, state FROM osb_instances WHERE state IN ('ordered', 'polling', 'deleting-polling') "
+    "OR removal = 1 AND state IN ('ready', 'delete-failed', 'failed')"
+)
 
 Row = Tuple[str, str, str, str]
 Said = Tuple[int, Dict[str, Any]]
@@ -39,8 +41,12 @@ class Usual:
         Instances(self._database)  # makes the table
         self._host, self._seconds, self._longest = urlsplit(asked.broker).netloc, asked.seconds, asked.longest_poll
         token = base64.b64encode(f"{asked.user}:{os.environ['OSB_PLATFORM_PASSWORD']}".encode()).decode()
-        self._headers = {"Authorization": f"Basic {token}", "X-Broker-API-Version": "2.17", "Connection": "close",
-                         "Content-Type": "application/json"}
+        self._headers = {
+            "Authorization": f"Basic {token}",
+            "X-Broker-API-Version": "2.17",
+            "Connection": "close",
+            "Content-Type": "application/json",
+        }
         self._running: Set[str] = set()
 
     def run(self) -> None:
@@ -82,8 +88,9 @@ class Usual:
     def _delete(self, row: Row) -> None:
         id, service, plan, _ = row
         self._set(id, "deleting")
-        said = self._twice("DELETE", f"/v2/service_instances/{id}?service_id={service}&plan_id={plan}"
-                                     "&accepts_incomplete=true", b"")
+        said = self._twice(
+            "DELETE", f"/v2/service_instances/{id}?service_id={service}&plan_id={plan}" "&accepts_incomplete=true", b""
+        )
         if said is not None and said[0] in (200, 410):
             self._set(id, "gone")
         elif said is not None and said[0] == 202:
@@ -124,8 +131,10 @@ class Usual:
 
     def _set(self, id: str, state: str) -> None:
         is_over = state in ("gone", "failed", "delete-failed")
-        self._execute("UPDATE osb_instances SET state = ?, since = ?" + (", removal = 0" if is_over else "") +
-                      " WHERE id = ?", [state, time.time(), id])
+        self._execute(
+            "UPDATE osb_instances SET state = ?, since = ?" + (", removal = 0" if is_over else "") + " WHERE id = ?",
+            [state, time.time(), id],
+        )
 
     def _execute(self, statement: str, values: Sequence[Any]) -> List[Any]:
         with self._database.transaction() as execute:

@@ -19,6 +19,7 @@ _begin, _end, _finish = Holding.begin, Holding.end, Holding.finish
 
 def _without_marks() -> None:
     """No mark is kept of an instance that has ended."""
+
     def begin(self: Holding, mode: Optional[Mode], request: Request) -> Tuple[Holding, Union[Answer, Work]]:
         after, begun = _begin(self, mode, request)
         return replace(after, is_marked=False), begun
@@ -29,25 +30,30 @@ def _without_marks() -> None:
 
     def finish(self: Holding, ok: bool) -> Holding:
         return replace(_finish(self, ok), is_marked=False)
+
     _patch(Holding, begin=begin, end=end, finish=finish)
 
 
 def _without_busy() -> None:
     """While work is recorded, other requests are judged as if none were; it stays recorded, unless other work is."""
+
     def begin(self: Holding, mode: Optional[Mode], request: Request) -> Tuple[Holding, Union[Answer, Work]]:
         after, begun = _begin(replace(self, work=None), mode, request)
         if isinstance(begun, Answer) and self.work is not None:
             after = replace(after, work=self.work, is_marked=False)
         return after, begun
+
     _patch(Holding, begin=begin)
 
 
 def _without_work() -> None:
     """Work isn't recorded before it begins: it is done, and then written down."""
+
     def handle(self: Any, asked: Asked, body: bytes) -> Answer:
         def looked(holding: Holding) -> Tuple[Holding, Tuple[Request, Union[Answer, Work]]]:
             after, (request, begun) = self._begin(holding, asked)
             return (after if isinstance(begun, Answer) else holding), (request, begun)
+
         request, begun = self._store.update(asked.id, looked)
         if isinstance(begun, Answer):
             return begun
@@ -55,15 +61,19 @@ def _without_work() -> None:
             outcome = self._worker.work(Task(begun, request, body, False))
             mode = self.mode(request.service, request.plan)
             ended: Answer = self._store.update(
-                asked.id, lambda holding: replace(holding, work=request).end(mode, outcome))
+                asked.id, lambda holding: replace(holding, work=request).end(mode, outcome)
+            )
         return ended
+
     _patch(BrokerService, handle=handle)
 
 
 def _without_locks() -> None:
     """Whoever asks for a lock has it."""
+
     def had(self: Any, id: Id) -> ContextManager[bool]:
         return contextlib.nullcontext(True)
+
     _patch(RangeLocks, __call__=had, attempt=had)
 
 

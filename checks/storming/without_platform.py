@@ -37,6 +37,7 @@ def response(self: Any, _: Deadline, request: Any, operation: Optional[str], bod
             is_late = bool(given_up)
         if is_late and got is not None:
             _late(self, request, got)
+
     threading.Thread(target=listen, daemon=True).start()
     is_there.wait(far_end.seconds)
     with guard:
@@ -60,6 +61,7 @@ def _late(client: Any, request: Any, got: Response) -> None:
             return kept, kept.record
         record = kept.record.answer(kept.record.attempt, heard.answer)
         return Kept(record, kept.operation), record
+
     client._records.update(request.id, taken)
 
 

@@ -26,23 +26,26 @@ NO_TRACES = {
     f"{HEADER}1\trestart\tapplied, 0 changed\t-\t-\t-\t-\n": "line 2 says nothing of an instance",
     f"{HEADER}\n": "line 2 has 1 columns",
     f"{HEADER}1\tsend {ID}\tunknown\tnone\tnone\t-\t-": "the last line doesn't end",
-    f"{HEADER}1\tsend {ID}\tunknown\tnone\tnone\t-\t-\n2\tsend {ID[:-1]}2\tunknown\tnone\tnone\t-\t-\n":
-        "the trace tells of 2 instances",
-    **{f"{HEADER}{line}\n": f"line 2 has no {column} in its place" for column, line in (
-        ("line", f"0\tsend {ID}\tunknown\tnone\tnone\t-\t-"),
-        ("line", f"round 4\tsend {ID}\tunknown\tnone\tnone\t-\t-"),
-        ("event", f"1\tsleep {ID}\tapplied\tnone\tnone\t-\t-"),
-        ("event", "1\tsend\tunknown\tnone\tnone\t-\t-"),
-        ("event", "1\tsend </title><script>\tunknown\tnone\tnone\t-\t-"),
-        ("event", f"1\tdeliver {ID} maybe\tunknown\tnone\tnone\t-\t-"),
-        ("step", f"1\tsend {ID}\tun\x01known\tnone\tnone\t-\t-"),
-        ("step", f"1\tsend {ID}\tappliedly\tnone\tnone\t-\t-"),
-        ("step", f"1\tsend {ID}\tapplied, 1 changed\tnone\tnone\t-\t-"),
-        ("step", "1\trestart\tapplied\tnone\tnone\t-\t-"),
-        ("platform", f"1\tsend {ID}\tunknown\tno\x00ne\tnone\t-\t-"),
-        ("broker", f"1\tsend {ID}\tunknown\tnone\twanted\t-\t-"),
-        ("out", f"1\tsend {ID}\tunknown\tnone\tnone\tbind\t-"),
-        ("answer", f"1\tsend {ID}\tunknown\tnone\tnone\t-\t200-"))},
+    f"{HEADER}1\tsend {ID}\tunknown\tnone\tnone\t-\t-\n2\tsend {ID[:-1]}2\tunknown\tnone\tnone\t-\t-\n": "the trace tells of 2 instances",
+    **{
+        f"{HEADER}{line}\n": f"line 2 has no {column} in its place"
+        for column, line in (
+            ("line", f"0\tsend {ID}\tunknown\tnone\tnone\t-\t-"),
+            ("line", f"round 4\tsend {ID}\tunknown\tnone\tnone\t-\t-"),
+            ("event", f"1\tsleep {ID}\tapplied\tnone\tnone\t-\t-"),
+            ("event", "1\tsend\tunknown\tnone\tnone\t-\t-"),
+            ("event", "1\tsend </title><script>\tunknown\tnone\tnone\t-\t-"),
+            ("event", f"1\tdeliver {ID} maybe\tunknown\tnone\tnone\t-\t-"),
+            ("step", f"1\tsend {ID}\tun\x01known\tnone\tnone\t-\t-"),
+            ("step", f"1\tsend {ID}\tappliedly\tnone\tnone\t-\t-"),
+            ("step", f"1\tsend {ID}\tapplied, 1 changed\tnone\tnone\t-\t-"),
+            ("step", "1\trestart\tapplied\tnone\tnone\t-\t-"),
+            ("platform", f"1\tsend {ID}\tunknown\tno\x00ne\tnone\t-\t-"),
+            ("broker", f"1\tsend {ID}\tunknown\tnone\twanted\t-\t-"),
+            ("out", f"1\tsend {ID}\tunknown\tnone\tnone\tbind\t-"),
+            ("answer", f"1\tsend {ID}\tunknown\tnone\tnone\t-\t200-"),
+        )
+    },
 }
 MEASURE = """(() => {
   const view = document.documentElement.getBoundingClientRect(), wrong = [];

@@ -37,14 +37,21 @@ class Folders:
 
 def application(top: str) -> BrokerApplication:
     locks = FileLocks(f"{top}/locks")  # it makes the folder too
-    broker = BrokerApplication(CATALOGUE, SqliteStore(f"{top}/holdings.sqlite"), Folders(f"{top}/things"), "platform",
-                               os.environ["BROKER_PASSWORD"], lock=locks)
+    broker = BrokerApplication(
+        CATALOGUE,
+        SqliteStore(f"{top}/holdings.sqlite"),
+        Folders(f"{top}/things"),
+        "platform",
+        os.environ["BROKER_PASSWORD"],
+        lock=locks,
+    )
 
     def keep_on() -> None:
         while True:
             with contextlib.suppress(Exception):  # the store's, which requests meet and log too: the next round, then
                 broker.resume()  # what a killed broker left, and what raised an exception
             time.sleep(10)
+
     threading.Thread(target=keep_on, daemon=True).start()
     return broker
 

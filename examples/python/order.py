@@ -22,8 +22,15 @@ def settle(client: Client, id: Id) -> State:
 
 
 records = SqliteRecords(sys.argv[1])
-client = Client(sys.argv[2], "platform", os.environ["BROKER_PASSWORD"], records, organization="an organization",
-                space="a space", seconds=10)
+client = Client(
+    sys.argv[2],
+    "platform",
+    os.environ["BROKER_PASSWORD"],
+    records,
+    organization="an organization",
+    space="a space",
+    seconds=10,
+)
 for left in records.pending():  # what a crash left
     client.give_up(left)
     settle(client, left)

@@ -49,11 +49,13 @@ def main(given: List[str]) -> int:
     if crash.IS_SET:
         store = PointedStore(store)
     worker = BackendWorker(backend)
-    broker = BrokerApplication(document, store, worker, settings.user, password, longest_body=settings.longest_body,
-                               lock=locks)
+    broker = BrokerApplication(
+        document, store, worker, settings.user, password, longest_body=settings.longest_body, lock=locks
+    )
     upkeep = Upkeep(store, locks, worker, broker, settings.workers)
-    server = Server(Front(broker, upkeep.touch), socket,
-                    Limits(settings.threads, settings.longest_body, settings.request_seconds))
+    server = Server(
+        Front(broker, upkeep.touch), socket, Limits(settings.threads, settings.longest_body, settings.request_seconds)
+    )
     upkeep.start(settings.sweep_seconds)
     _log.info("serving", extra={"url": address(socket), "pid": os.getpid()})
     server.run()

@@ -19,8 +19,9 @@ SELECT EXISTS (SELECT FROM pg_roles WHERE rolname = %(name)s),
        EXISTS (SELECT FROM pg_database WHERE datname = %(name)s AND datallowconn AND datconnlimit <> -2)
 """
 
-_OWNER = ("CREATE TABLE IF NOT EXISTS osb_owner "
-          "(one boolean PRIMARY KEY DEFAULT true CHECK (one), store uuid NOT NULL)")
+_OWNER = (
+    "CREATE TABLE IF NOT EXISTS osb_owner " "(one boolean PRIMARY KEY DEFAULT true CHECK (one), store uuid NOT NULL)"
+)
 # A number of our own, for those who make the table at once.
 _OWNER_LOCK = 0x6F73625F6F776E72
 
@@ -69,8 +70,9 @@ class Databases:
         with session.cursor() as cursor:
             cursor.execute(f'DROP DATABASE IF EXISTS "{name}" WITH (FORCE)')
             cursor.execute(f'DROP ROLE IF EXISTS "{name}"')
-            cursor.execute(f'CREATE ROLE "{name}" LOGIN PASSWORD %s',
-                           [pg.scram(session, name, password_of(self._key, id))])
+            cursor.execute(
+                f'CREATE ROLE "{name}" LOGIN PASSWORD %s', [pg.scram(session, name, password_of(self._key, id))]
+            )
             cursor.execute(f'GRANT "{name}" TO CURRENT_USER')
             crash("work-half")
             cursor.execute(f'CREATE DATABASE "{name}" OWNER "{name}" TEMPLATE template0 ALLOW_CONNECTIONS false')

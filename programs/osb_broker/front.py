@@ -51,19 +51,25 @@ class Front:
             status, body = self._answered(environ, start_response, request)
             if instance is not None and _is_unfinished(str(environ["REQUEST_METHOD"]), status, body):
                 self._touch(instance)
-            _log.info("request", extra={"method": str(environ["REQUEST_METHOD"])[:20], "status": status,
-                                        "milliseconds": round((time.monotonic() - began) * 1000, 1)})
+            _log.info(
+                "request",
+                extra={
+                    "method": str(environ["REQUEST_METHOD"])[:20],
+                    "status": status,
+                    "milliseconds": round((time.monotonic() - began) * 1000, 1),
+                },
+            )
             return body
         finally:
             REQUEST.reset(token)
 
-    def _answered(self, environ: Environ, start_response: Callable[..., Any], request: str
-                  ) -> Tuple[int, List[bytes]]:
+    def _answered(self, environ: Environ, start_response: Callable[..., Any], request: str) -> Tuple[int, List[bytes]]:
         said: List[int] = []
 
         def started(line: str, headers: Headers, *rest: Any) -> Any:
             said.append(int(line.split()[0]))
             return start_response(line, [*headers, ("X-Broker-API-Request-Identity", request)], *rest)
+
         answer: Application = _stopping if self.is_stopping else self._application
         body = list(answer(environ, started))
         return said[-1], body
@@ -82,8 +88,11 @@ def _is_unfinished(method: str, status: int, body: List[bytes]) -> bool:
 
 
 def _stopping(environ: Environ, start_response: Callable[..., Any]) -> Iterable[bytes]:
-    return _said(start_response, "503 Service Unavailable",
-                 b'{"description":"The broker is being stopped.","error":"ServiceUnavailable"}')
+    return _said(
+        start_response,
+        "503 Service Unavailable",
+        b'{"description":"The broker is being stopped.","error":"ServiceUnavailable"}',
+    )
 
 
 def _said(start_response: Callable[..., Any], line: str, body: bytes, *headers: Tuple[str, str]) -> Iterable[bytes]:

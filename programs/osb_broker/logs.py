@@ -23,8 +23,12 @@ class Lines(logging.Formatter):
     def format(self, record: logging.LogRecord) -> str:
         """As `logging` has it."""
         seconds = time.strftime("%Y-%m-%dT%H:%M:%S", time.gmtime(record.created))
-        line: Dict[str, Any] = {"time": f"{seconds}.{int(record.msecs):03}Z", "level": record.levelname.lower(),
-                                "event": record.getMessage(), "logger": record.name}
+        line: Dict[str, Any] = {
+            "time": f"{seconds}.{int(record.msecs):03}Z",
+            "level": record.levelname.lower(),
+            "event": record.getMessage(),
+            "logger": record.name,
+        }
         line.update(REQUEST.get())
         line.update((name, value) for name, value in vars(record).items() if name not in _USUAL)
         if record.exc_info:

@@ -54,15 +54,19 @@ class PgStore:
                     raise LostLock(f"the lock of {id} was lost")
             held = _locked(cursor, id)
             if held is None:
-                cursor.execute("INSERT INTO osb_holdings VALUES (%s, %s, false) ON CONFLICT DO NOTHING",
-                               [str(id), Holding.NONE.to_text()])
+                cursor.execute(
+                    "INSERT INTO osb_holdings VALUES (%s, %s, false) ON CONFLICT DO NOTHING",
+                    [str(id), Holding.NONE.to_text()],
+                )
                 held = _locked(cursor, id) or Holding.NONE
             after, given = change(held)
             if after == held:
                 cursor.execute("ROLLBACK")
                 return given
-            cursor.execute("UPDATE osb_holdings SET holding = %s, unfinished = %s WHERE id = %s",
-                           [after.to_text(), after.is_unfinished, str(id)])
+            cursor.execute(
+                "UPDATE osb_holdings SET holding = %s, unfinished = %s WHERE id = %s",
+                [after.to_text(), after.is_unfinished, str(id)],
+            )
             if cursor.rowcount != 1:
                 raise RuntimeError(f"the row of {id} is gone: somebody deletes rows")
             cursor.execute("COMMIT")
@@ -79,8 +83,10 @@ class PgStore:
     def take(self, id: Id, worker: int) -> None:
         """As `WorkersStore` says."""
         with self._sessions.session() as session, session.cursor() as cursor:
-            cursor.execute("INSERT INTO osb_workers VALUES (%s, %s) ON CONFLICT (id) "
-                           "DO UPDATE SET worker = excluded.worker", [str(id), worker])
+            cursor.execute(
+                "INSERT INTO osb_workers VALUES (%s, %s) ON CONFLICT (id) " "DO UPDATE SET worker = excluded.worker",
+                [str(id), worker],
+            )
 
     def name(self) -> Optional[str]:
         """As `NamedStore` says."""

@@ -44,6 +44,7 @@ class PointedStore:
             if step is not None:
                 crash(f"{step}-next")
             return after, given
+
         given = self._store.update(id, pointed)
         if steps[-1] is not None:
             crash(f"{steps[-1]}-written")

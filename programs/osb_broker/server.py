@@ -9,14 +9,13 @@ import time
 from concurrent.futures import ThreadPoolExecutor
 from typing import Any, NamedTuple, Tuple
 
+from osb_broker.front import HEALTH, Front
+from osb_program.addresses import written
 from waitress import wasyncore
 from waitress.channel import HTTPChannel
 from waitress.parser import HTTPRequestParser
 from waitress.server import create_server
 from waitress.utilities import BadRequest, ServerNotImplemented
-
-from osb_broker.front import HEALTH, Front
-from osb_program.addresses import written
 
 _log = logging.getLogger("osb_broker.server")
 
@@ -93,8 +92,7 @@ class _Channel(HTTPChannel):  # type: ignore[misc]
 
 def listening(host: str, port: int, is_shared: bool) -> socket.socket:
     """A socket that listens at the address, where others may too if it is shared. Raises OSError where it can't be."""
-    family, kind, protocol, _, at = socket.getaddrinfo(host, port, type=socket.SOCK_STREAM,
-                                                       flags=socket.AI_PASSIVE)[0]
+    family, kind, protocol, _, at = socket.getaddrinfo(host, port, type=socket.SOCK_STREAM, flags=socket.AI_PASSIVE)[0]
     made = socket.socket(family, kind, protocol)
     try:
         made.setsockopt(socket.SOL_SOCKET, socket.SO_REUSEADDR, 1)
@@ -120,10 +118,19 @@ class Server:
         self._front, self._limits = front, limits
         # a byte more than the broker reads, so that it answers of itself what is too long by little
         self._server = create_server(
-            front, sockets=[at], threads=limits.threads, max_request_body_size=limits.body + (64 << 10),
-            max_request_header_size=32 << 10, channel_timeout=limits.seconds, cleanup_interval=1,
-            connection_limit=limits.connections, asyncore_use_poll=True, ident=None, expose_tracebacks=False,
-            clear_untrusted_proxy_headers=True)
+            front,
+            sockets=[at],
+            threads=limits.threads,
+            max_request_body_size=limits.body + (64 << 10),
+            max_request_header_size=32 << 10,
+            channel_timeout=limits.seconds,
+            cleanup_interval=1,
+            connection_limit=limits.connections,
+            asyncore_use_poll=True,
+            ident=None,
+            expose_tracebacks=False,
+            clear_untrusted_proxy_headers=True,
+        )
         self._server.channel_class = _Channel
         self._in_a_thread = self._server.add_task
         self._server.add_task = self._answer

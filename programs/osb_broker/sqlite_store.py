@@ -43,13 +43,18 @@ class SqliteStore:
         self._waiting: List[_Asked] = []
         self._threads = threading.local()
         self._writer = opened(path, seconds)
-        self._writer.execute("CREATE TABLE IF NOT EXISTS holdings (id TEXT PRIMARY KEY, holding TEXT NOT NULL, "
-                             "unfinished INTEGER NOT NULL) WITHOUT ROWID")
+        self._writer.execute(
+            "CREATE TABLE IF NOT EXISTS holdings (id TEXT PRIMARY KEY, holding TEXT NOT NULL, "
+            "unfinished INTEGER NOT NULL) WITHOUT ROWID"
+        )
         self._writer.execute("CREATE INDEX IF NOT EXISTS unfinished_holdings ON holdings (id) WHERE unfinished")
-        self._writer.execute("CREATE TABLE IF NOT EXISTS workers (id TEXT PRIMARY KEY, worker INTEGER NOT NULL) "
-                             "WITHOUT ROWID")
-        self._writer.execute("CREATE TABLE IF NOT EXISTS store (one INTEGER PRIMARY KEY CHECK (one = 1), "
-                             "name TEXT NOT NULL, is_tied INTEGER NOT NULL DEFAULT 0)")
+        self._writer.execute(
+            "CREATE TABLE IF NOT EXISTS workers (id TEXT PRIMARY KEY, worker INTEGER NOT NULL) " "WITHOUT ROWID"
+        )
+        self._writer.execute(
+            "CREATE TABLE IF NOT EXISTS store (one INTEGER PRIMARY KEY CHECK (one = 1), "
+            "name TEXT NOT NULL, is_tied INTEGER NOT NULL DEFAULT 0)"
+        )
 
     def update(self, id: Id, change: Callable[[Holding], Tuple[Holding, T]]) -> T:
         """As `Store` says."""
@@ -81,8 +86,10 @@ class SqliteStore:
 
     def take(self, id: Id, worker: int) -> None:
         """As `WorkersStore` says."""
-        self._reader().execute("INSERT INTO workers VALUES (?, ?) ON CONFLICT (id) "
-                               "DO UPDATE SET worker = excluded.worker", [str(id), worker])
+        self._reader().execute(
+            "INSERT INTO workers VALUES (?, ?) ON CONFLICT (id) " "DO UPDATE SET worker = excluded.worker",
+            [str(id), worker],
+        )
 
     def name(self) -> Optional[str]:
         """As `NamedStore` says."""
@@ -151,7 +158,8 @@ class SqliteStore:
             self._writer.execute(
                 "INSERT INTO holdings VALUES (?, ?, ?) ON CONFLICT (id) "
                 "DO UPDATE SET holding = excluded.holding, unfinished = excluded.unfinished",
-                [str(asked.id), text, is_unfinished])
+                [str(asked.id), text, is_unfinished],
+            )
 
     def _reader(self) -> sqlite3.Connection:
         """The connection of this thread, which reads what is committed."""

@@ -78,8 +78,10 @@ def tie(store: NamedStore, backend: Backend, must_exist: bool) -> None:
     with store.tying():
         owner = backend.owner()
         if owner is None and (store.is_tied() or not store.is_empty()):
-            raise Parted(f"the store {name} has begun with a backend that keeps its name, and this one keeps none: it "
-                         "is another one, or a copy that isn't whole")
+            raise Parted(
+                f"the store {name} has begun with a backend that keeps its name, and this one keeps none: it "
+                "is another one, or a copy that isn't whole"
+            )
         owner = owner or backend.own(name)
         if owner != name:
             raise Parted(f"the store is {name}, and what is there belongs to the store {owner}")

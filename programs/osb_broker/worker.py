@@ -91,6 +91,11 @@ class BackendWorker:
 def _told(id: Id, what: str, error: Optional[Exception], outcome: Outcome) -> Outcome:
     """The outcome, of which the log has what the backend raised."""
     if error is not None or outcome != Outcome.DONE:
-        _log.error("to %s it failed: the outcome is %s", what, outcome.name.lower(), exc_info=error,
-                   extra={"instance": str(id)})
+        _log.error(
+            "to %s it failed: the outcome is %s",
+            what,
+            outcome.name.lower(),
+            exc_info=error,
+            extra={"instance": str(id)},
+        )
     return outcome

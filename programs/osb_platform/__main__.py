@@ -101,6 +101,7 @@ def _run(asked: argparse.Namespace) -> int:
     def turned() -> None:
         if progress.is_time():
             progress.counts(instances.counts())
+
     with instances.only(asked.worker) as is_only:
         if not is_only:
             raise words.refuse(f"a worker of the name {asked.worker} runs already: name this one with --worker")
@@ -109,8 +110,18 @@ def _run(asked: argparse.Namespace) -> int:
             if known is not None:
                 _see_to_broker(asked, instances)
                 instances.free(asked.worker)
-                worker.run(Parts(client, instances, asked.worker, Pace(asked.pace, asked.longest_pace, asked.late_for),
-                                 Longest(asked.longest_poll, known), progress.changed), asked.once, turned)
+                worker.run(
+                    Parts(
+                        client,
+                        instances,
+                        asked.worker,
+                        Pace(asked.pace, asked.longest_pace, asked.late_for),
+                        Longest(asked.longest_poll, known),
+                        progress.changed,
+                    ),
+                    asked.once,
+                    turned,
+                )
     progress.end()
     return 0
 
@@ -119,8 +130,10 @@ def _see_to_broker(asked: argparse.Namespace, instances: Instances) -> None:
     """The instances of a store are all of one broker: another one would say of each that it is gone."""
     kept = instances.asks(asked.broker.rstrip("/"), asked.moved)
     if kept != asked.broker.rstrip("/"):
-        raise words.refuse(f"the instances of this store are of the broker {kept}: if that is the same one, at another "
-                           "address, say --moved")
+        raise words.refuse(
+            f"the instances of this store are of the broker {kept}: if that is the same one, at another "
+            "address, say --moved"
+        )
 
 
 @contextlib.contextmanager
@@ -145,8 +158,15 @@ def _reader(asked: argparse.Namespace) -> Reader:
 def _client(asked: argparse.Namespace, instances: Instances) -> Client:
     try:
         password = secret("OSB_PLATFORM_PASSWORD", "--password-file", asked.password_file)
-        return Client(asked.broker, asked.user, password, instances, organization=asked.organization,
-                      space=asked.space, seconds=asked.seconds)
+        return Client(
+            asked.broker,
+            asked.user,
+            password,
+            instances,
+            organization=asked.organization,
+            space=asked.space,
+            seconds=asked.seconds,
+        )
     except NoSecret as error:
         raise words.refuse(f"the password at the broker: {error}") from error
     except ValueError as error:
@@ -157,8 +177,12 @@ def _durations(asked: argparse.Namespace, client: Client, worker: Worker) -> Opt
     """How long the plans' instances may be polled, or None where it is to stop before that is known."""
     if asked.catalog is None:
         try:
-            return reached(client.catalogue, asked.seconds if asked.once else None, worker.rest,
-                           lambda why: print(f"waiting for the broker {asked.broker}: {why}", file=sys.stderr))
+            return reached(
+                client.catalogue,
+                asked.seconds if asked.once else None,
+                worker.rest,
+                lambda why: print(f"waiting for the broker {asked.broker}: {why}", file=sys.stderr),
+            )
         except Unreached as error:
             raise words.refuse(f"the broker {asked.broker}: {error}; nothing was sent", 1) from error
     try:

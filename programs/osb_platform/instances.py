@@ -35,7 +35,8 @@ _TABLE = (
     "CREATE TABLE IF NOT EXISTS osb_broker_asked (one integer PRIMARY KEY CHECK (one = 1), url text NOT NULL)",
     # what the page asks for: how many are in each state, the rows of one by time, and what is leased
     "CREATE INDEX IF NOT EXISTS osb_instances_by_state ON osb_instances (state, since, id)",
-    "CREATE INDEX IF NOT EXISTS osb_leased_instances ON osb_instances (leased_until) WHERE worker IS NOT NULL")
+    "CREATE INDEX IF NOT EXISTS osb_leased_instances ON osb_instances (leased_until) WHERE worker IS NOT NULL",
+)
 
 _COLUMNS = "id, service, plan, further, record, operation, state, since, sent_until, polled_since, removal, due, tries"
 
@@ -49,8 +50,7 @@ class Database(Protocol):
     """The same, where rows that others have locked are left out."""
 
     def transaction(self) -> ContextManager[Execute]:
-        """A transaction, which is committed at the end of the block, and then on disk, or rolled back where it raises.
-        """
+        """A transaction, which is committed at the end of the block, and then on disk, or rolled back where it raises."""
         ...
 
     def is_taken(self, error: Exception) -> bool:
@@ -124,8 +124,11 @@ class Instances:
         crash("order-next")
         try:
             with self._database.transaction() as execute:
-                execute(f"INSERT INTO osb_instances ({_COLUMNS}) VALUES (?, ?, ?, ?, NULL, NULL, ?, ?, NULL, NULL, 0, "
-                        "?, 0)", [str(id), str(service), str(plan), further, ORDERED, now, now])
+                execute(
+                    f"INSERT INTO osb_instances ({_COLUMNS}) VALUES (?, ?, ?, ?, NULL, NULL, ?, ?, NULL, NULL, 0, "
+                    "?, 0)",
+                    [str(id), str(service), str(plan), further, ORDERED, now, now],
+                )
         except Exception as error:
             if not self._database.is_taken(error):
                 raise
@@ -148,11 +151,15 @@ class Instances:
         now = self.now()
         crash("claim-next")
         with self._database.transaction() as execute:
-            found = execute("SELECT id FROM osb_instances WHERE due IS NOT NULL AND due <= ? AND (worker IS NULL OR "
-                            f"leased_until < ?) ORDER BY due LIMIT ?{self._database.skipping}", [now, now, most])
+            found = execute(
+                "SELECT id FROM osb_instances WHERE due IS NOT NULL AND due <= ? AND (worker IS NULL OR "
+                f"leased_until < ?) ORDER BY due LIMIT ?{self._database.skipping}",
+                [now, now, most],
+            )
             for (id,) in found:
-                execute("UPDATE osb_instances SET worker = ?, leased_until = ? WHERE id = ?",
-                        [worker, now + seconds, id])
+                execute(
+                    "UPDATE osb_instances SET worker = ?, leased_until = ? WHERE id = ?", [worker, now + seconds, id]
+                )
         if found:
             crash("claim-written")
         return [Id.of(id) for (id,) in found]
@@ -166,8 +173,11 @@ class Instances:
         with self._database.transaction() as execute:
             row = self._locked(execute, id)
             due, tries = next(row, now)
-            execute("UPDATE osb_instances SET worker = NULL, leased_until = NULL, removal = ?, due = ?, tries = ? "
-                    "WHERE id = ? AND worker = ?", [int(_still_asked(row)), due, tries, str(id), worker])
+            execute(
+                "UPDATE osb_instances SET worker = NULL, leased_until = NULL, removal = ?, due = ?, tries = ? "
+                "WHERE id = ? AND worker = ?",
+                [int(_still_asked(row)), due, tries, str(id), worker],
+            )
         crash("release-written")
         return row
 
@@ -185,8 +195,9 @@ class Instances:
             row = self._locked(execute, id)
             if row.state == ORDERED:
                 _leave(execute, row)
-                execute("UPDATE osb_instances SET state = ?, since = ?, removal = 0 WHERE id = ?",
-                        [WITHDRAWN, now, str(id)])
+                execute(
+                    "UPDATE osb_instances SET state = ?, since = ?, removal = 0 WHERE id = ?", [WITHDRAWN, now, str(id)]
+                )
 
     def only(self, worker: str) -> ContextManager[bool]:
         """As `Database` says."""
@@ -213,8 +224,10 @@ class Instances:
     def counts(self) -> Dict[str, int]:
         """How many instances are in each state."""
         with self._database.transaction() as execute:
-            return dict((state, count) for state, count in execute(
-                "SELECT state, count(*) FROM osb_instances GROUP BY state", []))
+            return dict(
+                (state, count)
+                for state, count in execute("SELECT state, count(*) FROM osb_instances GROUP BY state", [])
+            )
 
     def next_due(self) -> Optional[float]:
         """When the next instance is due that nobody has leased, or None."""
@@ -232,9 +245,11 @@ class Instances:
             if row.kept is not None or row.state != ORDERED:
                 raise OsbError(Status.ID_USED, str(id))
             _leave(execute, row)
-            execute("UPDATE osb_instances SET record = ?, operation = ?, state = ?, since = ?, sent_until = ? "
-                    "WHERE id = ?", [kept.record.to_text(), kept.operation, _word(kept.record.state), now,
-                                     now + self._seconds, str(id)])
+            execute(
+                "UPDATE osb_instances SET record = ?, operation = ?, state = ?, since = ?, sent_until = ? "
+                "WHERE id = ?",
+                [kept.record.to_text(), kept.operation, _word(kept.record.state), now, now + self._seconds, str(id)],
+            )
             crash("send-next")
         _sent()
 
@@ -275,8 +290,20 @@ def _instance(row: Tuple[Any, ...]) -> Instance:
     id, service, plan, further, record, operation, *rest = row
     state, since, sent_until, polled_since, removal, due, tries = rest
     kept = None if record is None else Kept(Record.from_text(record), operation)
-    return Instance(Id.of(id), Id.of(service), Id.of(plan), further, kept, state, since, sent_until, polled_since,
-                    bool(removal), due, tries)
+    return Instance(
+        Id.of(id),
+        Id.of(service),
+        Id.of(plan),
+        further,
+        kept,
+        state,
+        since,
+        sent_until,
+        polled_since,
+        bool(removal),
+        due,
+        tries,
+    )
 
 
 def _write(execute: Execute, row: Instance, after: Kept, now: float) -> None:
@@ -285,15 +312,26 @@ def _write(execute: Execute, row: Instance, after: Kept, now: float) -> None:
     polls = after.record.state in (State.POLLING, State.CLEANING_POLLING)
     if is_new:
         _leave(execute, row)
-    execute("UPDATE osb_instances SET record = ?, operation = ?, state = ?, since = ?, polled_since = ? WHERE id = ?",
-            [after.record.to_text(), after.operation, state, now if is_new else row.since,
-             now if is_new and polls else row.polled_since, str(row.id)])
+    execute(
+        "UPDATE osb_instances SET record = ?, operation = ?, state = ?, since = ?, polled_since = ? WHERE id = ?",
+        [
+            after.record.to_text(),
+            after.operation,
+            state,
+            now if is_new else row.since,
+            now if is_new and polls else row.polled_since,
+            str(row.id),
+        ],
+    )
 
 
 def _leave(execute: Execute, row: Instance) -> None:
     """Writes down the state that the row is about to leave. The row is locked, so the number is free."""
-    execute("INSERT INTO osb_lives (id, number, state, since) SELECT ?, coalesce(max(number), 0) + 1, ?, ? "
-            "FROM osb_lives WHERE id = ?", [str(row.id), row.state, row.since, str(row.id)])
+    execute(
+        "INSERT INTO osb_lives (id, number, state, since) SELECT ?, coalesce(max(number), 0) + 1, ?, ? "
+        "FROM osb_lives WHERE id = ?",
+        [str(row.id), row.state, row.since, str(row.id)],
+    )
 
 
 def _word(state: State) -> str:
@@ -302,8 +340,9 @@ def _word(state: State) -> str:
 
 def _still_asked(row: Instance) -> bool:
     """Whether the removal that was asked for hasn't begun."""
-    return row.removal and (row.kept is None or row.kept.record.state not in
-                            (State.CLEANING, State.CLEANING_POLLING, State.GONE))
+    return row.removal and (
+        row.kept is None or row.kept.record.state not in (State.CLEANING, State.CLEANING_POLLING, State.GONE)
+    )
 
 
 def _step(before: Optional[Kind], after: Optional[Kind]) -> str:

@@ -5,7 +5,6 @@ from typing import NamedTuple, Optional
 
 from osb import State
 
-
 LONGEST_NAMED = 3600
 """The most seconds for which the Retry-After of one answer is kept to, which a gateway may have given: an hour."""
 

@@ -37,7 +37,8 @@ _REFUSALS = {
     HTTPStatus.NOT_FOUND: "There is no such page, or no instance of this id.",
     HTTPStatus.METHOD_NOT_ALLOWED: "This page only reads: it takes GET and HEAD alone.",
     HTTPStatus.MISDIRECTED_REQUEST: "This page answers at the address alone at which it listens.",
-    HTTPStatus.SERVICE_UNAVAILABLE: "The store can't be read now. The program's log has more."}
+    HTTPStatus.SERVICE_UNAVAILABLE: "The store can't be read now. The program's log has more.",
+}
 
 
 class Answer(NamedTuple):
@@ -55,8 +56,10 @@ class Page:
         style, script = (Path(__file__).with_name(it).read_text(encoding="utf-8") for it in ("page.css", "page.js"))
         self._reader, self._frame = reader, Frame(broker, style, script)
         # No script, no style and nothing else is loaded, but what stands in the page and has these hashes.
-        self.policy = (f"default-src 'none'; style-src '{_hash(style)}'; script-src '{_hash(script)}'; "
-                       "connect-src 'self'; form-action 'self'; base-uri 'none'; frame-ancestors 'none'")
+        self.policy = (
+            f"default-src 'none'; style-src '{_hash(style)}'; script-src '{_hash(script)}'; "
+            "connect-src 'self'; form-action 'self'; base-uri 'none'; frame-ancestors 'none'"
+        )
 
     def answer(self, target: str) -> Answer:
         """What is at the target now."""
@@ -105,8 +108,9 @@ class _Server(ThreadingHTTPServer):
         self.page, self.host = page, host
         self._free, self._is_ending = threading.Semaphore(_THREADS), threading.Event()
         try:
-            self.address_family, *_, at = socket.getaddrinfo(host, port, type=socket.SOCK_STREAM,
-                                                             flags=socket.AI_PASSIVE)[0]
+            self.address_family, *_, at = socket.getaddrinfo(
+                host, port, type=socket.SOCK_STREAM, flags=socket.AI_PASSIVE
+            )[0]
         except UnicodeError as error:
             raise OSError("its host is no name") from error
         super().__init__((str(at[0]), int(at[1])), _Handler)
@@ -189,11 +193,17 @@ class _Handler(BaseHTTPRequestHandler):
         self.send_response(answer.status)
         if answer.status == HTTPStatus.METHOD_NOT_ALLOWED:
             self.send_header("Allow", "GET, HEAD")
-        for name, value in (("Content-Type", "text/html; charset=utf-8"), ("Content-Length", str(len(answer.body))),
-                            ("Cache-Control", "no-store"), ("Content-Security-Policy", self.server.page.policy),
-                            ("X-Content-Type-Options", "nosniff"), ("Referrer-Policy", "no-referrer"),
-                            ("Cross-Origin-Opener-Policy", "same-origin"),
-                            ("Cross-Origin-Resource-Policy", "same-origin"), ("Connection", "close")):
+        for name, value in (
+            ("Content-Type", "text/html; charset=utf-8"),
+            ("Content-Length", str(len(answer.body))),
+            ("Cache-Control", "no-store"),
+            ("Content-Security-Policy", self.server.page.policy),
+            ("X-Content-Type-Options", "nosniff"),
+            ("Referrer-Policy", "no-referrer"),
+            ("Cross-Origin-Opener-Policy", "same-origin"),
+            ("Cross-Origin-Resource-Policy", "same-origin"),
+            ("Connection", "close"),
+        ):
             self.send_header(name, value)
         self.end_headers()
         if self.command != "HEAD":

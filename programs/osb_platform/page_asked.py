@@ -26,7 +26,7 @@ def read(target: str) -> Union[Asked, One, None]:
         parts = urlsplit(target)
         given = parse_qs(parts.query, keep_blank_values=True, max_num_fields=10)
         if parts.path.startswith(_INSTANCE):
-            return One(str(Id.of(parts.path[len(_INSTANCE):])), "still" in given)
+            return One(str(Id.of(parts.path[len(_INSTANCE) :])), "still" in given)
         return _asked(given) if parts.path == "/" else None
     except (ValueError, OsbError):
         return None
@@ -61,8 +61,15 @@ def _asked(given: Dict[str, List[str]]) -> Asked:
     state, find = _one(given, "state"), (_one(given, "find") or "").strip()
     if state not in (None, IN_FLIGHT, *STATES) or len(find) > _LONGEST_FIND:
         raise ValueError
-    return Asked(state, find, _one(given, "order") == "longest", _place(_one(given, "after")),
-                 _place(_one(given, "before")), _one(given, "page") == "last", "still" in given)
+    return Asked(
+        state,
+        find,
+        _one(given, "order") == "longest",
+        _place(_one(given, "after")),
+        _place(_one(given, "before")),
+        _one(given, "page") == "last",
+        "still" in given,
+    )
 
 
 def _one(given: Dict[str, List[str]], name: str) -> Optional[str]:

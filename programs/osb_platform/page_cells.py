@@ -12,8 +12,14 @@ from osb_platform.tell import moment
 def table(caption: str, names: Sequence[str], rows: List[Html], kind: str = "") -> Html:
     """A table. The roles keep it one where the style has its rows as blocks, as on a phone."""
     head = element("tr", [element("th", it, scope="col", role="columnheader") for it in names], role="row")
-    return element("table", element("caption", caption), element("thead", head, role="rowgroup"),
-                   element("tbody", rows, role="rowgroup"), role="table", class_=kind or None)
+    return element(
+        "table",
+        element("caption", caption),
+        element("thead", head, role="rowgroup"),
+        element("tbody", rows, role="rowgroup"),
+        role="table",
+        class_=kind or None,
+    )
 
 
 def row(*cells: Html) -> Html:
@@ -79,8 +85,14 @@ def whole(life: List[Span], now: float) -> Html:
     rows = []
     for span, until in zip(life, [*(it.since for it in life[1:]), None]):
         lasted = f"{lasting(now - span.since)} until now" if until is None else lasting(until - span.since)
-        rows.append(row(head(f"{span.number:,}"), cell("State", state(span.state)), cell("Since", at(span.since)),
-                        cell("For", lasted)))
+        rows.append(
+            row(
+                head(f"{span.number:,}"),
+                cell("State", state(span.state)),
+                cell("Since", at(span.since)),
+                cell("For", lasted),
+            )
+        )
     earlier = life[0].number - 1
     caption = counted(life[-1].number, "state") + (f", of which the first {earlier:,} aren't shown" if earlier else "")
     return table(caption, ("Number", "State", "Since", "For"), rows, "whole")

@@ -29,11 +29,13 @@ class PgDatabase:
     def transaction(self) -> Iterator[Execute]:
         """As `Database` says."""
         with self._sessions.session() as session, session.cursor() as cursor:
+
             def execute(statement: str, values: Sequence[Any]) -> List[Tuple[Any, ...]]:
                 if statement.startswith("CREATE TABLE"):
                     cursor.execute("SELECT pg_advisory_xact_lock(%s)", [_TABLE_LOCK])
                 cursor.execute(statement.replace("?", "%s"), values)
                 return [] if cursor.description is None else list(cursor.fetchall())
+
             cursor.execute("BEGIN")
             yield execute
             cursor.execute("COMMIT")
@@ -72,9 +74,11 @@ class PgReader:
     def reading(self) -> Iterator[Reading]:
         """As `Reader` says."""
         with self._sessions.session() as session, session.cursor() as cursor:
+
             def execute(statement: str, values: Sequence[Any]) -> List[Tuple[Any, ...]]:
                 cursor.execute(statement.replace("?", "%s"), values)
                 return list(cursor.fetchall())
+
             cursor.execute("BEGIN TRANSACTION ISOLATION LEVEL REPEATABLE READ READ ONLY")
             cursor.execute("SET LOCAL statement_timeout = '10s'")
             ((now,),) = execute("SELECT extract(epoch FROM clock_timestamp())::double precision", [])

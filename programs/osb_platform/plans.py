@@ -21,8 +21,12 @@ def durations(document: bytes) -> Durations:
     read = json.loads(document)
     if not isinstance(read, dict) or not isinstance(read.get("services"), list):
         raise ValueError("it has no list of services")
-    return {(Id.of(service["id"]), Id.of(plan["id"])): float(min(plan["maximum_polling_duration"], _MOST))
-            for service in read["services"] for plan in _plans(service) if _names_one(service, plan)}
+    return {
+        (Id.of(service["id"]), Id.of(plan["id"])): float(min(plan["maximum_polling_duration"], _MOST))
+        for service in read["services"]
+        for plan in _plans(service)
+        if _names_one(service, plan)
+    }
 
 
 class Longest(NamedTuple):

@@ -20,8 +20,9 @@ class Unreached(Exception):
     """The broker wasn't reached in the time that there was, or refuses this platform; the text says which."""
 
 
-def reached(ask: Ask, seconds: Optional[float], rest: Callable[[float], bool], tell: Callable[[str], None]
-            ) -> Optional[Durations]:
+def reached(
+    ask: Ask, seconds: Optional[float], rest: Callable[[float], bool], tell: Callable[[str], None]
+) -> Optional[Durations]:
     """Asks for the catalogue until it comes, for about so many seconds at most where any are named, and gives the
     durations that its plans name. `ask` is `osb.client.Client.catalogue`. `rest` waits for so many seconds, and says
     whether it is to stop: then there is None. `tell` is told why it hasn't come, once for each reason. Raises

@@ -27,8 +27,9 @@ MOST_LEASED = 4096
 IN_FLIGHT = "in-flight"
 """What is asked for in the place of a state where it is what has a request in flight."""
 
-_COLUMNS = ("id, service, plan, state, since, record, operation, polled_since, removal, due, tries, worker, "
-            "leased_until")
+_COLUMNS = (
+    "id, service, plan, state, since, record, operation, polled_since, removal, due, tries, worker, " "leased_until"
+)
 
 
 class Reading(NamedTuple):
@@ -144,8 +145,9 @@ class Whole(NamedTuple):
 def overview(reader: Reader, asked: Asked) -> Overview:
     """What is asked for, with what is told of all."""
     with reader.reading() as (execute, now):
-        counts = dict((state, count) for state, count in execute(
-            "SELECT state, count(*) FROM osb_instances GROUP BY state", []))
+        counts = dict(
+            (state, count) for state, count in execute("SELECT state, count(*) FROM osb_instances GROUP BY state", [])
+        )
         flights, are_more = _flights(execute)
         waiting = _rows(execute, _Sought("state = ?", ["unsettled"], _BY_TIME, False), None, False, SHORT)
         listed = _slice(flights, asked) if asked.state == IN_FLIGHT else _page(execute, asked, counts)
@@ -222,7 +224,9 @@ def _rows(execute: Execute, sought: _Sought, at: Optional[Place], is_back: bool,
     parts: List[Tuple[str, List[Any]]] = [(f" AND state = ?{beyond}", [it]) for it in sought.states] or [(beyond, [])]
     statement = " UNION ALL ".join(
         f"SELECT * FROM (SELECT {_COLUMNS} FROM osb_instances WHERE {sought.where}{further} ORDER BY {order} LIMIT "
-        f"{most}) AS part" for further, _ in parts)
+        f"{most}) AS part"
+        for further, _ in parts
+    )
     values = [value for _, own in parts for value in (*sought.values, *own, *place)]
     found = [_seen(it) for it in execute(f"{statement} ORDER BY {order} LIMIT {most}", values)]
     return found[::-1] if is_back else found
@@ -230,14 +234,15 @@ def _rows(execute: Execute, sought: _Sought, at: Optional[Place], is_back: bool,
 
 def _beyond(keys: Tuple[str, ...], at: Place, is_down: bool) -> Tuple[str, List[Any]]:
     """The condition that a row comes after the place."""
-    sign, values = "<" if is_down else ">", list(at)[-len(keys):]
+    sign, values = "<" if is_down else ">", list(at)[-len(keys) :]
     return f" AND ({', '.join(keys)}) {sign} ({', '.join('?' for _ in keys)})", values
 
 
 def _counted(execute: Execute, sought: _Sought, further: str, values: List[Any]) -> int:
     """How many there are, of those of which the further condition holds."""
-    ((count,),) = execute(f"SELECT count(*) FROM osb_instances WHERE {sought.where}{further}",
-                          [*sought.values, *values])
+    ((count,),) = execute(
+        f"SELECT count(*) FROM osb_instances WHERE {sought.where}{further}", [*sought.values, *values]
+    )
     return int(count)
 
 
@@ -245,8 +250,11 @@ def _flights(execute: Execute) -> Tuple[List[Seen], bool]:
     """Those in flight, and whether there may be more. A lease that has run out may be that of a slow worker, or of one
     that is dead: the request is in flight until it is given up.
     """
-    found = execute(f"SELECT {_COLUMNS} FROM osb_instances WHERE worker IS NOT NULL ORDER BY leased_until, id "
-                    f"LIMIT {MOST_LEASED}", [])
+    found = execute(
+        f"SELECT {_COLUMNS} FROM osb_instances WHERE worker IS NOT NULL ORDER BY leased_until, id "
+        f"LIMIT {MOST_LEASED}",
+        [],
+    )
     return [it for it in map(_seen, found) if it.out is not None], len(found) == MOST_LEASED
 
 
@@ -259,14 +267,16 @@ def _slice(rows: List[Seen], asked: Asked) -> Listed:
         first = max(0, ids.index(asked.before.id) - SIZE)
     else:
         first = ids.index(asked.after.id) + 1 if asked.after is not None and asked.after.id in ids else 0
-    return Listed(rows[first:first + SIZE], len(rows), first)
+    return Listed(rows[first : first + SIZE], len(rows), first)
 
 
 def _lives(execute: Execute, rows: List[Seen], most: int) -> Dict[str, List[Span]]:
     """The life of each: at most so many states that it has left, the last ones, and then the one in which it is."""
     lives: DefaultDict[str, List[Span]] = defaultdict(list)
-    part = ("SELECT * FROM (SELECT id, number, state, since FROM osb_lives WHERE id = ? ORDER BY number DESC LIMIT "
-            f"{most}) AS part")
+    part = (
+        "SELECT * FROM (SELECT id, number, state, since FROM osb_lives WHERE id = ? ORDER BY number DESC LIMIT "
+        f"{most}) AS part"
+    )
     if rows:
         found = execute(" UNION ALL ".join([part] * len(rows)), [it.id for it in rows])
         for id, *span in sorted(found):

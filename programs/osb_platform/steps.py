@@ -92,8 +92,9 @@ def _before_sending(parts: Parts, row: Instance, record: Record) -> Record:
     return record
 
 
-def _next(parts: Parts, before: Instance, row: Instance, named: Optional[int], now: float
-          ) -> Tuple[Optional[float], int]:
+def _next(
+    parts: Parts, before: Instance, row: Instance, named: Optional[int], now: float
+) -> Tuple[Optional[float], int]:
     """When the next step of the row is due, and how many requests in turn have changed nothing until then."""
     if row.state == WITHDRAWN or row.kept is not None and not row.kept.is_pending and not row.removal:
         return None, 0

@@ -18,8 +18,9 @@ def lines(rows: List[Instance], is_terminal: bool) -> List[str]:
     cells = [(str(row.id), row.state, moment(row.since), str(row.service), str(row.plan)) for row in rows]
     if not is_terminal:
         return ["\t".join(it) for it in cells]
-    return [" ".join(cell.ljust(width) for cell, width in zip(it, (36, 16, 20, 36, 36))).rstrip()
-            for it in [_HEAD, *cells]]
+    return [
+        " ".join(cell.ljust(width) for cell, width in zip(it, (36, 16, 20, 36, 36))).rstrip() for it in [_HEAD, *cells]
+    ]
 
 
 def waiting(rows: List[Instance]) -> Optional[str]:
@@ -28,14 +29,21 @@ def waiting(rows: List[Instance]) -> Optional[str]:
     if not unsettled:
         return None
     since = moment(min(row.since for row in unsettled))
-    return (f"{len(unsettled)} unsettled, the first since {since}: ask the broker what it has of each, and remove "
-            "those that are yours")
+    return (
+        f"{len(unsettled)} unsettled, the first since {since}: ask the broker what it has of each, and remove "
+        "those that are yours"
+    )
 
 
 def members(row: Instance) -> List[Tuple[str, str]]:
     """What is known of an instance, each with its name."""
-    known = [("id", str(row.id)), ("state", row.state), ("since", moment(row.since)), ("service", str(row.service)),
-             ("plan", str(row.plan))]
+    known = [
+        ("id", str(row.id)),
+        ("state", row.state),
+        ("since", moment(row.since)),
+        ("service", str(row.service)),
+        ("plan", str(row.plan)),
+    ]
     if row.removal:
         known.append(("asked", _ASKED))
     if row.due is not None:

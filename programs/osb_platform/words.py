@@ -49,13 +49,15 @@ def refuse(said: str, status: int = 2) -> SystemExit:
 
 def _parser() -> argparse.ArgumentParser:
     shape = argparse.RawDescriptionHelpFormatter
-    parser = argparse.ArgumentParser(_PROGRAM, description=_DESCRIPTION, epilog=_EPILOGUE, allow_abbrev=False,
-                                     formatter_class=shape)
+    parser = argparse.ArgumentParser(
+        _PROGRAM, description=_DESCRIPTION, epilog=_EPILOGUE, allow_abbrev=False, formatter_class=shape
+    )
     commands = parser.add_subparsers(dest="command", metavar="COMMAND", required=True)
     kept = _kept()
 
     def command(name: str, text: str) -> argparse.ArgumentParser:
         return commands.add_parser(name, help=text, description=text, parents=[kept], allow_abbrev=False)
+
     _create(command("create", "order an instance, and print its id"))
     command("remove", "have an instance deleted").add_argument("id", type=id_of, metavar="ID")
     listed = command("list", "list the instances, tab-parted into a pipe: id, state, since, service, plan")
@@ -64,9 +66,13 @@ def _parser() -> argparse.ArgumentParser:
     run = command("run", "send what is due, until SIGTERM")
     _broker(run)
     _pace(run)
-    run.add_argument("--page", type=address_of, metavar="HOST:PORT",
-                     help="show the instances to a browser there, as at 127.0.0.1:8090, until the run ends; the port 0 "
-                          "is any that is free. The page only reads, and has no password")
+    run.add_argument(
+        "--page",
+        type=address_of,
+        metavar="HOST:PORT",
+        help="show the instances to a browser there, as at 127.0.0.1:8090, until the run ends; the port 0 "
+        "is any that is free. The page only reads, and has no password",
+    )
     return parser
 
 
@@ -76,8 +82,12 @@ STATES = ("ordered", "withdrawn", "wanted", "polling", "ready", "cleaning", "cle
 def _kept() -> argparse.ArgumentParser:
     home = Path(os.environ.get("XDG_STATE_HOME") or Path.home() / ".local" / "state")
     kept = argparse.ArgumentParser(add_help=False)
-    kept.add_argument("--store", default=str(home / "osb-platform" / "instances.sqlite"), metavar="FILE|URL",
-                      help="where instances are kept: a file of SQLite, or postgresql://.. (%(default)s)")
+    kept.add_argument(
+        "--store",
+        default=str(home / "osb-platform" / "instances.sqlite"),
+        metavar="FILE|URL",
+        help="where instances are kept: a file of SQLite, or postgresql://.. (%(default)s)",
+    )
     return kept
 
 
@@ -85,42 +95,76 @@ def _create(create: argparse.ArgumentParser) -> None:
     create.add_argument("--service", type=id_of, required=True, metavar="ID", help="the service's id")
     create.add_argument("--plan", type=id_of, required=True, metavar="ID", help="the plan's id")
     create.add_argument("--id", type=id_of, metavar="ID", help="the instance's, which nobody has used (a new one)")
-    create.add_argument("--parameters", type=Path, metavar="FILE",
-                        help="a file with an object, which the broker is sent as parameters; it is kept in the store")
+    create.add_argument(
+        "--parameters",
+        type=Path,
+        metavar="FILE",
+        help="a file with an object, which the broker is sent as parameters; it is kept in the store",
+    )
 
 
 def _broker(run: argparse.ArgumentParser) -> None:
     run.add_argument("--broker", required=True, metavar="URL", help="the broker's, without /v2")
-    run.add_argument("--moved", action="store_true",
-                     help="the broker is that of the runs before, at another URL. Any other is refused: it would say of "
-                          "each instance that it is gone")
+    run.add_argument(
+        "--moved",
+        action="store_true",
+        help="the broker is that of the runs before, at another URL. Any other is refused: it would say of "
+        "each instance that it is gone",
+    )
     run.add_argument("--user", default="platform", metavar="NAME", help="the platform's at the broker (platform)")
     run.add_argument("--password-file", type=Path, metavar="FILE", help="a file with its password")
-    run.add_argument("--organization", default="osb-platform", metavar="TEXT",
-                     help="the organization_guid that the broker is sent (osb-platform)")
+    run.add_argument(
+        "--organization",
+        default="osb-platform",
+        metavar="TEXT",
+        help="the organization_guid that the broker is sent (osb-platform)",
+    )
     run.add_argument("--space", default="osb-platform", metavar="TEXT", help="the space_guid (osb-platform)")
-    run.add_argument("--catalog", type=Path, metavar="FILE",
-                     help="the broker's catalogue, for the plans' maximum_polling_duration (the broker is asked for it "
-                          "before anything is sent)")
+    run.add_argument(
+        "--catalog",
+        type=Path,
+        metavar="FILE",
+        help="the broker's catalogue, for the plans' maximum_polling_duration (the broker is asked for it "
+        "before anything is sent)",
+    )
 
 
 def _pace(run: argparse.ArgumentParser) -> None:
     run.add_argument("--once", action="store_true", help="do what is due, and end")
-    run.add_argument("--worker", type=_worker, default=_host(), metavar="NAME",
-                     help="this worker's name, for who has several over one store (%(default)s)")
+    run.add_argument(
+        "--worker",
+        type=_worker,
+        default=_host(),
+        metavar="NAME",
+        help="this worker's name, for who has several over one store (%(default)s)",
+    )
     run.add_argument("--threads", type=_count, default=16, metavar="N", help="requests at once (16)")
     run.add_argument("--seconds", type=_seconds, default=60.0, metavar="S", help="how long an exchange may last (60)")
-    run.add_argument("--pace", type=_seconds, default=2.0, metavar="S",
-                     help="until the next request, where the broker names no time (2); it doubles ..")
+    run.add_argument(
+        "--pace",
+        type=_seconds,
+        default=2.0,
+        metavar="S",
+        help="until the next request, where the broker names no time (2); it doubles ..",
+    )
     run.add_argument("--longest-pace", type=_seconds, default=120.0, metavar="S", help=".. up to this (120)")
-    run.add_argument("--longest-poll", type=_seconds, metavar="S",
-                     help="how long an instance is polled before it is given up, and deleted (what its plan names, "
-                          "or a week)")
-    run.add_argument("--late-for", type=_seconds, default=0.0, metavar="S",
-                     help="at a broker that keeps no marks: how long a request may be on its way. Until then no "
-                          "Deprovision follows a Provision")
-    run.add_argument("--look-seconds", type=_seconds, default=1.0, metavar="S",
-                     help="how often it looks for new orders (1)")
+    run.add_argument(
+        "--longest-poll",
+        type=_seconds,
+        metavar="S",
+        help="how long an instance is polled before it is given up, and deleted (what its plan names, " "or a week)",
+    )
+    run.add_argument(
+        "--late-for",
+        type=_seconds,
+        default=0.0,
+        metavar="S",
+        help="at a broker that keeps no marks: how long a request may be on its way. Until then no "
+        "Deprovision follows a Provision",
+    )
+    run.add_argument(
+        "--look-seconds", type=_seconds, default=1.0, metavar="S", help="how often it looks for new orders (1)"
+    )
 
 
 def _host() -> str:

@@ -10,9 +10,14 @@ INSTALL = "apt-get install python3-psycopg2"
 
 # What is kept to in each session, whatever the server, the database or the role has set: commits that are on disk once
 # they return, the isolation that SELECT .. FOR UPDATE is used with, and a lost client that is noticed.
-_SETTINGS = ("SET synchronous_commit = on", "SET default_transaction_isolation = 'read committed'",
-             "SET lock_timeout = '30s'", "SET tcp_keepalives_idle = 30", "SET tcp_keepalives_interval = 10",
-             "SET tcp_keepalives_count = 3")
+_SETTINGS = (
+    "SET synchronous_commit = on",
+    "SET default_transaction_isolation = 'read committed'",
+    "SET lock_timeout = '30s'",
+    "SET tcp_keepalives_idle = 30",
+    "SET tcp_keepalives_interval = 10",
+    "SET tcp_keepalives_count = 3",
+)
 
 
 class Missing(Exception):
@@ -106,8 +111,15 @@ class Sessions:
 
     def opened(self) -> Any:
         """A new session, which whoever asks for it closes."""
-        session = self._module.connect(self._url, connect_timeout=10, keepalives_idle=30, keepalives_interval=10,
-                                       keepalives_count=3, tcp_user_timeout=60000, fallback_application_name="osb")
+        session = self._module.connect(
+            self._url,
+            connect_timeout=10,
+            keepalives_idle=30,
+            keepalives_interval=10,
+            keepalives_count=3,
+            tcp_user_timeout=60000,
+            fallback_application_name="osb",
+        )
         try:
             session.autocommit = True
             with session.cursor() as cursor:

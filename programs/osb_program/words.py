@@ -24,15 +24,18 @@ def id_of(text: str) -> Id:
 
 def count_up_to(most: int, told: str) -> Callable[[str], int]:
     """Reads a number from 1 to the greatest one, which is told so."""
+
     def count(text: str) -> int:
         if not (text.isascii() and text.isdigit()) or not 1 <= int(text) <= most:
             raise argparse.ArgumentTypeError(f"{text!r} is no number from 1 to {told}")
         return int(text)
+
     return count
 
 
 def seconds_up_to(most: float, told: str) -> Callable[[str], float]:
     """Reads a number of seconds above 0, up to the longest, which is told so."""
+
     def seconds(text: str) -> float:
         try:
             number = float(text)
@@ -41,4 +44,5 @@ def seconds_up_to(most: float, told: str) -> Callable[[str], float]:
         if not 0.0 < number <= most:
             raise argparse.ArgumentTypeError(f"{text!r} is no number of seconds up to {told}")
         return number
+
     return seconds

@@ -112,8 +112,9 @@ def _hush() -> None:
         os.dup2(nothing.fileno(), 2)
 
 
-def _work(asked: argparse.Namespace, stack: ExitStack, options: Tuple[str, ...], room: Optional[str], is_replayed: bool
-          ) -> Tuple[work.Outcome, Tuple[Log, ...], str]:
+def _work(
+    asked: argparse.Namespace, stack: ExitStack, options: Tuple[str, ...], room: Optional[str], is_replayed: bool
+) -> Tuple[work.Outcome, Tuple[Log, ...], str]:
     logs = tuple(from_paths(asked.logs))
     with signals.raised():
         program, progress = Program(built(), options), Progress()
@@ -126,8 +127,9 @@ def _work(asked: argparse.Namespace, stack: ExitStack, options: Tuple[str, ...],
     stack.callback(progress.end)
     with signals.raised():
         try:
-            done = work.do(work.Work(logs, program, Room(folder), asked.part_lines, chunk, progress), engine,
-                           is_replayed)
+            done = work.do(
+                work.Work(logs, program, Room(folder), asked.part_lines, chunk, progress), engine, is_replayed
+            )
         except OSError as error:
             raise unwritten(folder, error) from error
     progress.end()
@@ -142,8 +144,11 @@ def _engine(asked: argparse.Namespace, folder: str) -> Engine:
     except Missing:
         if asked.engine == "dask" or asked.scheduler is not None:
             raise Unreplayed(UNABLE, "Dask isn't installed: apt-get install python3-distributed") from None
-        print(f"{words.PROGRAM}: Dask isn't installed (apt-get install python3-distributed): the parts are replayed by "
-              "processes of this machine", file=sys.stderr)
+        print(
+            f"{words.PROGRAM}: Dask isn't installed (apt-get install python3-distributed): the parts are replayed by "
+            "processes of this machine",
+            file=sys.stderr,
+        )
         return Processes(asked.workers)
 
 

@@ -63,9 +63,18 @@ class Dask:
         distributed = self._distributed
         multiprocessing.get_context("spawn").Lock()  # a worker has some: where there can't be one, Dask tells no reason
         self._cluster = distributed.LocalCluster(
-            n_workers=0, threads_per_worker=1, processes=True, memory_limit=0, host=_HERE, security=_keys(distributed),
-            dashboard_address=None, scheduler_kwargs={"dashboard_address": f"{_HERE}:0"},
-            worker_dashboard_address=f"{_HERE}:0", silence_logs=logging.CRITICAL, local_directory=folder)
+            n_workers=0,
+            threads_per_worker=1,
+            processes=True,
+            memory_limit=0,
+            host=_HERE,
+            security=_keys(distributed),
+            dashboard_address=None,
+            scheduler_kwargs={"dashboard_address": f"{_HERE}:0"},
+            worker_dashboard_address=f"{_HERE}:0",
+            silence_logs=logging.CRITICAL,
+            local_directory=folder,
+        )
         self._client = _client(distributed)(self._cluster, timeout=_SECONDS, set_as_default=False)
         self._cluster.scale(workers)
         self._own = workers
@@ -107,8 +116,7 @@ class Dask:
             raise Unreplayed(UNABLE, f"workers died again and again: {error}") from None
 
     def _first(self, running: Set[Any]) -> Set[Any]:
-        """Those that are done, once there are any, or a signal has come. That no worker is left is seen after a while.
-        """
+        """Those that are done, once there are any, or a signal has come. That no worker is left is seen after a while."""
         until = time.monotonic() + _SECONDS
         while True:
             with contextlib.suppress(*_TIMEOUTS), self._client.as_current():

@@ -58,8 +58,13 @@ def write(folder: str, logs: Tuple[Log, ...], outcome: Outcome) -> Divided:
         os.replace(path, Path(folder, f"part-{number:06}.schedule"))
     divided = Divided(folder, logs, outcome.plans, outcome.restarts, tuple(events))
     new = Path(folder, f"{_NAME}.new")
-    about = {"events": events, "logs": [{"gzip": it.is_gzip, "path": it.path, "size": it.size} for it in logs],
-             "plans": divided.plans, "restarts": divided.restarts, "version": 1}
+    about = {
+        "events": events,
+        "logs": [{"gzip": it.is_gzip, "path": it.path, "size": it.size} for it in logs],
+        "plans": divided.plans,
+        "restarts": divided.restarts,
+        "version": 1,
+    }
     new.write_text(json.dumps(about) + "\n", encoding="utf-8")
     os.replace(new, Path(folder, _NAME))
     return divided
@@ -98,8 +103,11 @@ def report(divided: Divided, number: int) -> Report:
     path = str(divided.file(number, "report"))
     found_ = report_in(path)
     if found_.applied + found_.skipped != divided.events[number - 1]:
-        raise Unreplayed(UNREAD, f"{path}: it isn't of this log: it counts {found_.applied + found_.skipped} events, "
-                         f"and its part has {divided.events[number - 1]}")
+        raise Unreplayed(
+            UNREAD,
+            f"{path}: it isn't of this log: it counts {found_.applied + found_.skipped} events, "
+            f"and its part has {divided.events[number - 1]}",
+        )
     return found_
 
 
@@ -119,7 +127,7 @@ def _fault(divided: Divided, number: int) -> Optional[Faulty]:
         if not told:
             return None
         number, fault = int(told[-1][1]) - divided.plans, told[-1][2].decode()
-        lines = schedule.read_bytes().split(b"\n")[divided.plans:-1]
+        lines = schedule.read_bytes().split(b"\n")[divided.plans : -1]
     except OSError as error:
         raise Unreplayed(UNREAD, f"{error.filename}: read failed: {reason(error)}") from error
     if not 0 < number <= len(lines) or name_in(lines[number - 1]) is None:

@@ -66,8 +66,13 @@ class Processes:
                 running.clear()
                 self.close()
 
-    def _begin(self, task: Callable[[Given], Result], waiting: Iterator[Given], again: List[Given],
-               running: Dict[Future[Result], Given]) -> None:
+    def _begin(
+        self,
+        task: Callable[[Given], Result],
+        waiting: Iterator[Given],
+        again: List[Given],
+        running: Dict[Future[Result], Given],
+    ) -> None:
         """Has so many tasks run that no worker waits for one."""
         while len(running) < self._workers + 1:
             if not again:

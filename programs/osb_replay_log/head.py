@@ -44,4 +44,4 @@ def head_of(logs: Sequence[Log], most: int, chunk: int) -> Head:
 def body_of(logs: Sequence[Log], head: Head, chunk: int) -> List[Stretch]:
     """All that stands behind the head."""
     begins = [head.offset] + [0] * len(logs)
-    return [stretch for log, begin in zip(logs[head.log:], begins) for stretch in stretches(log, begin, chunk)]
+    return [stretch for log, begin in zip(logs[head.log :], begins) for stretch in stretches(log, begin, chunk)]

@@ -142,4 +142,3 @@ def numbered(logs: Sequence[Log], chunk: int) -> Iterator[Numbered]:
 def from_paths(paths: Iterable[str]) -> List[Log]:
     """The files of these names, in this order."""
     return [found(path) for path in paths]
-

@@ -30,8 +30,7 @@ class Parting(NamedTuple):
 
 
 class Parted(NamedTuple):
-    """What came of it: how many spool files, lines of any kind, and restarts; and whether it was left at an odd line.
-    """
+    """What came of it: how many spool files, lines of any kind, and restarts; and whether it was left at an odd line."""
 
     pieces: int
     lines: int

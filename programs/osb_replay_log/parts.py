@@ -17,8 +17,7 @@ from osb_replay_log.spool import Room, Share, shares
 
 
 class Bucket(NamedTuple):
-    """What a worker is given: a bucket's number, how many pieces each stretch has, and how many restarts all have.
-    """
+    """What a worker is given: a bucket's number, how many pieces each stretch has, and how many restarts all have."""
 
     room: Room
     number: int

@@ -23,7 +23,7 @@ def first_fault(logs: Sequence[Log], found: Sequence[Faulty], judge: Judge, chun
         fault: Optional[str] = None
         if name is None:
             if is_behind and kind_of(it.text) in (Kind.ODD, Kind.PLAN):
-                fault = judge(it.text[:LONGEST + 1])
+                fault = judge(it.text[: LONGEST + 1])
                 if fault is None:
                     return Unreplayed(UNABLE, f"{logs[it.log].path}: line {it.line}: it isn't known what it is")
         elif name in wanted:

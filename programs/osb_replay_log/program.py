@@ -76,8 +76,12 @@ def _with_its_caller() -> List[str]:
     """
     words = [shutil.which("setpriv") or "", "--pdeathsig", "KILL"]
     try:
-        is_there = subprocess.run([*words, "true"], stdin=subprocess.DEVNULL, stderr=subprocess.DEVNULL,
-                                  check=False).returncode == 0
+        is_there = (
+            subprocess.run(
+                [*words, "true"], stdin=subprocess.DEVNULL, stderr=subprocess.DEVNULL, check=False
+            ).returncode
+            == 0
+        )
     except OSError:
         is_there = False
     return words if is_there else []

@@ -72,7 +72,7 @@ def _head(file: BinaryIO, begin: int, end: int) -> bytes:
 def _is_whole(file: BinaryIO, counts: List[bytes], record: int, end: int) -> bool:
     """Whether both counts stand there, and the record, if there is one, is whole."""
     words = [(b"applied ", counts[0]), (b"skipped ", counts[1] if len(counts) == 3 else b"")]
-    if not all(line.startswith(word) and line[len(word):].isdigit() for word, line in words) or counts[2]:
+    if not all(line.startswith(word) and line[len(word) :].isdigit() for word, line in words) or counts[2]:
         return False
     tail = _RECORD_END + b"\n"
     return end < 0 or (end - record >= len(_RECORD + tail) and _head(file, end - len(tail), end) == tail)
@@ -137,7 +137,7 @@ def stepped(parts: Sequence[Bytes], separator: bytes, folder: Path) -> List[Byte
             path = folder / f"merged-{separator.hex()}-{step}-{at}"
             with open(path, "wb") as file:
                 first = True
-                for block in merged(parts[at:at + MOST_OPEN], separator):
+                for block in merged(parts[at : at + MOST_OPEN], separator):
                     file.write((b"" if first else separator) + separator.join(block))
                     first = False
             files.append(Bytes(str(path), 0, path.stat().st_size))
@@ -150,8 +150,11 @@ def _ascending(last: bytes, block: Sequence[bytes], reports: Sequence[Report]) -
     ids = [line.partition(b" ")[0] for line in block]
     if ids[0] <= last or len(set(ids)) < len(ids):
         twice = ids[0] if ids[0] <= last else next(it for it, other in zip(ids, ids[1:]) if it == other)
-        raise Unreplayed(UNREAD, f"{_last_with(twice, reports)}: it isn't of this log, or another report isn't: "
-                         f"instance {twice.decode(errors='replace')} stands there twice, or in the wrong place")
+        raise Unreplayed(
+            UNREAD,
+            f"{_last_with(twice, reports)}: it isn't of this log, or another report isn't: "
+            f"instance {twice.decode(errors='replace')} stands there twice, or in the wrong place",
+        )
     return ids[-1]
 
 

@@ -55,26 +55,41 @@ def read(words: List[str]) -> argparse.Namespace:
 
 def _parser() -> argparse.ArgumentParser:
     shape = argparse.RawDescriptionHelpFormatter
-    parser = argparse.ArgumentParser(PROGRAM, description=_DESCRIPTION, epilog=_EPILOGUE, allow_abbrev=False,
-                                     formatter_class=shape)
+    parser = argparse.ArgumentParser(
+        PROGRAM, description=_DESCRIPTION, epilog=_EPILOGUE, allow_abbrev=False, formatter_class=shape
+    )
     commands = parser.add_subparsers(dest="command", metavar="COMMAND", required=True)
 
     def command(name: str, help_: str, text: str) -> argparse.ArgumentParser:
         return commands.add_parser(name, help=help_, description=text, allow_abbrev=False, formatter_class=shape)
+
     replay = command("replay", "replay a log", "Replays a log.")
-    replay.add_argument("--settle", action="store_true", help="as osb-replay has it: what is reported is how each "
-                        "instance stands after three rounds in which nothing is lost")
+    replay.add_argument(
+        "--settle",
+        action="store_true",
+        help="as osb-replay has it: what is reported is how each "
+        "instance stands after three rounds in which nothing is lost",
+    )
     _saved(replay)
-    _workers(replay, "where the spool is kept, as large as the log: a folder in it, which is removed at the end (the "
-             "system's for temporary files)")
+    _workers(
+        replay,
+        "where the spool is kept, as large as the log: a folder in it, which is removed at the end (the "
+        "system's for temporary files)",
+    )
     split = command("split", "part a log, for another engine", _SPLIT)
     split.add_argument("--parts", type=_folder, required=True, metavar="DIR", help="a new folder, or an empty one")
-    _workers(split, "where the spool is kept, as large as the log: a folder in it, on the same file system as DIR, "
-             "which is removed at the end (DIR)")
+    _workers(
+        split,
+        "where the spool is kept, as large as the log: a folder in it, on the same file system as DIR, "
+        "which is removed at the end (DIR)",
+    )
     merge = command("merge", "merge the reports of such parts", _MERGE)
     _saved(merge)
-    _room(merge, "where more than 200 reports are merged in steps, as large as all of them: a folder in it, which is "
-          "removed at the end (the system's for temporary files)")
+    _room(
+        merge,
+        "where more than 200 reports are merged in steps, as large as all of them: a folder in it, which is "
+        "removed at the end (the system's for temporary files)",
+    )
     merge.add_argument("parts", metavar="DIR", help="the folder of 'split'")
     return parser
 
@@ -99,19 +114,39 @@ def _address(text: str) -> str:
 
 
 def _workers(parser: argparse.ArgumentParser, room: str) -> None:
-    parser.add_argument("--workers", type=_count(1, 1024), default=len(os.sched_getaffinity(0)), metavar="N",
-                        help="workers of this machine (as many as it has processors: %(default)s)")
-    parser.add_argument("--scheduler", type=_address, metavar="ADDRESS",
-                        help="the workers of this scheduler of Dask, as tcp://10.0.0.1:8786, in their place. The logs, "
-                        "the room and the program osb-replay have to be at the same paths for all of them")
-    parser.add_argument("--engine", choices=("dask", "processes"),
-                        help="whose workers of this machine (Dask's, where it is installed)")
+    parser.add_argument(
+        "--workers",
+        type=_count(1, 1024),
+        default=len(os.sched_getaffinity(0)),
+        metavar="N",
+        help="workers of this machine (as many as it has processors: %(default)s)",
+    )
+    parser.add_argument(
+        "--scheduler",
+        type=_address,
+        metavar="ADDRESS",
+        help="the workers of this scheduler of Dask, as tcp://10.0.0.1:8786, in their place. The logs, "
+        "the room and the program osb-replay have to be at the same paths for all of them",
+    )
+    parser.add_argument(
+        "--engine", choices=("dask", "processes"), help="whose workers of this machine (Dask's, where it is installed)"
+    )
     _room(parser, room)
-    parser.add_argument("--part-lines", type=_count(1, 100_000), default=100_000, metavar="N",
-                        help="lines of a part at most (%(default)s)")
-    parser.add_argument("--chunk-bytes", type=_count(1, 1 << 30), default=16 << 20, metavar="N",
-                        help="bytes of a log that a worker takes at once, of which it needs about five times as much "
-                        "memory (%(default)s)")
+    parser.add_argument(
+        "--part-lines",
+        type=_count(1, 100_000),
+        default=100_000,
+        metavar="N",
+        help="lines of a part at most (%(default)s)",
+    )
+    parser.add_argument(
+        "--chunk-bytes",
+        type=_count(1, 1 << 30),
+        default=16 << 20,
+        metavar="N",
+        help="bytes of a log that a worker takes at once, of which it needs about five times as much "
+        "memory (%(default)s)",
+    )
     parser.add_argument("logs", nargs="+", metavar="LOG", help="a file of the log")
 
 
@@ -120,4 +155,5 @@ def _count(least: int, most: int) -> Callable[[str], int]:
         if not (text.isascii() and text.isdigit()) or not least <= int(text) <= most:
             raise argparse.ArgumentTypeError(f"{text!r} is no number from {least} to {most}")
         return int(text)
+
     return count

@@ -60,8 +60,7 @@ def judge(program: Program, line: bytes) -> Optional[str]:
 
 
 def estimated(body: Sequence[Stretch], most: int) -> Tuple[int, int]:
-    """Into how many buckets the log is parted, so that a bucket is about half a part, and how many lines it may have.
-    """
+    """Into how many buckets the log is parted, so that a bucket is about half a part, and how many lines it may have."""
     if not body:
         return 1, 1
     found: List[bytes] = [line for it in _samples(body) for line in next(lines_of(it, _FEW), [])]
@@ -74,7 +73,7 @@ def estimated(body: Sequence[Stretch], most: int) -> Tuple[int, int]:
 
 def _samples(body: Sequence[Stretch]) -> Iterator[Stretch]:
     """Some bytes of some stretches: of a gzip file's, those at its beginning."""
-    for it in body[::-(-len(body) // _SAMPLES)]:
+    for it in body[:: -(-len(body) // _SAMPLES)]:
         middle = it.begin if it.log.is_gzip else it.begin + max(0, it.end - it.begin - _FEW) // 2
         yield it._replace(begin=middle, end=min(it.end, middle + _FEW), is_whole=middle == it.begin and it.is_whole)
 
@@ -97,6 +96,7 @@ def _part(work: Work, engine: Engine, plans: int, body: Sequence[Stretch], many:
         for number, stretch in enumerate(body):
             if number < until and restarts + plans <= work.most:
                 yield Parting(work.room, number, stretch, many, work.chunk, work.most)
+
     work.progress.begin()
     for number, parted in engine.each(_numbered, given()):
         found[number] = parted
@@ -111,8 +111,11 @@ def _counted(work: Work, plans: int, parted: List[Parted]) -> List[Parted]:
     """The same, unless there are too many restarts."""
     restarts = sum(it.restarts for it in parted)
     if restarts + plans > work.most:
-        raise Unreplayed(FAULTY, f"{work.logs[0].path}: {restarts} restarts and {plans} plans and more, which stand in "
-                         f"each part, are more than the {work.most} lines of one")
+        raise Unreplayed(
+            FAULTY,
+            f"{work.logs[0].path}: {restarts} restarts and {plans} plans and more, which stand in "
+            f"each part, are more than the {work.most} lines of one",
+        )
     return parted
 
 
@@ -120,14 +123,17 @@ def _numbered(parting: Parting) -> Tuple[int, Parted]:
     return parting.number, part(parting)
 
 
-def _finish(work: Work, engine: Engine, plans: int, parted: Sequence[Parted], many: int, is_replayed: bool
-            ) -> List[Done]:
+def _finish(
+    work: Work, engine: Engine, plans: int, parted: Sequence[Parted], many: int, is_replayed: bool
+) -> List[Done]:
     """What came of each bucket. Where one has a fault, or an odd line was met, the log's first fault is raised."""
     events, restarts = sum(it.events for it in parted), sum(it.restarts for it in parted)
     counts = tuple(it.pieces for it in parted)
     program = work.program if is_replayed else None
-    given = (Bucket(work.room, number, counts, plans, restarts, work.most, not events and not number, program)
-             for number in range(many))
+    given = (
+        Bucket(work.room, number, counts, plans, restarts, work.most, not events and not number, program)
+        for number in range(many)
+    )
     done: List[Done] = []
     replayed = 0
     work.progress.begin()
@@ -138,8 +144,11 @@ def _finish(work: Work, engine: Engine, plans: int, parted: Sequence[Parted], ma
     for it in done:
         if it.large is not None:
             name = it.large.name.decode(errors="replace")
-            raise Unreplayed(FAULTY, f"instance {name} has {it.large.lines} events: with {restarts} restarts and "
-                             f"{plans} plans they are more than the {work.most} lines of a part")
+            raise Unreplayed(
+                FAULTY,
+                f"instance {name} has {it.large.lines} events: with {restarts} restarts and "
+                f"{plans} plans they are more than the {work.most} lines of a part",
+            )
     faulty = [fault for it in done for fault in it.faulty]
     if faulty or any(it.is_odd for it in parted):
         raise fault_of(work.logs, faulty, work.program, work.chunk)

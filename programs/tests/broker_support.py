@@ -79,13 +79,18 @@ class Running(NamedTuple):
             return Reply(response.status, dict(response.getheaders()), json.loads(whole) if whole else None)
 
     def provision(self, id: Id = ONE, plan: Id = AT_ONCE) -> Reply:
-        body = {"service_id": str(SERVICE), "plan_id": str(plan), "organization_guid": "an organization",
-                "space_guid": "a space"}
+        body = {
+            "service_id": str(SERVICE),
+            "plan_id": str(plan),
+            "organization_guid": "an organization",
+            "space_guid": "a space",
+        }
         return self.ask("PUT", f"/v2/service_instances/{id}?accepts_incomplete=true", json.dumps(body).encode())
 
     def deprovision(self, id: Id = ONE, plan: Id = AT_ONCE) -> Reply:
-        return self.ask("DELETE", f"/v2/service_instances/{id}?service_id={SERVICE}&plan_id={plan}"
-                                  "&accepts_incomplete=true")
+        return self.ask(
+            "DELETE", f"/v2/service_instances/{id}?service_id={SERVICE}&plan_id={plan}" "&accepts_incomplete=true"
+        )
 
     def poll(self, id: Id = ONE) -> Reply:
         return self.ask("GET", f"/v2/service_instances/{id}/last_operation")
@@ -103,8 +108,12 @@ class Running(NamedTuple):
 @functools.lru_cache(1)
 def has_waitress() -> bool:
     """Whether there is a Python with which osb-broker runs."""
-    return subprocess.run(["bash", "-c", ". scripts/python.sh && python_with waitress"], cwd=TOP,
-                          stdout=subprocess.DEVNULL).returncode == 0
+    return (
+        subprocess.run(
+            ["bash", "-c", ". scripts/python.sh && python_with waitress"], cwd=TOP, stdout=subprocess.DEVNULL
+        ).returncode
+        == 0
+    )
 
 
 @contextlib.contextmanager

@@ -48,6 +48,7 @@ class FarEnd:
 @contextlib.contextmanager
 def far_end(*said: Said) -> Iterator[FarEnd]:
     """A far end that says these, in turn."""
+
     class Handler(BaseHTTPRequestHandler):
         def do_GET(self) -> None:
             self.rfile.read(int(self.headers.get("Content-Length", "0")))
@@ -63,6 +64,7 @@ def far_end(*said: Said) -> Iterator[FarEnd]:
 
         def log_message(self, *_: object) -> None:
             pass
+
     server = ThreadingHTTPServer(("127.0.0.1", 0), Handler)
     end = FarEnd(f"http://127.0.0.1:{server.server_address[1]}", list(said))
     serving = threading.Thread(target=server.serve_forever, args=[0.01])
@@ -84,8 +86,13 @@ class Clock(SqliteDatabase):
         return self.time
 
 
-def parts(url: str, instances: Instances, pace: Pace = Pace(1.0, 8.0, 0.0), longest: float = 100.0,
-          tell: Optional[List[Instance]] = None) -> Parts:
+def parts(
+    url: str,
+    instances: Instances,
+    pace: Pace = Pace(1.0, 8.0, 0.0),
+    longest: float = 100.0,
+    tell: Optional[List[Instance]] = None,
+) -> Parts:
     client = Client(url, "platform", "secret", instances, organization="o", space="s", seconds=5)
     told: List[Instance] = [] if tell is None else tell
     return Parts(client, instances, WORKER, pace, Longest(longest, {}), told.append)
@@ -96,8 +103,14 @@ def platform(folder: Path, *words: str, password: str = "secret", **environment:
     command, *rest = words
     store = [] if "--store" in words else ["--store", str(folder / "instances.sqlite")]
     given: Dict[str, str] = {**os.environ, "OSB_PLATFORM_PASSWORD": password, **environment}
-    return subprocess.Popen([str(TOP / "osb-platform"), command, *store, *rest], env=given, text=True,
-                            stdin=subprocess.DEVNULL, stdout=subprocess.PIPE, stderr=subprocess.PIPE)
+    return subprocess.Popen(
+        [str(TOP / "osb-platform"), command, *store, *rest],
+        env=given,
+        text=True,
+        stdin=subprocess.DEVNULL,
+        stdout=subprocess.PIPE,
+        stderr=subprocess.PIPE,
+    )
 
 
 def ran(folder: Path, *words: str, password: str = "secret", **environment: str) -> Tuple[int, str, str]:

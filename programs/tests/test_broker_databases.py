@@ -33,6 +33,7 @@ class OfDatabases(InFolder):
 
     def as_customer(self, database: str, statement: str) -> None:
         import psycopg2  # where PostgreSQL is used it is there
+
         name = name_of(self.instance)
         asked: Any = psycopg2.connect(POSTGRESQL, dbname=database, user=name, password=password_of(KEY, self.instance))
         with contextlib.closing(asked) as session, session.cursor() as cursor:
@@ -72,8 +73,9 @@ class OfDatabases(InFolder):
         """Whatever the server, the database or the role has set."""
         with Sessions(f"{POSTGRESQL}?options=-csynchronous_commit%3Doff", 1).session() as session:
             with session.cursor() as cursor:
-                cursor.execute("SELECT current_setting('synchronous_commit'), "
-                               "current_setting('default_transaction_isolation')")
+                cursor.execute(
+                    "SELECT current_setting('synchronous_commit'), " "current_setting('default_transaction_isolation')"
+                )
                 self.assertEqual(cursor.fetchone(), ("on", "read committed"))
 
 

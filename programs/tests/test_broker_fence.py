@@ -97,8 +97,10 @@ class OfSessions(InFolder):
         return name
 
     def end_those_that_lock(self) -> None:
-        self.execute("SELECT pg_terminate_backend(pid, 10000) FROM pg_locks JOIN pg_stat_activity USING (pid) WHERE "
-                     f"locktype = 'advisory' AND granted AND application_name = '{self.folder.name}'")
+        self.execute(
+            "SELECT pg_terminate_backend(pid, 10000) FROM pg_locks JOIN pg_stat_activity USING (pid) WHERE "
+            f"locktype = 'advisory' AND granted AND application_name = '{self.folder.name}'"
+        )
 
     def execute(self, statement: str) -> None:
         with Sessions(POSTGRESQL, 1).session() as session, session.cursor() as cursor:

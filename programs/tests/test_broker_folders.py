@@ -25,10 +25,13 @@ class OfFolders(InFolder):
     def test_life(self) -> None:
         self.assertEqual(self.backend.look(ONE), There.NONE)
         self.backend.make(ONE, ASKED)
-        self.assertEqual((self.backend.look(ONE), self.backend.look(TWO), self.names()),
-                         (There.WHOLE, There.NONE, [str(ONE)]))
-        self.assertEqual(json.loads((self.top / str(ONE) / "instance.json").read_text()),
-                         {"instance": str(ONE), "service": str(SERVICE), "plan": str(AT_ONCE)})
+        self.assertEqual(
+            (self.backend.look(ONE), self.backend.look(TWO), self.names()), (There.WHOLE, There.NONE, [str(ONE)])
+        )
+        self.assertEqual(
+            json.loads((self.top / str(ONE) / "instance.json").read_text()),
+            {"instance": str(ONE), "service": str(SERVICE), "plan": str(AT_ONCE)},
+        )
         self.backend.delete(ONE)
         self.assertEqual((self.backend.look(ONE), self.names()), (There.NONE, []))
 

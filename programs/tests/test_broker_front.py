@@ -45,12 +45,16 @@ class OfFront(InFolder):
     def test_touched(self) -> None:
         """Where an operation has begun, and where work is recorded that may have no worker any more."""
         for method, end, status, body, is_touched in (
-                ("PUT", "", "202 Accepted", b"{}", True), ("DELETE", "", "202 Accepted", b"{}", True),
-                ("PUT", "", "503 Service Unavailable", b"{}", True), ("DELETE", "", "422 Unprocessable", b"{}", True),
-                ("GET", "/last_operation", "200 OK", b'{"state":"in progress"}', True),
-                ("GET", "/last_operation", "200 OK", b'{"state":"succeeded"}', False),
-                ("PUT", "", "201 Created", b"{}", False), ("DELETE", "", "410 Gone", b"{}", False),
-                ("PUT", "", "401 Unauthorized", b"{}", False)):
+            ("PUT", "", "202 Accepted", b"{}", True),
+            ("DELETE", "", "202 Accepted", b"{}", True),
+            ("PUT", "", "503 Service Unavailable", b"{}", True),
+            ("DELETE", "", "422 Unprocessable", b"{}", True),
+            ("GET", "/last_operation", "200 OK", b'{"state":"in progress"}', True),
+            ("GET", "/last_operation", "200 OK", b'{"state":"succeeded"}', False),
+            ("PUT", "", "201 Created", b"{}", False),
+            ("DELETE", "", "410 Gone", b"{}", False),
+            ("PUT", "", "401 Unauthorized", b"{}", False),
+        ):
             self.touched.clear()
             self.status, self.body = status, body
             self.call(method, PATH + end)
@@ -65,8 +69,10 @@ class OfFront(InFolder):
         """The platform's, where it is one; else one that is made up."""
         name = "X-Broker-API-Request-Identity"
         self.assertEqual(self.call("GET", PATH, HTTP_X_BROKER_API_REQUEST_IDENTITY="an-id")[1][name], "an-id")
-        made = {self.call("GET", PATH, HTTP_X_BROKER_API_REQUEST_IDENTITY=it)[1][name]
-                for it in ("", "two words", "a\nline", "\u00fc", "x" * 101)}
+        made = {
+            self.call("GET", PATH, HTTP_X_BROKER_API_REQUEST_IDENTITY=it)[1][name]
+            for it in ("", "two words", "a\nline", "\u00fc", "x" * 101)
+        }
         self.assertEqual([len(it) for it in made], [16] * 5)
 
     def test_log(self) -> None:
@@ -77,16 +83,24 @@ class OfFront(InFolder):
         class Kept(logging.Handler):
             def emit(self, record: logging.LogRecord) -> None:
                 lines.append(Lines().format(record))
+
         logger, handler = logging.getLogger("osb_broker.request"), Kept()
         logger.addHandler(handler)
         logger.propagate = False
         self.addCleanup(logger.removeHandler, handler)
         logger.setLevel(logging.INFO)
-        self.call("PUT", PATH, HTTP_X_BROKER_API_REQUEST_IDENTITY="an-id", HTTP_AUTHORIZATION="Basic secret",
-                  QUERY_STRING="secret")
+        self.call(
+            "PUT",
+            PATH,
+            HTTP_X_BROKER_API_REQUEST_IDENTITY="an-id",
+            HTTP_AUTHORIZATION="Basic secret",
+            QUERY_STRING="secret",
+        )
         line = json.loads(lines[0])
-        self.assertEqual((line["request"], line["instance"], line["status"], line["method"], line["level"]),
-                         ("an-id", str(ONE), 200, "PUT", "info"))
+        self.assertEqual(
+            (line["request"], line["instance"], line["status"], line["method"], line["level"]),
+            ("an-id", str(ONE), 200, "PUT", "info"),
+        )
         self.assertTrue({"time", "event", "milliseconds"} <= set(line))
         self.assertNotIn("secret", lines[0])
 

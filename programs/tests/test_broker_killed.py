@@ -21,9 +21,18 @@ from osb_broker.pg_store import PgStore
 from osb_broker.points import POINTS
 from osb_broker.sqlite_store import SqliteStore
 from osb_program.pg import Sessions
-from tests.broker_support import (AT_ONCE, BY_WORKER, PASSWORD, POSTGRESQL, SERVICE, USER, InFolder, Running, broker,
-                                  held)
-
+from tests.broker_support import (
+    AT_ONCE,
+    BY_WORKER,
+    PASSWORD,
+    POSTGRESQL,
+    SERVICE,
+    USER,
+    InFolder,
+    Running,
+    broker,
+    held,
+)
 
 # The points at which a plan that is made by a worker hasn't been answered yet.
 BEFORE_ANSWER = ("begin-next", "begin-written", "work-next", "end-next", "end-written")
@@ -53,8 +62,9 @@ class Killed(InFolder):
                 it.result()
 
     def client(self, folder: Path, running: Running) -> Client:
-        return Client(running.url, USER, PASSWORD, SqliteRecords(folder / "records"), organization="o", space="s",
-                      seconds=20)
+        return Client(
+            running.url, USER, PASSWORD, SqliteRecords(folder / "records"), organization="o", space="s", seconds=20
+        )
 
     def settle(self, client: Client, id: Id) -> State:
         for _ in range(400):
@@ -96,12 +106,24 @@ class Killed(InFolder):
         self.assertEqual(held(self.store(folder), id), Holding(is_marked=True), point)
 
     def test_at_once(self) -> None:
-        self.all([(point, AT_ONCE, is_deletion) for point in POINTS for is_deletion in (False, True)
-                  if point.startswith(("begin", "end", "work"))])
+        self.all(
+            [
+                (point, AT_ONCE, is_deletion)
+                for point in POINTS
+                for is_deletion in (False, True)
+                if point.startswith(("begin", "end", "work"))
+            ]
+        )
 
     def test_by_worker(self) -> None:
-        self.all([(point, BY_WORKER, is_deletion) for point in POINTS for is_deletion in (False, True)
-                  if not point.startswith(("begin", "mark", "work-done"))])
+        self.all(
+            [
+                (point, BY_WORKER, is_deletion)
+                for point in POINTS
+                for is_deletion in (False, True)
+                if not point.startswith(("begin", "mark", "work-done"))
+            ]
+        )
 
     def test_marks(self) -> None:
         """Killed at the mark that a Deprovision of nothing leaves."""

@@ -35,6 +35,7 @@ class OfLocks(InFolder):
                 inside.append(1)
                 most.append(len(inside))
                 inside.pop()
+
         threads = [threading.Thread(target=work) for _ in range(20)]
         for thread in threads:
             thread.start()

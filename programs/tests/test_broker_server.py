@@ -17,8 +17,18 @@ from pathlib import Path
 from typing import Callable, List, Tuple
 from urllib.parse import urlsplit
 
-from tests.broker_support import (AT_ONCE, BY_WORKER, ONE, PASSWORD, SERVICE, TWO, InFolder, Running, authorization,
-                                  broker)
+from tests.broker_support import (
+    AT_ONCE,
+    BY_WORKER,
+    ONE,
+    PASSWORD,
+    SERVICE,
+    TWO,
+    InFolder,
+    Running,
+    authorization,
+    broker,
+)
 
 COUNT = int(os.environ.get("OSB_TEST_HOSTILE", "500"))
 PATH = f"/v2/service_instances/{ONE}"
@@ -126,8 +136,10 @@ class Life(InFolder):
     def test_end_with_running_work(self) -> None:
         """A deletion and an operation that run when it is told to stop are ended, and answered."""
         slow = self.folder / "slow.py"
-        slow.write_text("import time\nfrom osb_broker.folders import Folders\n\n\nclass Backend(Folders):\n"
-                        "    def make(self, id, request):\n        time.sleep(1)\n        super().make(id, request)\n")
+        slow.write_text(
+            "import time\nfrom osb_broker.folders import Folders\n\n\nclass Backend(Folders):\n"
+            "    def make(self, id, request):\n        time.sleep(1)\n        super().make(id, request)\n"
+        )
         with broker(self.folder, "--backend", str(slow)) as running:
             got: List[int] = []
             asking = threading.Thread(target=lambda: got.append(running.provision().status))
@@ -269,9 +281,14 @@ class Hostile(InFolder):
     def test_what_no_parser_takes(self) -> None:
         """A target and a length that can't be read at all, and an encoding that isn't known."""
         with broker(self.folder) as running:
-            for sent in (head(b"GET", b"http://[a"), head(b"PUT", PATH.encode(), "Content-Length: " + "1" * 5000),
-                         head(b"PUT", PATH.encode(), "Content-Length: -1"), b"\x00\r\n\r\n", b"GET\r\n\r\n",
-                         head(b"PUT", PATH.encode(), "Transfer-Encoding: gzip")):
+            for sent in (
+                head(b"GET", b"http://[a"),
+                head(b"PUT", PATH.encode(), "Content-Length: " + "1" * 5000),
+                head(b"PUT", PATH.encode(), "Content-Length: -1"),
+                b"\x00\r\n\r\n",
+                b"GET\r\n\r\n",
+                head(b"PUT", PATH.encode(), "Transfer-Encoding: gzip"),
+            ):
                 self.assertTrue(400 <= status(raw(running, sent)) < 500, sent)
             self.assertEqual([it for it in running.lines() if it["level"] not in ("info", "debug")], [])
             with connected(running) as connection:
@@ -313,10 +330,11 @@ class Hostile(InFolder):
 
 def wrong(chance: random.Random) -> bytes:
     """A request that no broker does."""
-    junk = bytes(chance.choice(b"\x00\x7f\xff\xc3%?&=/{}[]\"\\.:;+azAZ09 ") for _ in range(chance.randrange(60)))
+    junk = bytes(chance.choice(b'\x00\x7f\xff\xc3%?&=/{}[]"\\.:;+azAZ09 ') for _ in range(chance.randrange(60)))
     ids = f"service_id={SERVICE}&plan_id={AT_ONCE}".encode()
-    body = json.dumps({"service_id": str(SERVICE), "plan_id": str(AT_ONCE), "organization_guid": "o",
-                       "space_guid": "s"}).encode()
+    body = json.dumps(
+        {"service_id": str(SERVICE), "plan_id": str(AT_ONCE), "organization_guid": "o", "space_guid": "s"}
+    ).encode()
     target = PATH.encode()
     kinds: List[Callable[[], Tuple[bytes, bytes, bytes]]] = [
         lambda: (b"GET", b"/" + junk, b""),
@@ -324,11 +342,12 @@ def wrong(chance: random.Random) -> bytes:
         lambda: (b"DELETE", target + b"?" + ids + b"&service_id=" + junk, b""),
         lambda: (b"DELETE", target + b"?accepts_incomplete=x" + junk + b"&" + ids, b""),
         lambda: (b"PUT", target, junk),
-        lambda: (b"PUT", target, body[:chance.randrange(len(body))]),
+        lambda: (b"PUT", target, body[: chance.randrange(len(body))]),
         lambda: (b"PUT", target, body.replace(str(SERVICE).encode(), chance.randbytes(8).hex().encode())),
         lambda: (b"PATCH", target, body),
         lambda: (b"GET", target + b"/last_operation/" + junk, b""),
-        lambda: (b"POST", b"/v2/catalog", junk)]
+        lambda: (b"POST", b"/v2/catalog", junk),
+    ]
     method, at, sent = chance.choice(kinds)()
     length = f"Content-Length: {len(sent)}"
     if chance.random() < 0.2:

@@ -47,8 +47,13 @@ class OfSqlite(InFolder):
 
     def test_unfinished(self) -> None:
         store = self.store()
-        for id, holding in ((Id(0, 1), MAKING), (Id(0, 2), READY), (Id(0, 3), Holding(is_marked=True)),
-                            (Id(0, 4), Holding(work=request(Kind.PROVISION, id=Id(0, 4)))), (Id(0, 5), MAKING)):
+        for id, holding in (
+            (Id(0, 1), MAKING),
+            (Id(0, 2), READY),
+            (Id(0, 3), Holding(is_marked=True)),
+            (Id(0, 4), Holding(work=request(Kind.PROVISION, id=Id(0, 4)))),
+            (Id(0, 5), MAKING),
+        ):
             put(store, holding, id)
         put(store, READY, Id(0, 5))
         self.assertEqual(sorted(store.unfinished()), [Id(0, 1), Id(0, 4)])
@@ -64,7 +69,7 @@ class OfSqlite(InFolder):
 
     def test_workers(self) -> None:
         """Only who is written down writes; whoever says nothing of a worker writes too."""
-        store, greatest = self.store(), 2 ** 63 - 1
+        store, greatest = self.store(), 2**63 - 1
 
         def write(worker: int, id: Id = ONE) -> bool:
             """Whether it is written: MAKING, where that isn't there already."""
@@ -73,6 +78,7 @@ class OfSqlite(InFolder):
             except LostLock:
                 return False
             return True
+
         self.assertFalse(write(1))
         store.take(ONE, 1)
         self.assertTrue(write(1))
@@ -91,7 +97,9 @@ class OfSqlite(InFolder):
             def make(at: int) -> None:
                 def change(holding: Holding) -> Tuple[Holding, bool]:
                     return READY, holding == Holding.NONE
+
                 made.append(stores[at % 3].update(id, change))
+
             threads = [threading.Thread(target=make, args=[at]) for at in range(20)]
             for thread in threads:
                 thread.start()
@@ -128,11 +136,13 @@ class Together(InFolder):
                     raise KeyError(at)
                 seen.append(at)
                 return READY, None
+
             seen: List[int] = []
             try:
                 store.update(Id(9, at), change)
             except KeyError:
                 failed.append(at)
+
         threads = [threading.Thread(target=once, args=[at]) for at in range(40)]
         for thread in threads:
             thread.start()

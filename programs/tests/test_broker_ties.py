@@ -84,6 +84,7 @@ class OfTies(InFolder):
                 said.append("tied")
             except Parted as why:
                 said.append(str(why))
+
         self.store("a").begin(str(uuid.uuid4()))
         running = [threading.Thread(target=begin, args=[name]) for name in ("here", "there")]
         for thread in running:
@@ -112,8 +113,7 @@ class OfTies(InFolder):
         self.assertEqual([things.own("one"), things.own("two"), self.things("here").owner()], ["one"] * 3)
 
     def test_a_backend_without_a_name(self) -> None:
-        """As authors may write one: it isn't told from others like it, and isn't taken in the place of one with a name.
-        """
+        """As authors may write one: it isn't told from others like it, and isn't taken in the place of one with a name."""
         self.assertIsInstance(self.things("here"), Tied)
         for name in "aab":
             tie(self.store(name), Nameless(), False)
@@ -143,9 +143,11 @@ class OfProgram(InFolder):
             self.assertEqual((running.provision().status, running.end()), (201, 0))
         with broker(self.folder, "--existing") as running:
             self.assertEqual((running.provision().status, running.end()), (200, 0))
-        for words, said in ((["--store", str(self.folder / "store"), "--backend", things], "belongs to the store"),
-                            (["--backend", str(other)], "has begun with a backend"),
-                            (["--existing", "--state", str(self.folder / "new")], "there is no store")):
+        for words, said in (
+            (["--store", str(self.folder / "store"), "--backend", things], "belongs to the store"),
+            (["--backend", str(other)], "has begun with a backend"),
+            (["--existing", "--state", str(self.folder / "new")], "there is no store"),
+        ):
             with self.assertRaises(AssertionError) as raised, broker(self.folder, *words):
                 pass
             self.assertIn("it has ended with 2: osb-broker: ", str(raised.exception))

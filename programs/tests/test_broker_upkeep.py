@@ -59,13 +59,17 @@ class OfUpkeep(InFolder):
 
     def test_operations(self) -> None:
         """Also the start of one that is recorded alone."""
-        for holding in (Holding(work=request(Kind.PROVISION, BY_WORKER)),
-                        Holding(BrokerRow(SERVICE, BY_WORKER, Phase.MAKING))):
+        for holding in (
+            Holding(work=request(Kind.PROVISION, BY_WORKER)),
+            Holding(BrokerRow(SERVICE, BY_WORKER, Phase.MAKING)),
+        ):
             put(self.store, Holding.NONE)
             put(self.store, holding)
             self.tend()
-            self.assertEqual((held(self.store), self.backend.look(ONE)),
-                             (Holding(BrokerRow(SERVICE, BY_WORKER, Phase.READY)), There.WHOLE))
+            self.assertEqual(
+                (held(self.store), self.backend.look(ONE)),
+                (Holding(BrokerRow(SERVICE, BY_WORKER, Phase.READY)), There.WHOLE),
+            )
         put(self.store, Holding(BrokerRow(SERVICE, BY_WORKER, Phase.DELETING)))
         self.tend()
         self.assertEqual((held(self.store), self.backend.look(ONE)), (Holding(is_marked=True), There.NONE))
@@ -112,6 +116,7 @@ class OfUpkeep(InFolder):
                 begun.set()
                 go_on.wait(60)
                 super().make(id, request)
+
         upkeep = self.started(Slow(self.folder / "instances"))
         put(self.store, Holding(work=request(Kind.PROVISION)))
         upkeep.touch(ONE)

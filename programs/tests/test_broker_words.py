@@ -20,8 +20,13 @@ class Words(InFolder):
         if not has_waitress():
             self.skipTest("waitress isn't installed")
         kept = {name: it for name, it in os.environ.items() if not name.startswith("OSB_B")}
-        got = subprocess.run([str(TOP / "osb-broker"), *words], capture_output=True, text=True, timeout=60,
-                             env={**kept, "OSB_BROKER_PASSWORD": PASSWORD, **variables})
+        got = subprocess.run(
+            [str(TOP / "osb-broker"), *words],
+            capture_output=True,
+            text=True,
+            timeout=60,
+            env={**kept, "OSB_BROKER_PASSWORD": PASSWORD, **variables},
+        )
         return got.returncode, got.stdout, got.stderr
 
     def refused(self, why: str, *words: str, **variables: str) -> None:
@@ -46,8 +51,19 @@ class Words(InFolder):
 
     def test_words(self) -> None:
         self.refused("usage", "--listen=8080")
-        for word in ("--listen=8080", "--listen=x:70000", "--user=a:b", "--user=", "--threads=0", "--threads=x",
-                     "--sweep-seconds=-1", "--sweep-seconds=nan", "--password=x", "--pass=x", "x"):
+        for word in (
+            "--listen=8080",
+            "--listen=x:70000",
+            "--user=a:b",
+            "--user=",
+            "--threads=0",
+            "--threads=x",
+            "--sweep-seconds=-1",
+            "--sweep-seconds=nan",
+            "--password=x",
+            "--pass=x",
+            "x",
+        ):
             told = io.StringIO()
             with contextlib.redirect_stderr(told), self.assertRaises(SystemExit) as ended:
                 read(["serve", word])
@@ -60,8 +76,9 @@ class Words(InFolder):
         self.refused("can't be read", "--password-file", str(self.folder / "none"))
         for text in ("", "\n", "two\nlines\n"):
             self.refused("one line", "--password-file", self.file("password", text))
-        with broker(self.folder, "--password-file", self.file("password", PASSWORD + "\n"),
-                    OSB_BROKER_PASSWORD="another") as running:
+        with broker(
+            self.folder, "--password-file", self.file("password", PASSWORD + "\n"), OSB_BROKER_PASSWORD="another"
+        ) as running:
             self.assertEqual(running.ask("GET", "/v2/catalog").status, 200)
 
     def test_files(self) -> None:

@@ -16,8 +16,9 @@ NONE, PART, WHOLE = There.NONE, There.PART, There.WHOLE
 class Thing:
     """A backend of one thing: `makes` and `deletes` are what is there after a call, None where it changes nothing."""
 
-    def __init__(self, there: There, makes: Optional[There] = WHOLE, deletes: Optional[There] = NONE,
-                 raises: bool = False) -> None:
+    def __init__(
+        self, there: There, makes: Optional[There] = WHOLE, deletes: Optional[There] = NONE, raises: bool = False
+    ) -> None:
         self.there, self.makes, self.deletes, self.raises = there, makes, deletes, raises
         self.calls: List[str] = []
 
@@ -48,8 +49,12 @@ class Makings(InFolder):
 
     def test_whole_in_the_end(self) -> None:
         """Done, however it came to be: it was there, it is made, or the call raised after it had made it."""
-        for thing, calls in ((Thing(WHOLE), []), (Thing(NONE), ["make"]), (Thing(PART), ["make"]),
-                             (Thing(NONE, raises=True), ["make"])):
+        for thing, calls in (
+            (Thing(WHOLE), []),
+            (Thing(NONE), ["make"]),
+            (Thing(PART), ["make"]),
+            (Thing(NONE, raises=True), ["make"]),
+        ):
             self.assertEqual((self.made(thing), thing.there, thing.calls), (Outcome.DONE, WHOLE, calls))
 
     def test_nothing_in_the_end(self) -> None:
@@ -69,8 +74,12 @@ class Deletions(InFolder):
         return BackendWorker(thing).work(Task(Work.DELETE, request(Kind.DEPROVISION), b"", False))
 
     def test_nothing_in_the_end(self) -> None:
-        for thing, calls in ((Thing(NONE), []), (Thing(WHOLE), ["delete"]), (Thing(PART), ["delete"]),
-                             (Thing(WHOLE, raises=True), ["delete"])):
+        for thing, calls in (
+            (Thing(NONE), []),
+            (Thing(WHOLE), ["delete"]),
+            (Thing(PART), ["delete"]),
+            (Thing(WHOLE, raises=True), ["delete"]),
+        ):
             self.assertEqual((self.deleted(thing), thing.there, thing.calls), (Outcome.DONE, NONE, calls))
 
     def test_whole_in_the_end(self) -> None:
@@ -91,10 +100,14 @@ class Operations(InFolder):
             self.assertEqual(thing.calls, [])
 
     def test_ends(self) -> None:
-        for phase, thing, ok in ((Phase.MAKING, Thing(NONE), True), (Phase.MAKING, Thing(PART), True),
-                                 (Phase.MAKING, Thing(NONE, PART, raises=True), False),
-                                 (Phase.DELETING, Thing(WHOLE), True), (Phase.DELETING, Thing(NONE), True),
-                                 (Phase.DELETING, Thing(WHOLE, deletes=None), False)):
+        for phase, thing, ok in (
+            (Phase.MAKING, Thing(NONE), True),
+            (Phase.MAKING, Thing(PART), True),
+            (Phase.MAKING, Thing(NONE, PART, raises=True), False),
+            (Phase.DELETING, Thing(WHOLE), True),
+            (Phase.DELETING, Thing(NONE), True),
+            (Phase.DELETING, Thing(WHOLE, deletes=None), False),
+        ):
             row = BrokerRow(SERVICE, AT_ONCE, phase)
             self.assertEqual(BackendWorker(thing).operate(ONE, row), ok, (phase, thing.there))
 

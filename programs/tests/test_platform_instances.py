@@ -109,6 +109,7 @@ class InstancesTest(InFolder):
 
         def raising(kept: Kept) -> "tuple[Kept, None]":
             raise KeyError
+
         self.assertRaises(KeyError, self.instances.update, self.instance, raising)
         self.assertEqual(self.instances.row(self.instance).kept, Kept(record))
 

@@ -23,8 +23,20 @@ RUNNING = [it for it in POINTS if it not in ORDERING]
 
 class KilledTest(InFolder):
     def run_once(self, folder: Path, url: str, *words: str, crash_at: str = "") -> int:
-        status, _, err = ran(folder, "run", "--once", "--broker", url, "--pace", "0.02", "--longest-pace", "0.1",
-                             *words, password=PASSWORD, OSB_CRASH_AT=crash_at)
+        status, _, err = ran(
+            folder,
+            "run",
+            "--once",
+            "--broker",
+            url,
+            "--pace",
+            "0.02",
+            "--longest-pace",
+            "0.1",
+            *words,
+            password=PASSWORD,
+            OSB_CRASH_AT=crash_at,
+        )
         self.assertNotIn("Traceback", err)
         return status
 

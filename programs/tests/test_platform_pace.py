@@ -17,8 +17,9 @@ PACE = Pace(2.0, 10.0, 0.0)
 class PaceTest(unittest.TestCase):
     def test_back_off(self) -> None:
         """It doubles from the first to the longest."""
-        self.assertEqual([wait(PACE, tries, None, 0.0) for tries in (0, 1, 2, 3, 4, 10**9)],
-                         [2.0, 4.0, 8.0, 10.0, 10.0, 10.0])
+        self.assertEqual(
+            [wait(PACE, tries, None, 0.0) for tries in (0, 1, 2, 3, 4, 10**9)], [2.0, 4.0, 8.0, 10.0, 10.0, 10.0]
+        )
 
     def test_the_broker_names_a_time(self) -> None:
         """It is kept to where it is more than the back-off, and for an hour at most."""
@@ -33,9 +34,12 @@ class PaceTest(unittest.TestCase):
     def test_late(self) -> None:
         """A Deprovision alone is held, and only at a broker without marks."""
         for late_for, state, sent_until, expected in (
-                (30.0, State.CLEANING, 100.0, 130.0), (0.0, State.CLEANING, 100.0, 0.0),
-                (30.0, State.POLLING, 100.0, 0.0), (30.0, State.CLEANING_POLLING, 100.0, 0.0),
-                (30.0, State.CLEANING, None, 0.0)):
+            (30.0, State.CLEANING, 100.0, 130.0),
+            (0.0, State.CLEANING, 100.0, 0.0),
+            (30.0, State.POLLING, 100.0, 0.0),
+            (30.0, State.CLEANING_POLLING, 100.0, 0.0),
+            (30.0, State.CLEANING, None, 0.0),
+        ):
             self.assertEqual(held_until(Pace(1.0, 1.0, late_for), state, sent_until), expected)
 
 
@@ -65,14 +69,16 @@ class PlansTest(unittest.TestCase):
 
 
 class ReachTest(unittest.TestCase):
-    def reached(self, *answers: Optional[Tuple[int, bytes]], seconds: Optional[float] = None, stops: int = 9
-                ) -> "Tuple[Optional[Durations], List[str], List[float]]":
+    def reached(
+        self, *answers: Optional[Tuple[int, bytes]], seconds: Optional[float] = None, stops: int = 9
+    ) -> "Tuple[Optional[Durations], List[str], List[float]]":
         """What comes of these answers, the last again and again: the durations, what was told, and the rests."""
         left, told, rests = list(answers), [], []  # type: List[Optional[Tuple[int, bytes]]], List[str], List[float]
 
         def rest(wanted: float) -> bool:
             rests.append(wanted)
             return len(rests) == stops
+
         found = reached(lambda: left.pop(0) if len(left) > 1 else left[0], seconds, rest, told.append)
         return found, told, rests
 
@@ -81,8 +87,10 @@ class ReachTest(unittest.TestCase):
         found, told, rests = self.reached(None, None, (503, b"{}"), (404, b""), (200, b"<html>"), (200, catalogue(600)))
         self.assertEqual(found, {(SERVICE, BY_WORKER): 600.0})
         self.assertEqual(rests, [0.1, 0.2, 0.4, 0.8, 1.6])
-        self.assertEqual(told[:3], ["it can't be reached", "it answers 503, and gives no catalogue",
-                                    "it answers 404, and gives no catalogue"])
+        self.assertEqual(
+            told[:3],
+            ["it can't be reached", "it answers 503, and gives no catalogue", "it answers 404, and gives no catalogue"],
+        )
         self.assertEqual((len(told), told[3].startswith("its catalogue can't be read: ")), (4, True))
 
     def test_a_refusal_ends_it(self) -> None:

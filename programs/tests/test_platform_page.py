@@ -60,7 +60,7 @@ class Got(NamedTuple):
 
 def get(url: str, target: str = "/", method: str = "GET", body: Optional[bytes] = None, **headers: str) -> Got:
     """What it answers; headers with _ for -."""
-    with contextlib.closing(http.client.HTTPConnection(url[len("http://"):-1], timeout=30)) as connection:
+    with contextlib.closing(http.client.HTTPConnection(url[len("http://") : -1], timeout=30)) as connection:
         connection.putrequest(method, target, skip_host="Host" in headers)
         for name, value in headers.items():
             connection.putheader(name.replace("_", "-"), value)
@@ -78,7 +78,7 @@ def named(url: str, line: str, further: bytes = b"") -> bytes:
 
 def connected(url: str) -> socket.socket:
     """A connection on which nothing is said yet."""
-    host, port = url[len("http://"):-1].rsplit(":", 1)
+    host, port = url[len("http://") : -1].rsplit(":", 1)
     return socket.create_connection((host, int(port)), timeout=20)
 
 
@@ -168,6 +168,7 @@ class ReadingsTest(OverTable):
 
         def raising(kept: Kept) -> "tuple[Kept, None]":
             raise KeyError
+
         self.assertRaises(KeyError, self.instances.update, id, raising)
         self.instances.withdraw(id)
         with self.assertRaises(KeyError), self.database().transaction() as execute:
@@ -208,8 +209,12 @@ class ReadingsTest(OverTable):
         """Every page, both ways, in both orders and of one state: each instance comes once, where it belongs."""
         ids = self.thousand()
         gone, latest = [it for it in ids if it[-1] in "01234567"], ids[::-1]
-        for asked, wanted in ((Asked(), latest), (Asked(is_longest=True), ids), (Asked("gone"), gone[::-1]),
-                              (Asked("gone", is_longest=True), gone)):
+        for asked, wanted in (
+            (Asked(), latest),
+            (Asked(is_longest=True), ids),
+            (Asked("gone"), gone[::-1]),
+            (Asked("gone", is_longest=True), gone),
+        ):
             with self.subTest(asked):
                 self.assertEqual(self.walked(asked), wanted)
                 self.assertEqual(self.walked_back(asked._replace(is_last=True)), wanted)
@@ -246,7 +251,7 @@ class ReadingsTest(OverTable):
         flying, idle = [self.sent() for _ in range(3)], self.order()
         self.instances.claim("one", 100, 60.0)
         seen = readings.overview(self.reader(), Asked())
-        self.assertEqual([it.id for it in seen.waiting], [str(it) for it in waiting[:readings.SHORT]])
+        self.assertEqual([it.id for it in seen.waiting], [str(it) for it in waiting[: readings.SHORT]])
         self.assertEqual({it.id for it in seen.flights}, {str(it) for it in flying})
         self.assertEqual({(str(it.out), it.worker) for it in seen.flights}, {("provision", "one")})
         self.assertEqual(self.walked(Asked(readings.IN_FLIGHT)), [it.id for it in seen.flights])
@@ -268,8 +273,11 @@ class ReadingsTest(OverTable):
         with self.database().transaction() as execute:
             for since, id in rows:
                 state = "gone" if id[-1] in "01234567" else "ready"
-                execute("INSERT INTO osb_instances VALUES (?, ?, ?, '{}', NULL, NULL, ?, ?, NULL, NULL, 0, NULL, 0, "
-                        "NULL, NULL)", [id, str(SERVICE), str(AT_ONCE), state, since])
+                execute(
+                    "INSERT INTO osb_instances VALUES (?, ?, ?, '{}', NULL, NULL, ?, ?, NULL, NULL, 0, NULL, 0, "
+                    "NULL, NULL)",
+                    [id, str(SERVICE), str(AT_ONCE), state, since],
+                )
         return [id for _, id in rows]
 
     def walked(self, asked: Asked) -> List[str]:
@@ -339,8 +347,10 @@ class PageTest(OverTable):
         self.instances.ask_removal(flying)
         with self.page() as url:
             got = get(url)
-        self.assertRegex(got.line(str(ready)),
-                         rf"^{ready} ready (now|\d s ago) ordered [0-9-]+ [0-9:]+ wanted [0-9:]+ ready [0-9:]+$")
+        self.assertRegex(
+            got.line(str(ready)),
+            rf"^{ready} ready (now|\d s ago) ordered [0-9-]+ [0-9:]+ wanted [0-9:]+ ready [0-9:]+$",
+        )
         self.assertRegex(got.line(str(flying)), "wanted [0-9:]+ Provision one removal is asked for$")
         self.assertIn("2 instances - osb-platform", got.text)
 
@@ -360,8 +370,16 @@ class PageTest(OverTable):
             self.assertEqual(get(url, f"/instance/{Id.new()}").status, 404)
         text = " ".join(re.sub("<[^>]*>", " ", got.text).split())
         self.assertEqual(got.status, 200)
-        for told in (f"Instance {id}", "3 states", f"Service {SERVICE}", f"Plan {AT_ONCE}", "1 request",
-                     "1 ordered", "2 wanted", "3 polling"):
+        for told in (
+            f"Instance {id}",
+            "3 states",
+            f"Service {SERVICE}",
+            f"Plan {AT_ONCE}",
+            "1 request",
+            "1 ordered",
+            "2 wanted",
+            "3 polling",
+        ):
             self.assertIn(told, text)
 
     def test_what_waits(self) -> None:
@@ -377,8 +395,9 @@ class PageTest(OverTable):
         id = self.sent()
         self.answered(id, Answer(202, Body.EMPTY), HARM)
         with self.database().transaction() as execute:
-            execute("UPDATE osb_instances SET worker = ?, leased_until = 0, record = ? WHERE id = ?",
-                    [HARM, HARM, str(id)])
+            execute(
+                "UPDATE osb_instances SET worker = ?, leased_until = 0, record = ? WHERE id = ?", [HARM, HARM, str(id)]
+            )
             execute("UPDATE osb_lives SET state = ?", [HARM])
         with self.page() as url:
             harm = quote(HARM)
@@ -424,8 +443,9 @@ class PageTest(OverTable):
             back = get(url, get(url, targets[1]).link("page-previous") or "")
             self.assertEqual((back.ids(), back.link("page-previous")), (get(url).ids(), None))
             turned = get(url, get(url).link("order") or "")
-            self.assertEqual(turned.ids(), [it.id for it in readings.overview(
-                self.reader(), Asked(is_longest=True)).listed.rows])
+            self.assertEqual(
+                turned.ids(), [it.id for it in readings.overview(self.reader(), Asked(is_longest=True)).listed.rows]
+            )
             self.assertEqual(get(url, get(url).link("go-gone") or "").ids(), [])
 
     def test_still(self) -> None:
@@ -447,18 +467,33 @@ class PageTest(OverTable):
     def test_targets_that_are_none(self) -> None:
         with self.page() as url:
             self.assertIn("There is no such page", raw(url, named(url, "GET http://[")))
-            for target in ("/a", "/instance/", "/instance/a", "/?state=made", "/?after=a", "/?after=1_2", "/?after=",
-                           f"/?after=nan_{Id.new()}", f"/?before=inf_{Id.new()}", "/?state=gone&state=gone", "//a/",
-                           "/?" + "&".join(f"a{at}" for at in range(20)), "/favicon.ico", "*",
-                           "/?find=" + "a" * 200):
+            for target in (
+                "/a",
+                "/instance/",
+                "/instance/a",
+                "/?state=made",
+                "/?after=a",
+                "/?after=1_2",
+                "/?after=",
+                f"/?after=nan_{Id.new()}",
+                f"/?before=inf_{Id.new()}",
+                "/?state=gone&state=gone",
+                "//a/",
+                "/?" + "&".join(f"a{at}" for at in range(20)),
+                "/favicon.ico",
+                "*",
+                "/?find=" + "a" * 200,
+            ):
                 got = get(url, target)
                 self.assertEqual((got.status, "There is no such page" in got.text), (404, True), target)
 
     def test_a_store_that_fails(self) -> None:
         """The page says so, and what was the matter is in the log."""
+
         class Failing:
             def reading(self) -> ContextManager[Reading]:
                 raise sqlite3.OperationalError("disk I/O error")
+
         with serving(Page(Failing(), BROKER), "127.0.0.1", 0) as url:
             got = get(url)
         self.assertEqual((got.status, "can&#x27;t be read now" in got.text, "disk" in got.text), (503, True, False))
@@ -501,9 +536,14 @@ class ServerTest(OverTable):
         """Nothing is kept, loaded from elsewhere, framed or guessed, whatever the answer is."""
         with self.page() as url:
             for got in (get(url), get(url, "/nowhere"), get(url, method="POST"), get(url, Host="a.example")):
-                for name, value in (("Cache-Control", "no-store"), ("X-Content-Type-Options", "nosniff"),
-                                    ("Referrer-Policy", "no-referrer"), ("Content-Type", "text/html; charset=utf-8"),
-                                    ("Server", "osb-platform"), ("Connection", "close")):
+                for name, value in (
+                    ("Cache-Control", "no-store"),
+                    ("X-Content-Type-Options", "nosniff"),
+                    ("Referrer-Policy", "no-referrer"),
+                    ("Content-Type", "text/html; charset=utf-8"),
+                    ("Server", "osb-platform"),
+                    ("Connection", "close"),
+                ):
                     self.assertEqual(got.headers[name], value)
                 policy = got.headers["Content-Security-Policy"]
                 self.assertTrue(policy.startswith("default-src 'none'; style-src 'sha256-"))
@@ -516,12 +556,22 @@ class ServerTest(OverTable):
             port = url.rsplit(":", 1)[1][:-1]
             for host in (f"127.0.0.1:{port}", f"localhost:{port}", f"LOCALHOST:{port}"):
                 self.assertEqual(get(url, Host=host).status, 200, host)
-            for host in ("127.0.0.1", f"127.0.0.1:{int(port) + 1}", f"evil.example:{port}", "", f"127.0.0.2:{port}",
-                         f"127.0.0.1:{port}.evil.example"):
+            for host in (
+                "127.0.0.1",
+                f"127.0.0.1:{int(port) + 1}",
+                f"evil.example:{port}",
+                "",
+                f"127.0.0.2:{port}",
+                f"127.0.0.1:{port}.evil.example",
+            ):
                 self.assertEqual(get(url, Host=host).status, 421, host)
-            for head in (b"GET / HTTP/1.0\r\n\r\n", b"GET / HTTP/1.1\r\n\r\n", b"GET /\r\n\r\n",
-                         named(url, "GET /", b"Host: evil.example\r\n"),
-                         named(url, "GET /", f"Host: 127.0.0.1:{port}\r\n".encode())):
+            for head in (
+                b"GET / HTTP/1.0\r\n\r\n",
+                b"GET / HTTP/1.1\r\n\r\n",
+                b"GET /\r\n\r\n",
+                named(url, "GET /", b"Host: evil.example\r\n"),
+                named(url, "GET /", f"Host: 127.0.0.1:{port}\r\n".encode()),
+            ):
                 self.assertIn("This page answers", raw(url, head))
 
     def test_host_where_it_listens_everywhere(self) -> None:
@@ -616,20 +666,47 @@ class WordsTest(InFolder):
     def test_targets(self) -> None:
         """What is asked for is written as what it is read from."""
         place = Place(1764039121.123, str(Id.new()))
-        for asked in (Asked(), Asked("gone"), Asked("in-flight"), Asked(find="a b&c=<"), Asked(is_longest=True),
-                      Asked("ready", after=place), Asked(before=place, is_longest=True), Asked(is_last=True),
-                      Asked("gone", is_still=True)):
+        for asked in (
+            Asked(),
+            Asked("gone"),
+            Asked("in-flight"),
+            Asked(find="a b&c=<"),
+            Asked(is_longest=True),
+            Asked("ready", after=place),
+            Asked(before=place, is_longest=True),
+            Asked(is_last=True),
+            Asked("gone", is_still=True),
+        ):
             self.assertEqual(page_asked.read(page_asked.target(asked)), asked)
         self.assertEqual(page_asked.read(page_asked.target_of(place.id, True)), page_asked.One(place.id, True))
 
     def test_times(self) -> None:
-        for seconds, told in ((-0.5, "now"), (0.0, "now"), (0.99, "now"), (1.0, "1 s ago"), (59.9, "59 s ago"),
-                              (60.0, "1 min ago"), (3599.0, "59 min ago"), (3600.0, "1 h ago"), (86399.0, "23 h ago"),
-                              (86400.0, "1 day ago"), (172800.0, "2 days ago"), (90e6, "1,041 days ago"),
-                              (-1.0, "in 1 s"), (-90.0, "in 1 min")):
+        for seconds, told in (
+            (-0.5, "now"),
+            (0.0, "now"),
+            (0.99, "now"),
+            (1.0, "1 s ago"),
+            (59.9, "59 s ago"),
+            (60.0, "1 min ago"),
+            (3599.0, "59 min ago"),
+            (3600.0, "1 h ago"),
+            (86399.0, "23 h ago"),
+            (86400.0, "1 day ago"),
+            (172800.0, "2 days ago"),
+            (90e6, "1,041 days ago"),
+            (-1.0, "in 1 s"),
+            (-90.0, "in 1 min"),
+        ):
             self.assertEqual(ago(seconds), told)
-        for seconds, told in ((-3.0, "0 s"), (0.4, "0 s"), (59.9, "59 s"), (60.0, "1 min"), (7199.0, "1 h 59 min"),
-                              (86405.0, "1 day 5 s"), (2.6 * 86400, "2 days 14 h")):
+        for seconds, told in (
+            (-3.0, "0 s"),
+            (0.4, "0 s"),
+            (59.9, "59 s"),
+            (60.0, "1 min"),
+            (7199.0, "1 h 59 min"),
+            (86405.0, "1 day 5 s"),
+            (2.6 * 86400, "2 days 14 h"),
+        ):
             self.assertEqual(lasting(seconds), told)
 
 

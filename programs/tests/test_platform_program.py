@@ -26,8 +26,9 @@ class ProgramTest(InFolder):
             self.assertRegex(out, rf"^\d{{4}}-\d\d-\d\dT\d\d:\d\d:\d\dZ\t{id}\tready\n$")
             status, out, err = ran(self.folder, "list")
             self.assertEqual((status, err, out.count("\n")), (0, "", 1))
-            self.assertEqual([out.split("\t")[at].strip() for at in (0, 1, 3, 4)],
-                             [id, "ready", str(SERVICE), str(AT_ONCE)])
+            self.assertEqual(
+                [out.split("\t")[at].strip() for at in (0, 1, 3, 4)], [id, "ready", str(SERVICE), str(AT_ONCE)]
+            )
             self.assertIn('"state":"ready"', ran(self.folder, "show", id)[1])
             self.assertEqual(ran(self.folder, "remove", id), (0, "", ""))
             self.assertIn("\tgone\n", ran(self.folder, "run", "--once", "--broker", end.url)[1])
@@ -41,8 +42,11 @@ class ProgramTest(InFolder):
             ran(self.folder, "run", "--once", "--broker", end.url)
         status, out, err = ran(self.folder, "list")
         self.assertEqual((status, out.split("\t")[1]), (0, "unsettled"))
-        self.assertRegex(err, r"^1 unsettled, the first since [0-9TZ:-]+: ask the broker what it has of each, and "
-                              "remove those that are yours\n$")
+        self.assertRegex(
+            err,
+            r"^1 unsettled, the first since [0-9TZ:-]+: ask the broker what it has of each, and "
+            "remove those that are yours\n$",
+        )
 
     def test_what_a_broker_has_named(self) -> None:
         """It isn't shown raw."""
@@ -57,9 +61,15 @@ class ProgramTest(InFolder):
         with far_end(Said(201)) as one, far_end(Said(200)) as other:
             ran(self.folder, "run", "--once", "--broker", one.url)
             ran(self.folder, "remove", id)
-            self.assertEqual(ran(self.folder, "run", "--once", "--broker", other.url), (
-                2, "", f"osb-platform: the instances of this store are of the broker {one.url}: if that is the same "
-                "one, at another address, say --moved\n"))
+            self.assertEqual(
+                ran(self.folder, "run", "--once", "--broker", other.url),
+                (
+                    2,
+                    "",
+                    f"osb-platform: the instances of this store are of the broker {one.url}: if that is the same "
+                    "one, at another address, say --moved\n",
+                ),
+            )
             self.assertEqual(other.came, [])
             self.assertIn(f"{id}\tgone\n", ran(self.folder, "run", "--once", "--broker", f"{other.url}/", "--moved")[1])
             self.assertEqual(ran(self.folder, "run", "--once", "--broker", one.url)[0], 2)
@@ -77,13 +87,14 @@ class ProgramTest(InFolder):
         """Orders wait: nothing is sent, or recorded as sent, before the broker has given its catalogue."""
         id = ran(self.folder, "create", *ORDER)[1].strip()
         with far_end(Said(201)) as end:
-            for said, why in ((Said(503), "it answers 503, and gives no catalogue"),
-                              (Said(401), "it refuses the user or the password (401)")):
+            for said, why in (
+                (Said(503), "it answers 503, and gives no catalogue"),
+                (Said(401), "it refuses the user or the password (401)"),
+            ):
                 end.catalogue = said
                 status, out, err = ran(self.folder, "run", "--once", "--broker", end.url, "--seconds", "0.5")
                 self.assertEqual((status, out), (1, ""))
-                self.assertEqual(err.splitlines()[-1],
-                                 f"osb-platform: the broker {end.url}: {why}; nothing was sent")
+                self.assertEqual(err.splitlines()[-1], f"osb-platform: the broker {end.url}: {why}; nothing was sent")
             self.assertEqual((end.came, ran(self.folder, "list")[1].split("\t")[1]), ([], "ordered"))
             end.catalogue = Said(200, b'{"services":[]}')
             self.assertIn(f"{id}\tready\n", ran(self.folder, "run", "--once", "--broker", end.url)[1])
@@ -94,12 +105,23 @@ class ProgramTest(InFolder):
         endless = self.folder / "endless"
         endless.write_text('{"ratio": NaN}')
         run = ("run", "--broker", NOWHERE)
-        for words in (("create", *ORDER, "--parameters", str(text)), ("create", *ORDER, "--parameters", "/nowhere"),
-                      ("create", *ORDER, "--parameters", str(endless)),
-                      ("create", "--service", "a", "--plan", "b"), ("remove",), ("list", "--state", "made"),
-                      ("run", "--broker", "ftp://a"), (*run, "--user", "a:b"), (*run, "--space", ""),
-                      (*run, "--password-file", "/nowhere"), (*run, "--worker", "a b"), (*run, "--seconds", "0"),
-                      (*run, "--catalog", str(text)), ("list", "--store", str(text / "a" / "b")), ("go",)):
+        for words in (
+            ("create", *ORDER, "--parameters", str(text)),
+            ("create", *ORDER, "--parameters", "/nowhere"),
+            ("create", *ORDER, "--parameters", str(endless)),
+            ("create", "--service", "a", "--plan", "b"),
+            ("remove",),
+            ("list", "--state", "made"),
+            ("run", "--broker", "ftp://a"),
+            (*run, "--user", "a:b"),
+            (*run, "--space", ""),
+            (*run, "--password-file", "/nowhere"),
+            (*run, "--worker", "a b"),
+            (*run, "--seconds", "0"),
+            (*run, "--catalog", str(text)),
+            ("list", "--store", str(text / "a" / "b")),
+            ("go",),
+        ):
             status, out, err = ran(self.folder, *words)
             self.assertEqual((status, out), (2, ""), words)
             self.assertTrue(err.splitlines()[-1].startswith("osb-platform"), err)

@@ -14,8 +14,10 @@ from osb_platform.steps import Parts, step
 from tests.broker_support import BY_WORKER, ONE, SERVICE, InFolder
 from tests.platform_support import WORKER, Clock, FarEnd, Said, far_end, parts
 
-POLL = (f"GET /v2/service_instances/{ONE}/last_operation?service_id={SERVICE}&plan_id={BY_WORKER}"
-        "&accepts_incomplete=true")
+POLL = (
+    f"GET /v2/service_instances/{ONE}/last_operation?service_id={SERVICE}&plan_id={BY_WORKER}"
+    "&accepts_incomplete=true"
+)
 DELETE = f"DELETE /v2/service_instances/{ONE}?service_id={SERVICE}&plan_id={BY_WORKER}&accepts_incomplete=true"
 PUT = f"PUT /v2/service_instances/{ONE}?accepts_incomplete=true"
 IN_PROGRESS = Said(200, b'{"state":"in progress"}')
@@ -109,8 +111,10 @@ class StepsTest(InFolder):
 
     def test_what_cannot_be_told(self) -> None:
         """The step is done all the same, and its lease has ended."""
+
         def tell(_: Instance) -> None:
             raise BrokenPipeError
+
         with far_end(Said(201)) as end:
             go = self.parts(end)._replace(tell=tell)
             logging.disable(logging.NOTSET)

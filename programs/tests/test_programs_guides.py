@@ -21,8 +21,14 @@ from tests.broker_support import ONE, POSTGRESQL, TOP, InFolder, has_waitress
 BROKER, PLATFORM = TOP / "docs" / "broker-guide.md", TOP / "docs" / "platform-guide.md"
 
 # The sections whose indented blocks are run here, and how many each has. `checks/listings` goes by it.
-RUN = {(BROKER, "Start it"): 3, (BROKER, "A backend of your own"): 1, (BROKER, "With PostgreSQL"): 3,
-       (PLATFORM, "Start it"): 2, (PLATFORM, "The page"): 1, (PLATFORM, "With PostgreSQL, and several workers"): 2}
+RUN = {
+    (BROKER, "Start it"): 3,
+    (BROKER, "A backend of your own"): 1,
+    (BROKER, "With PostgreSQL"): 3,
+    (PLATFORM, "Start it"): 2,
+    (PLATFORM, "The page"): 1,
+    (PLATFORM, "With PostgreSQL, and several workers"): 2,
+}
 
 
 def blocks(page: Path, heading: str) -> List[str]:
@@ -51,8 +57,16 @@ class Shell(InFolder):
     def ran(self, script: str, **given: str) -> str:
         """What it writes on standard output; all that it has started is killed in the end."""
         environment: Dict[str, str] = {**os.environ, "XDG_STATE_HOME": str(self.folder), **given}
-        shell = subprocess.Popen(["bash", "-e"], cwd=TOP, env=environment, stdin=subprocess.PIPE, text=True,
-                                 stdout=subprocess.PIPE, stderr=subprocess.PIPE, start_new_session=True)
+        shell = subprocess.Popen(
+            ["bash", "-e"],
+            cwd=TOP,
+            env=environment,
+            stdin=subprocess.PIPE,
+            text=True,
+            stdout=subprocess.PIPE,
+            stderr=subprocess.PIPE,
+            start_new_session=True,
+        )
         try:
             out, err = shell.communicate(script, timeout=120)
         finally:
@@ -70,7 +84,6 @@ class Shell(InFolder):
     def up(self) -> str:
         """Waits until the broker answers."""
         return f"until curl -sf http://127.0.0.1:{self.port}/healthz >/dev/null; do sleep 0.05; done\n"
-
 
 
 @unittest.skipUnless(shutil.which("curl") and has_waitress(), "curl or waitress isn't installed")
@@ -134,6 +147,7 @@ class OverPostgresql(Shell):
     def url(self) -> str:
         """That of the database, for its role, quoted: the server is that of the tests, however they name it."""
         from psycopg2.extensions import parse_dsn  # where PostgreSQL is used it is there
+
         parts: Dict[str, str] = {**parse_dsn(POSTGRESQL), "user": self.name, "dbname": f"{self.name}s"}
         parts.pop("password", None)
         return shlex.quote(f"postgresql://?{urlencode(parts, quote_via=quote)}")
@@ -156,12 +170,16 @@ class OverPostgresql(Shell):
         store = f"--store {url}"
         self.assertIn("--store postgresql://platform@db/platform --broker https://broker.example", run)
         started = run.replace("--store postgresql://platform@db/platform", store).replace(
-            "https://broker.example", f"http://127.0.0.1:{self.port}")
-        order = (f"one=$(./osb-platform create {store} --service 00000000-0000-0000-0000-0000000000a0 "
-                 "--plan 00000000-0000-0000-0000-0000000000b1)")
+            "https://broker.example", f"http://127.0.0.1:{self.port}"
+        )
+        order = (
+            f"one=$(./osb-platform create {store} --service 00000000-0000-0000-0000-0000000000a0 "
+            "--plan 00000000-0000-0000-0000-0000000000b1)"
+        )
         serve = f"OSB_BROKER_PASSWORD=x ./osb-broker serve --listen 127.0.0.1:{self.port} &\n{self.up()}"
-        out = self.ran(f"{serve}{order}\n{started} --once\nkill %1; wait %1\n", OSB_PLATFORM_PASSWORD="x",
-                       PGPASSWORD=secret)
+        out = self.ran(
+            f"{serve}{order}\n{started} --once\nkill %1; wait %1\n", OSB_PLATFORM_PASSWORD="x", PGPASSWORD=secret
+        )
         self.assertRegex(out, r"\tready\n")
 
 

@@ -55,6 +55,7 @@ class EngineCases:
             for number in range(1000):
                 begun.append(number)
                 yield number
+
         with closing(self.engine()) as engine:
             case.assertEqual(sorted(engine.each(double, range(50))), list(range(0, 100, 2)))
             case.assertEqual(list(engine.each(double, [])), [])

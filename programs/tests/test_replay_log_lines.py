@@ -24,11 +24,31 @@ PLAN = b"plan " + ID + b" " + ID + b" sync"
 class LinesTest(unittest.TestCase):
     def test_names(self) -> None:
         """Each spelling of an event names its instance, and nothing else does."""
-        for line in (b"send " + ID, b" send\t " + UPPER + b"\r", b"deliver " + ID + b" done", b"finish " + ID,
-                     b"send " + ID + b" " * 471, b"create " + ID + b" " + ID + b" " + ID + b" no"):
+        for line in (
+            b"send " + ID,
+            b" send\t " + UPPER + b"\r",
+            b"deliver " + ID + b" done",
+            b"finish " + ID,
+            b"send " + ID + b" " * 471,
+            b"create " + ID + b" " + ID + b" " + ID + b" no",
+        ):
             self.assertEqual(name_in(line), ID, line)
-        for line in (b"", b"restart", b"\r", PLAN, b"\t" + PLAN, b"# send " + ID, b"#send " + ID, b"send", b"plan x",
-                     b"update " + ID, b"send 1", b"send " + ID[1:], b"send " + ID + b"0", b"send " + ID + b" " * 472):
+        for line in (
+            b"",
+            b"restart",
+            b"\r",
+            PLAN,
+            b"\t" + PLAN,
+            b"# send " + ID,
+            b"#send " + ID,
+            b"send",
+            b"plan x",
+            b"update " + ID,
+            b"send 1",
+            b"send " + ID[1:],
+            b"send " + ID + b"0",
+            b"send " + ID + b" " * 472,
+        ):
             self.assertIsNone(name_in(line), line)
 
     def test_kinds(self) -> None:
@@ -37,17 +57,37 @@ class LinesTest(unittest.TestCase):
             Kind.SILENT: [b"", b" \t", b"\r", b" \r", b"#", b"# " + ID, b" #restart", b"#" * 512, b"\t#\r"],
             Kind.RESTART: [b"restart", b" restart\t\r", b"restart\r"],
             Kind.PLAN: [PLAN, b"plan", b"\tplan\tx", b"plan\r"],
-            Kind.ODD: [b"Restart", b"restart now", b"\x0crestart", b"\x0c# x", b"restart\r\r", b"\r\r", b"#" * 513,
-                       b"# \xff", b"send", b"planx", b"plan\x0bx", b" " * 513, PLAN + b" " * 500, b"\x00",
-                       b"send 1", b"update " + ID, b"send " + b"x" * 600, b"send " + ID + b" " * 472]}
+            Kind.ODD: [
+                b"Restart",
+                b"restart now",
+                b"\x0crestart",
+                b"\x0c# x",
+                b"restart\r\r",
+                b"\r\r",
+                b"#" * 513,
+                b"# \xff",
+                b"send",
+                b"planx",
+                b"plan\x0bx",
+                b" " * 513,
+                PLAN + b" " * 500,
+                b"\x00",
+                b"send 1",
+                b"update " + ID,
+                b"send " + b"x" * 600,
+                b"send " + ID + b" " * 472,
+            ],
+        }
         for kind, lines in kinds.items():
             for line in lines:
                 self.assertIs(kind_of(line), kind, line)
                 self.assertEqual(is_head(line), kind in (Kind.SILENT, Kind.PLAN), line)
 
     def test_split(self) -> None:
-        self.assertEqual([split(it) for it in (b"", b"\n", b"a", b"a\n", b"a\nb", b"a\r\n\n")],
-                         [[], [b""], [b"a"], [b"a"], [b"a", b"b"], [b"a\r", b""]])
+        self.assertEqual(
+            [split(it) for it in (b"", b"\n", b"a", b"a\n", b"a\nb", b"a\r\n\n")],
+            [[], [b""], [b"a"], [b"a"], [b"a", b"b"], [b"a\r", b""]],
+        )
 
     def test_parting(self) -> None:
         """Lines of an instance stay together, in their order; a restart is in all buckets; an odd line ends it."""
@@ -119,12 +159,17 @@ class FilesTest(unittest.TestCase):
     def test_head(self) -> None:
         """The head goes on over files, and what follows begins where it ends."""
         for pack in PACKS:
-            paths = [self.file(pack(b"# a\n" + PLAN), "1"), self.file(b"", "2"),
-                     self.file(pack(b"\r\n" + PLAN + b"\nsend 1\n" + PLAN + b"\n"), "3"), self.file(pack(b"x\n"), "4")]
+            paths = [
+                self.file(pack(b"# a\n" + PLAN), "1"),
+                self.file(b"", "2"),
+                self.file(pack(b"\r\n" + PLAN + b"\nsend 1\n" + PLAN + b"\n"), "3"),
+                self.file(pack(b"x\n"), "4"),
+            ]
             logs = from_paths(paths)
             head = head_of(logs, 10, 16)
-            self.assertEqual((head.plans, [(it.path, it.line) for it in head.places]),
-                             ((PLAN, PLAN), [(paths[0], 2), (paths[2], 2)]))
+            self.assertEqual(
+                (head.plans, [(it.path, it.line) for it in head.places]), ((PLAN, PLAN), [(paths[0], 2), (paths[2], 2)])
+            )
             rest = [line for it in body_of(logs, head, 16) for lines in lines_of(it, 16) for line in lines]
             self.assertEqual(rest, [b"send 1", PLAN, b"x"])
             with self.assertRaises(Unreplayed):
@@ -133,15 +178,20 @@ class FilesTest(unittest.TestCase):
     def test_numbers(self) -> None:
         """Lines are numbered by their files."""
         logs = from_paths([self.file(b"a\n\nb", "1"), self.file(gzip.compress(b"c\n"), "2")])
-        self.assertEqual([(it.log, it.line, it.text) for it in numbered(logs, 2)],
-                         [(0, 1, b"a"), (0, 2, b""), (0, 3, b"b"), (1, 1, b"c")])
+        self.assertEqual(
+            [(it.log, it.line, it.text) for it in numbered(logs, 2)],
+            [(0, 1, b"a"), (0, 2, b""), (0, 3, b"b"), (1, 1, b"c")],
+        )
 
     def test_many_restarts(self) -> None:
         """Restarts go to several spool files where they are many, and the stretch is left where they are too many."""
         (log,) = from_paths([self.file(b"restart\n" * 9000 + b"send " + ID + b"\n")])
         (stretch,) = stretches(log, 0, 1 << 20)
-        for buckets, most, wanted in ((1, 9000, (1, 9001, 1, 9000)), (500, 9000, (5, 9001, 1, 9000)),
-                                      (500, 3000, (2, 9001, 0, 4196))):
+        for buckets, most, wanted in (
+            (1, 9000, (1, 9001, 1, 9000)),
+            (500, 9000, (5, 9001, 1, 9000)),
+            (500, 3000, (2, 9001, 0, 4196)),
+        ):
             with tempfile.TemporaryDirectory() as room:
                 found = part(Parting(Room(room), 0, stretch, buckets, 1 << 20, most))
                 self.assertEqual((found.pieces, found.lines, found.events, found.restarts), wanted)
@@ -150,8 +200,11 @@ class FilesTest(unittest.TestCase):
     def test_unread(self) -> None:
         """What can't be read is named."""
         broken = self.file(gzip.compress(bytes(random.Random(1).choices(range(256), k=9000)))[:2000])
-        for path, why in ((f"{self._folder.name}/none", "No such file"), (self._folder.name, "directory"),
-                          ("/dev/null", "it isn't a file")):
+        for path, why in (
+            (f"{self._folder.name}/none", "No such file"),
+            (self._folder.name, "directory"),
+            ("/dev/null", "it isn't a file"),
+        ):
             with self.assertRaisesRegex(Unreplayed, f"{path}: read failed: .*{why}"):
                 from_paths([path])
         with self.assertRaisesRegex(Unreplayed, "read failed"):

@@ -54,8 +54,9 @@ class PartsTest(InRoom):
         self.spool([[[b"a", b"b"], [], [b"c"]], [[], [], [b"", b"d"]]])
         have = [[(it.lines, it.read()) for it in shares(self.room, (1, 1), number)] for number in range(3)]
         self.assertEqual(have, [[(2, b"a\nb\n"), (0, b"")], [(0, b""), (0, b"")], [(1, b"c\n"), (2, b"\nd\n")]])
-        self.assertEqual(sorted(it.name for it in self.folder.iterdir()), ["piece-00000000-000000",
-                                                                           "piece-00000001-000000", "plans"])
+        self.assertEqual(
+            sorted(it.name for it in self.folder.iterdir()), ["piece-00000000-000000", "piece-00000001-000000", "plans"]
+        )
 
     def test_one_part(self) -> None:
         """As many lines as fit, plans and restarts included, are one part."""
@@ -74,8 +75,10 @@ class PartsTest(InRoom):
     def test_split_again(self) -> None:
         """Each instance is in one part, in order, with all restarts, and no part is too large."""
         chance = random.Random(1)
-        lines = [b"restart" if chance.random() < 0.02 else b"send " + chance.choice(NAMES) + b" %d\r" % at
-                 for at in range(400)]
+        lines = [
+            b"restart" if chance.random() < 0.02 else b"send " + chance.choice(NAMES) + b" %d\r" % at
+            for at in range(400)
+        ]
         restarts = lines.count(b"restart")
         self.spool([[lines[:100]], [[]], [lines[100:]]])
         most = 60 + restarts
@@ -112,8 +115,15 @@ class ProgramTest(InRoom):
         self.assertEqual(report.read_text(encoding="utf-8").split(), ["2000000"])
         faulty = self.program("echo osb-replay: line 7: BadId >&2; exit 1")
         self.assertEqual(faulty.run(given, report), Fault(7, "BadId"))
-        for text, status in (("exit 3", 3), ("exit 4", 4), ("exit 5", 5), ("exit 1", 70), ("kill -9 $$", 70),
-                             ("echo osb-replay: line 7 >&2; exit 1", 70), ("exit 127", 70)):
+        for text, status in (
+            ("exit 3", 3),
+            ("exit 4", 4),
+            ("exit 5", 5),
+            ("exit 1", 70),
+            ("kill -9 $$", 70),
+            ("echo osb-replay: line 7 >&2; exit 1", 70),
+            ("exit 127", 70),
+        ):
             with self.assertRaises(Unreplayed) as raised:
                 self.program(text).run(given, report)
             self.assertEqual(raised.exception.status, status, text)
@@ -132,9 +142,13 @@ class ReportsTest(InRoom):
     def report(self, number: int, rows: Dict[str, str], has_record: bool, counts: str = COUNTS) -> str:
         text = "".join(f"{name} {state} none\n" for name, state in sorted(rows.items())) + counts
         if has_record:
-            text += '{"instances":{' + ",".join(
-                f'"{name}":{{"plan":"p","service":"s","state":"{state}"}}' for name, state in sorted(rows.items())
-            ) + '},"version":2}\n'
+            text += (
+                '{"instances":{'
+                + ",".join(
+                    f'"{name}":{{"plan":"p","service":"s","state":"{state}"}}' for name, state in sorted(rows.items())
+                )
+                + '},"version":2}\n'
+            )
         path = self.folder / f"report-{number}"
         path.write_text(text, encoding="utf-8")
         return str(path)
@@ -183,8 +197,17 @@ class PlacesTest(InRoom):
 
     def test_first(self) -> None:
         """The first of all that were told, by the instance's lines in any spelling; or an odd line before."""
-        path = self.log(b"# send " + A, b"plan x", b"send " + A.upper(), b"restart", b"", b"send " + B, b"\tsend " + A,
-                        b"plan", b"send " + A)
+        path = self.log(
+            b"# send " + A,
+            b"plan x",
+            b"send " + A.upper(),
+            b"restart",
+            b"",
+            b"send " + B,
+            b"\tsend " + A,
+            b"plan",
+            b"send " + A,
+        )
         self.assertEqual(self.told(path, [Faulty(A, 2, "X")]), f"{path}: line 7: X")
         self.assertEqual(self.told(path, [Faulty(A, 2, "X"), Faulty(B, 1, "Y")]), f"{path}: line 6: Y")
         self.assertEqual(self.told(path, [Faulty(A, 3, "X")]), f"{path}: line 8: of b'plan'")

@@ -38,8 +38,14 @@ class SignalsTest(unittest.TestCase):
         if is_ignored:
             signal.signal(signal.SIGTERM, signal.SIG_IGN)
         try:
-            return subprocess.run(words, env={**os.environ, "PYTHONPATH": str(Path(__file__).parents[1])}, check=False,
-                                  stdout=subprocess.PIPE, encoding="utf-8", timeout=60)
+            return subprocess.run(
+                words,
+                env={**os.environ, "PYTHONPATH": str(Path(__file__).parents[1])},
+                check=False,
+                stdout=subprocess.PIPE,
+                encoding="utf-8",
+                timeout=60,
+            )
         finally:
             for number, handler in before.items():
                 signal.signal(number, handler)

@@ -33,8 +33,14 @@ class Halves:
 
 def main() -> None:
     folder = Path(sys.argv[1])
-    broker = BrokerApplication(CATALOGUE, SqliteStore(folder / "holdings"), Halves(folder, sys.argv[2] == "yes"), USER,
-                               PASSWORD, lock=FileLocks(folder / "locks"))
+    broker = BrokerApplication(
+        CATALOGUE,
+        SqliteStore(folder / "holdings"),
+        Halves(folder, sys.argv[2] == "yes"),
+        USER,
+        PASSWORD,
+        lock=FileLocks(folder / "locks"),
+    )
     left = broker.resume()
     with make_server("127.0.0.1", 0, broker, handler_class=Handler) as server:
         print(server.server_port, len(left), flush=True)

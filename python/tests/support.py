@@ -22,8 +22,9 @@ ASYNC = Id.of("00000000-0000-0000-0000-0000000000b2")
 UNSOLD = Id.of("00000000-0000-0000-0000-0000000000b3")
 USER, PASSWORD = "platform", "a password: with a colon"
 
-CATALOGUE = json.dumps({"services": [{"id": str(SERVICE), "plans": [
-    {"id": str(SYNC)}, {"id": str(ASYNC), "asynchronous": True}]}]}).encode()
+CATALOGUE = json.dumps(
+    {"services": [{"id": str(SERVICE), "plans": [{"id": str(SYNC)}, {"id": str(ASYNC), "asynchronous": True}]}]}
+).encode()
 
 
 def request(kind: Kind, plan: Id = SYNC, accepts: bool = True, id: Id = ONE) -> Request:
@@ -33,8 +34,7 @@ def request(kind: Kind, plan: Id = SYNC, accepts: bool = True, id: Id = ONE) -> 
 class Things:
     """A worker. `things` are those that are there; `before` is called before any work is done."""
 
-    def __init__(self, before: Optional[Callable[[Task], None]] = None,
-                 outcome: Outcome = Outcome.DONE) -> None:
+    def __init__(self, before: Optional[Callable[[Task], None]] = None, outcome: Outcome = Outcome.DONE) -> None:
         self.things: Set[Id] = set()
         self.done: List[Work] = []
         self.before, self.outcome = before, outcome
@@ -65,8 +65,14 @@ def authorization(user: str = USER, password: str = PASSWORD) -> str:
 
 
 def provision_body(plan: Id = SYNC) -> bytes:
-    return json.dumps({"service_id": str(SERVICE), "plan_id": str(plan), "organization_guid": "an organization",
-                       "space_guid": "a space"}).encode()
+    return json.dumps(
+        {
+            "service_id": str(SERVICE),
+            "plan_id": str(plan),
+            "organization_guid": "an organization",
+            "space_guid": "a space",
+        }
+    ).encode()
 
 
 def target(id: Id = ONE, plan: Optional[Id] = SYNC, end: str = "") -> str:
@@ -78,12 +84,19 @@ def call(application: BrokerApplication, method: str, target: str, body: bytes =
     """What the application answers. What is given besides stands in the environment, or doesn't where it is None."""
     path, _, query = target.partition("?")
     given: Dict[str, Any] = {
-        "REQUEST_METHOD": method, "PATH_INFO": path, "QUERY_STRING": query, "HTTP_AUTHORIZATION": authorization(),
-        "HTTP_X_BROKER_API_VERSION": "2.17", "wsgi.input": io.BytesIO(body), "CONTENT_LENGTH": str(len(body)),
-        **environ}
+        "REQUEST_METHOD": method,
+        "PATH_INFO": path,
+        "QUERY_STRING": query,
+        "HTTP_AUTHORIZATION": authorization(),
+        "HTTP_X_BROKER_API_VERSION": "2.17",
+        "wsgi.input": io.BytesIO(body),
+        "CONTENT_LENGTH": str(len(body)),
+        **environ,
+    }
     said: List[Any] = []
-    whole = b"".join(application({name: it for name, it in given.items() if it is not None},
-                                 lambda *line: said.extend(line)))
+    whole = b"".join(
+        application({name: it for name, it in given.items() if it is not None}, lambda *line: said.extend(line))
+    )
     return Reply(int(said[0].split()[0]), dict(said[1]), whole)
 
 

@@ -45,6 +45,7 @@ def far_end(came: List[bytes], *answers: Callable[[socket.socket], None]) -> Ite
                 with server.accept()[0] as connection, contextlib.suppress(OSError):
                     came.append(request_on(connection))
                     answer(connection)
+
         thread = threading.Thread(target=serve)
         thread.start()
         yield f"http://127.0.0.1:{server.getsockname()[1]}"
@@ -58,14 +59,23 @@ def saying(said: bytes) -> Callable[[socket.socket], None]:
 def slowly(said: bytes) -> Callable[[socket.socket], None]:
     def answer(connection: socket.socket) -> None:
         for at in range(len(said)):
-            connection.sendall(said[at:at + 1])
+            connection.sendall(said[at : at + 1])
             time.sleep(0.05)
+
     return answer
 
 
 def client(url: str, records: Optional[MemoryRecords] = None, seconds: float = 60.0) -> Client:
-    return Client(url, USER, PASSWORD, records or MemoryRecords(), organization="an organization", space="a space",
-                  seconds=seconds, longest_body=1000)
+    return Client(
+        url,
+        USER,
+        PASSWORD,
+        records or MemoryRecords(),
+        organization="an organization",
+        space="a space",
+        seconds=seconds,
+        longest_body=1000,
+    )
 
 
 def kept_as(state: State, operation: Optional[str] = None, out: Optional[Kind] = None) -> MemoryRecords:
@@ -93,18 +103,33 @@ class Sent(Quiet):
         head, _, body = came[0].partition(b"\r\n\r\n")
         lines = head.decode().split("\r\n")
         self.assertEqual(lines[0], f"PUT /a/v2/service_instances/{ONE}?accepts_incomplete=true HTTP/1.1")
-        for line in (f"Authorization: {authorization()}", "X-Broker-API-Version: 2.17",
-                     "Content-Type: application/json"):
+        for line in (
+            f"Authorization: {authorization()}",
+            "X-Broker-API-Version: 2.17",
+            "Content-Type: application/json",
+        ):
             self.assertIn(line, lines)
-        self.assertEqual(json.loads(body), {
-            "service_id": str(SERVICE), "plan_id": str(SYNC), "organization_guid": "an organization",
-            "space_guid": "a space", "parameters": {"size": 3}})
+        self.assertEqual(
+            json.loads(body),
+            {
+                "service_id": str(SERVICE),
+                "plan_id": str(SYNC),
+                "organization_guid": "an organization",
+                "space_guid": "a space",
+                "parameters": {"size": 3},
+            },
+        )
 
     def test_operation(self) -> None:
         """What a 202 names is sent back in Polls, and a deletion's takes its place."""
         came: List[bytes] = []
-        said = [response(202, b'{"operation":"making 1"}'), response(200, b'{"state":"in progress"}', "Retry-After: 7"),
-                response(200, b'{"state":"succeeded"}'), response(202), response(410)]
+        said = [
+            response(202, b'{"operation":"making 1"}'),
+            response(200, b'{"state":"in progress"}', "Retry-After: 7"),
+            response(200, b'{"state":"succeeded"}'),
+            response(202),
+            response(410),
+        ]
         with far_end(came, *map(saying, said)) as url:
             made = client(url)
             self.assertEqual(made.create(ONE, SERVICE, SYNC), exchanged(State.POLLING, Answer(202, Body.EMPTY)))
@@ -116,8 +141,11 @@ class Sent(Quiet):
         lines = [it.split(b"\r\n")[0].decode() for it in came]
         ids = f"service_id={SERVICE}&plan_id={SYNC}&accepts_incomplete=true"
         polled = f"GET /v2/service_instances/{ONE}/last_operation?{ids}"
-        self.assertEqual(lines[1:], [f"{polled}&operation=making+1 HTTP/1.1"] * 2 + [
-            f"DELETE /v2/service_instances/{ONE}?{ids} HTTP/1.1", f"{polled} HTTP/1.1"])
+        self.assertEqual(
+            lines[1:],
+            [f"{polled}&operation=making+1 HTTP/1.1"] * 2
+            + [f"DELETE /v2/service_instances/{ONE}?{ids} HTTP/1.1", f"{polled} HTTP/1.1"],
+        )
         self.assertNotIn(b"content-length", came[3].lower())
 
     def test_recorded_before_it_is_sent(self) -> None:
@@ -126,6 +154,7 @@ class Sent(Quiet):
         def look(connection: socket.socket) -> None:
             seen.append(records.update(ONE, lambda kept: (kept, kept.record)))
             connection.sendall(response(201))
+
         with far_end([], look) as url:
             client(url, records).create(ONE, SERVICE, SYNC)
         self.assertEqual(seen, [Record(SERVICE, SYNC, 1, State.WANTED, Kind.PROVISION)])
@@ -135,9 +164,11 @@ class Sent(Quiet):
         ready, nowhere = client("http://127.0.0.1:9", kept_as(State.READY)), client("http://127.0.0.1:9")
         calls: List[Tuple[Callable[[], object], Status]] = [
             (lambda: ready.create(ONE, SERVICE, SYNC), Status.ID_USED),
-            (lambda: ready.step(ONE), Status.NOTHING_DUE), (lambda: ready.expire(ONE), Status.NOT_POLLING),
+            (lambda: ready.step(ONE), Status.NOTHING_DUE),
+            (lambda: ready.expire(ONE), Status.NOT_POLLING),
             (lambda: nowhere.step(TWO), Status.UNKNOWN),
-            (lambda: nowhere.create(TWO, SERVICE, SYNC, True, "["), Status.NOT_JSON)]
+            (lambda: nowhere.create(TWO, SERVICE, SYNC, True, "["), Status.NOT_JSON),
+        ]
         for call, status in calls:
             with self.assertRaises(OsbError) as raised:
                 call()
@@ -149,16 +180,28 @@ class Sent(Quiet):
     def test_catalogue(self) -> None:
         """The document as it came, with its status; none where it didn't come whole."""
         document, came = b'{"services":[]}', []  # type: bytes, List[bytes]
-        with far_end(came, saying(response(200, document)), saying(response(500, document)),
-                     saying(response(200, document)[:-1])) as url:
+        with far_end(
+            came, saying(response(200, document)), saying(response(500, document)), saying(response(200, document)[:-1])
+        ) as url:
             made = client(url + "/a/")
             self.assertEqual([made.catalogue() for _ in range(3)], [(200, document), (500, document), None])
         self.assertTrue(came[0].startswith(b"GET /a/v2/catalog HTTP/1.1\r\n"))
         self.assertIn(authorization().encode(), came[0])
 
     def test_urls(self) -> None:
-        for url in ("ftp://a", "a", "http://", "http://u:p@a", "http://a/?b", "http://a/#b", "http://a/é",
-                    "http://a b", "http://a/b c", "http://a/?", "http://a:x"):
+        for url in (
+            "ftp://a",
+            "a",
+            "http://",
+            "http://u:p@a",
+            "http://a/?b",
+            "http://a/#b",
+            "http://a/é",
+            "http://a b",
+            "http://a/b c",
+            "http://a/?",
+            "http://a:x",
+        ):
             self.assertRaises(ValueError, client, url)
 
     def test_what_can_not_do_at_the_start(self) -> None:
@@ -178,21 +221,29 @@ class NoAnswer(Quiet):
     def test_to_a_provision(self) -> None:
         whole = response(201)
         for what, said in (
-                ("a gateway's", response(404)), ("a 4xx that is no object", response(400, b"<html>")),
-                ("nothing", b""), ("a head that was cut", whole[:20]), ("a body that was cut", whole[:-1]),
-                ("a body that is too long", response(201, b"{}".ljust(1001))), ("no HTTP", b"hello\r\n\r\n"),
-                ("chunks that were cut", CHUNKED + b"2\r\n{}\r\n"), ("a chunk of no size", CHUNKED + b"-5\r\n{}"),
-                ("a chunk without an end", CHUNKED + b"-1\r\n" + b" " * (3 << 20)),
-                ("no final response", b"HTTP/1.1 102 Said\r\n\r\n")):
+            ("a gateway's", response(404)),
+            ("a 4xx that is no object", response(400, b"<html>")),
+            ("nothing", b""),
+            ("a head that was cut", whole[:20]),
+            ("a body that was cut", whole[:-1]),
+            ("a body that is too long", response(201, b"{}".ljust(1001))),
+            ("no HTTP", b"hello\r\n\r\n"),
+            ("chunks that were cut", CHUNKED + b"2\r\n{}\r\n"),
+            ("a chunk of no size", CHUNKED + b"-5\r\n{}"),
+            ("a chunk without an end", CHUNKED + b"-1\r\n" + b" " * (3 << 20)),
+            ("no final response", b"HTTP/1.1 102 Said\r\n\r\n"),
+        ):
             with far_end([], saying(said)) as url:
                 self.assertEqual(client(url).create(ONE, SERVICE, SYNC), exchanged(State.CLEANING, None), what)
 
     def test_recorded_too_late(self) -> None:
         """What took all the time to be recorded isn't sent any more."""
+
         class Slow(MemoryRecords):
             def insert(self, id: Id, kept: Kept) -> None:
                 super().insert(id, kept)
                 time.sleep(0.3)
+
         came: List[bytes] = []
         with far_end(came, saying(response(201))) as url:
             late = client(url, Slow(), seconds=0.2).create(ONE, SERVICE, SYNC)
@@ -209,8 +260,10 @@ class NoAnswer(Quiet):
                 waiting.setblocking(False)
                 waiting.connect_ex(full.getsockname())
             url = stack.enter_context(far_end([], saying(response(201))))
-            found = [(socket.AF_INET, socket.SOCK_STREAM, 0, "", at)
-                     for at in (full.getsockname(), ("127.0.0.1", int(url.rpartition(":")[2])))]
+            found = [
+                (socket.AF_INET, socket.SOCK_STREAM, 0, "", at)
+                for at in (full.getsockname(), ("127.0.0.1", int(url.rpartition(":")[2])))
+            ]
             stack.enter_context(mock.patch("socket.getaddrinfo", lambda *_, **__: found))
             self.assertEqual(client(url, seconds=3.0).create(ONE, SERVICE, SYNC).record.state, State.READY)
 
@@ -230,9 +283,12 @@ class NoAnswer(Quiet):
             self.assertEqual(said, exchanged(State.CLEANING, None))
 
     def test_whole_ones(self) -> None:
-        for said in (b"HTTP/1.1 100 Continue\r\n\r\n" + response(201), response(201, b"{}".ljust(1000)),
-                     b"HTTP/1.1 201 Said\r\nTransfer-Encoding: chunked\r\n\r\n2\r\n{}\r\n0\r\n\r\n",
-                     b"HTTP/1.0 201 Said\r\n\r\n{}"):
+        for said in (
+            b"HTTP/1.1 100 Continue\r\n\r\n" + response(201),
+            response(201, b"{}".ljust(1000)),
+            b"HTTP/1.1 201 Said\r\nTransfer-Encoding: chunked\r\n\r\n2\r\n{}\r\n0\r\n\r\n",
+            b"HTTP/1.0 201 Said\r\n\r\n{}",
+        ):
             with far_end([], saying(said)) as url:
                 self.assertEqual(client(url).create(ONE, SERVICE, SYNC).record.state, State.READY, said)
 
@@ -253,8 +309,11 @@ class NoAnswer(Quiet):
 
 class GivenUp(Quiet):
     def test_what_a_crash_left(self) -> None:
-        for state, out, after in ((State.WANTED, Kind.PROVISION, State.CLEANING),
-                                  (State.POLLING, Kind.POLL, State.POLLING), (State.READY, None, State.READY)):
+        for state, out, after in (
+            (State.WANTED, Kind.PROVISION, State.CLEANING),
+            (State.POLLING, Kind.POLL, State.POLLING),
+            (State.READY, None, State.READY),
+        ):
             records = kept_as(state, "making", out)
             made = client("http://127.0.0.1:9", records)
             self.assertEqual(made.give_up(ONE), Record(SERVICE, SYNC, 1, after, None), state)
@@ -270,12 +329,14 @@ class GivenUp(Quiet):
             other.remove(ONE)
             records.update(ONE, lambda kept: (Kept(kept.record.send(ONE)[0]), None))
             connection.sendall(response(200, b'{"state":"succeeded"}'))
+
         with far_end([], late) as url:
             said = client(url, records).step(ONE)
         self.assertEqual(said, Exchanged(Record(SERVICE, SYNC, 3, State.CLEANING, Kind.DEPROVISION), None, None))
 
     def test_last_transaction_that_failed(self) -> None:
         """The request stays in flight, and is given up: what is due then finds out."""
+
         class Failing(MemoryRecords):
             left = 1
 
@@ -284,13 +345,15 @@ class GivenUp(Quiet):
                     raise OSError("the disk is full")
                 self.left -= 1
                 return super().update(id, change)
+
         records = Failing()
         records.insert(ONE, Kept(Record(SERVICE, SYNC, 1, State.CLEANING, None)))
         with far_end([], saying(response(200))) as url:
             self.assertRaises(OSError, client(url, records).step, ONE)
         records.left = 100
-        self.assertEqual(client("http://127.0.0.1:9", records).give_up(ONE),
-                         Record(SERVICE, SYNC, 2, State.CLEANING, None))
+        self.assertEqual(
+            client("http://127.0.0.1:9", records).give_up(ONE), Record(SERVICE, SYNC, 2, State.CLEANING, None)
+        )
 
     def test_expire(self) -> None:
         made = client("http://127.0.0.1:9", kept_as(State.POLLING))

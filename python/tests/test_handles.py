@@ -8,8 +8,15 @@ import unittest
 from typing import Callable, Optional
 
 from osb import Answer, Body, Broker, Id, Kind, OsbError, Outcome, Phase, Plan, Platform, State, Status, version
-from osb.tables import (decide_deprovision, decide_poll, decide_provision, decide_restart, decide_timeout, mitigates,
-                        well_formed)
+from osb.tables import (
+    decide_deprovision,
+    decide_poll,
+    decide_provision,
+    decide_restart,
+    decide_timeout,
+    mitigates,
+    well_formed,
+)
 from tests.support import ASYNC, ONE, SERVICE, TWO
 
 
@@ -30,8 +37,9 @@ class Tables(unittest.TestCase):
         self.assertEqual(decide_provision(Answer(422, Body.ASYNC_REQUIRED)), State.GONE)
         self.assertEqual(decide_deprovision(Answer(202, Body.EMPTY)), State.CLEANING_POLLING)
         self.assertEqual(decide_poll(State.CLEANING_POLLING, Answer(200, Body.SUCCEEDED)), State.GONE)
-        self.assertEqual((decide_timeout(State.WANTED), decide_restart(State.UNSETTLED)),
-                         (State.CLEANING, State.UNSETTLED))
+        self.assertEqual(
+            (decide_timeout(State.WANTED), decide_restart(State.UNSETTLED)), (State.CLEANING, State.UNSETTLED)
+        )
         self.assertRaises(ValueError, Answer, 2**16 + 200, Body.EMPTY)
 
     def test_version(self) -> None:
@@ -42,8 +50,13 @@ class Loading(unittest.TestCase):
     def test_no_library(self) -> None:
         """What can't be loaded, or is another library, is an ImportError that says so."""
         for name, said in (("/nowhere/libosb.so", "libosb isn't found"), ("libc.so.6", "of another version")):
-            ran = subprocess.run([sys.executable, "-c", "import osb"], env={**os.environ, "LIBOSB": name}, text=True,
-                                 capture_output=True, check=False)
+            ran = subprocess.run(
+                [sys.executable, "-c", "import osb"],
+                env={**os.environ, "LIBOSB": name},
+                text=True,
+                capture_output=True,
+                check=False,
+            )
             self.assertEqual(ran.returncode, 1)
             self.assertIn("ImportError", ran.stderr.splitlines()[-1])
             self.assertIn(said, ran.stderr.splitlines()[-1])

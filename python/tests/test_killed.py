@@ -35,9 +35,15 @@ class Killed(unittest.TestCase):
             try:
                 port, left = process.stdout.readline().split()
                 self.assertEqual(left, "0")
-                yield Client(f"http://127.0.0.1:{port}", USER, PASSWORD, SqliteRecords(self.folder / "records"),
-                             organization="an organization", space="a space",
-                             seconds=1 if is_stuck == "yes" else 60)
+                yield Client(
+                    f"http://127.0.0.1:{port}",
+                    USER,
+                    PASSWORD,
+                    SqliteRecords(self.folder / "records"),
+                    organization="an organization",
+                    space="a space",
+                    seconds=1 if is_stuck == "yes" else 60,
+                )
             finally:
                 process.kill()
 
@@ -57,8 +63,9 @@ class Killed(unittest.TestCase):
             self.half(True)
         with self.broker("no") as client:
             self.assertEqual(self.things(), 2)
-            self.assertEqual(client.step(ONE),
-                             Exchanged(Record(SERVICE, SYNC, 2, State.GONE, None), Answer(200, Body.EMPTY), None))
+            self.assertEqual(
+                client.step(ONE), Exchanged(Record(SERVICE, SYNC, 2, State.GONE, None), Answer(200, Body.EMPTY), None)
+            )
         self.assertEqual(self.things(), 0)
         held = SqliteStore(self.folder / "holdings").update(ONE, lambda holding: (holding, holding))
         self.assertEqual(held, Holding(is_marked=True))
@@ -72,8 +79,10 @@ class Killed(unittest.TestCase):
             self.half(False)
         with self.broker("no") as client:
             self.assertEqual(self.things(), 0)
-            self.assertEqual(client.step(ONE),
-                             Exchanged(Record(SERVICE, SYNC, 3, State.GONE, None), Answer(410, Body.OTHER_ERROR), None))
+            self.assertEqual(
+                client.step(ONE),
+                Exchanged(Record(SERVICE, SYNC, 3, State.GONE, None), Answer(410, Body.OTHER_ERROR), None),
+            )
 
 
 if __name__ == "__main__":

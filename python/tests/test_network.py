@@ -15,8 +15,20 @@ from osb.client import Client
 from osb.records import Kept, SqliteRecords
 from osb.stores import SqliteStore
 from osb.wsgi import BrokerApplication
-from tests.support import (ASYNC, CATALOGUE, ONE, PASSWORD, SERVICE, SYNC, USER, Things, authorization, provision_body,
-                           served, target)
+from tests.support import (
+    ASYNC,
+    CATALOGUE,
+    ONE,
+    PASSWORD,
+    SERVICE,
+    SYNC,
+    USER,
+    Things,
+    authorization,
+    provision_body,
+    served,
+    target,
+)
 
 
 class Lossy:
@@ -49,8 +61,15 @@ class BothSides(unittest.TestCase):
         self.network = Lossy(self.broker)
 
     def client(self, url: str) -> Client:
-        return Client(url + "/a", USER, PASSWORD, SqliteRecords(self.folder / "records"), space="a space",
-                      organization="an organization", seconds=60)
+        return Client(
+            url + "/a",
+            USER,
+            PASSWORD,
+            SqliteRecords(self.folder / "records"),
+            space="a space",
+            organization="an organization",
+            seconds=60,
+        )
 
     def held(self, id: Id = ONE) -> Holding:
         return self.store.update(id, lambda holding: (holding, holding))
@@ -97,8 +116,10 @@ class BothSides(unittest.TestCase):
 
     def test_broker_that_was_killed(self) -> None:
         """The worker's process ends in the middle of its work; the next one takes the work up, and so it is deleted."""
+
         def killed(*_: object) -> None:
             raise SystemError("killed")
+
         self.worker.before = killed
         with served(self.network) as url:
             made = self.client(url)
@@ -123,8 +144,12 @@ class BothSides(unittest.TestCase):
 
     def late_provision(self, url: str) -> Tuple[int, str]:
         connection = HTTPConnection(urlsplit(url).netloc)
-        connection.request("PUT", "/a" + target(plan=None), provision_body(), {
-            "Authorization": authorization(), "X-Broker-API-Version": "2.17", "Content-Type": "application/json"})
+        connection.request(
+            "PUT",
+            "/a" + target(plan=None),
+            provision_body(),
+            {"Authorization": authorization(), "X-Broker-API-Version": "2.17", "Content-Type": "application/json"},
+        )
         response = connection.getresponse()
         said = response.status, str(json.loads(response.read())["error"])
         connection.close()

@@ -50,6 +50,7 @@ class Opened(unittest.TestCase):
         def fsync(descriptor: int) -> None:
             names.append(os.readlink(f"/proc/self/fd/{descriptor}"))
             whole(descriptor)
+
         with mock.patch("os.fsync", fsync):
             database.append(opened(self.file, 1.0, is_first))
         self.addCleanup(database[-1].close)
@@ -85,7 +86,9 @@ class Opened(unittest.TestCase):
             database.execute("INSERT INTO x VALUES (4)")
             raise KeyError("x")
         with transaction(self.file, 1.0) as database:
-            self.assertEqual((pragma(database, "synchronous"), database.execute("SELECT y FROM x").fetchall()), (2, [(3,)]))
+            self.assertEqual(
+                (pragma(database, "synchronous"), database.execute("SELECT y FROM x").fetchall()), (2, [(3,)])
+            )
 
     def test_waiting_for_another(self) -> None:
         """It begins once the other has ended, and not before; the connection's own waiting is as it was."""

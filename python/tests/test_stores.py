@@ -53,6 +53,7 @@ class Stores(InFolder):
     def test_nothing_is_written_where_it_raises(self) -> None:
         def broken(holding: Holding) -> Tuple[Holding, None]:
             raise KeyError("x")
+
         for store in self.both():
             store.update(ONE, lambda _: (MAKING, None))
             self.assertRaises(KeyError, store.update, ONE, broken)
@@ -64,8 +65,12 @@ class Stores(InFolder):
 
     def test_unfinished(self) -> None:
         for store in self.both():
-            for id, holding in ((ONE, MAKING), (TWO, READY), (Id(0, 3), Holding(work=request(Kind.PROVISION))),
-                                (Id(0, 4), Holding(is_marked=True))):
+            for id, holding in (
+                (ONE, MAKING),
+                (TWO, READY),
+                (Id(0, 3), Holding(work=request(Kind.PROVISION))),
+                (Id(0, 4), Holding(is_marked=True)),
+            ):
                 store.update(id, lambda _, it=holding: (it, None))  # type: ignore[misc]
             self.assertEqual(sorted(store.unfinished()), [ONE, Id(0, 3)])
             store.update(ONE, lambda _: (READY, None))
@@ -83,8 +88,10 @@ class Stores(InFolder):
             said: List[bool] = []
 
             def take(store: Store = store, said: List[bool] = said) -> None:
-                said.append(store.update(ONE, lambda holding: (
-                    Holding(work=request(Kind.PROVISION)), holding == Holding.NONE)))
+                said.append(
+                    store.update(ONE, lambda holding: (Holding(work=request(Kind.PROVISION)), holding == Holding.NONE))
+                )
+
             at_once(20, take)
             self.assertEqual(sorted(said), [False] * 19 + [True])
 
@@ -120,6 +127,7 @@ class Records(InFolder):
 
             def sent(store: RecordStore = store) -> None:
                 store.update(ONE, lambda it: (Kept(it.record.send(ONE)[0].timeout(it.record.attempt + 1)), None))
+
             at_once(20, sent)
             self.assertEqual(kept(store).record.attempt, 20)
 
@@ -134,6 +142,7 @@ class Locks(InFolder):
                 inside.append(1)
                 most.append(len(inside))
                 inside.pop()
+
         at_once(20, work)
         self.assertEqual(most, [1] * 20)
 

@@ -4,8 +4,24 @@ from __future__ import annotations
 import unittest
 from typing import Callable, Optional, Tuple
 
-from osb import (Answer, Body, BrokerRow, Holding, Id, Kind, Mode, OsbError, Outcome, Phase, PlatformRow, Record, State,
-                 Status, Work, work_of)
+from osb import (
+    Answer,
+    Body,
+    BrokerRow,
+    Holding,
+    Id,
+    Kind,
+    Mode,
+    OsbError,
+    Outcome,
+    Phase,
+    PlatformRow,
+    Record,
+    State,
+    Status,
+    Work,
+    work_of,
+)
 from tests.support import ASYNC, ONE, SERVICE, SYNC, TWO, request
 
 PROVISION, POLL, DEPROVISION = Kind.PROVISION, Kind.POLL, Kind.DEPROVISION
@@ -37,8 +53,13 @@ class Ids(unittest.TestCase):
         self.assertLess(ONE, TWO)
 
     def test_others(self) -> None:
-        for text in ("", "1", "{12345678-9abc-def0-1234-56789abcdef0}", "12345678-9abc-def0-1234-56789abcdeg0",
-                     "\ud800"):
+        for text in (
+            "",
+            "1",
+            "{12345678-9abc-def0-1234-56789abcdef0}",
+            "12345678-9abc-def0-1234-56789abcdeg0",
+            "\ud800",
+        ):
             self.assertEqual(status_of(lambda: Id.of(text)), Status.NOT_AN_ID, text)
         for high, low in ((-1, 0), (0, 2**64)):
             self.assertRaises(ValueError, Id, high, low)
@@ -53,9 +74,17 @@ class Ids(unittest.TestCase):
 class Names(unittest.TestCase):
     def test_shown(self) -> None:
         """By `print` and in f-strings, alike in every Python; a number is what it was."""
-        for it, name in ((State.READY, "ready"), (State.CLEANING_POLLING, "cleaning-polling"), (Kind.POLL, "poll"),
-                         (Phase.DELETE_FAILED, "delete-failed"), (Status.NOT_UTF8, "not-utf8"), (Mode.SYNC, "sync"),
-                         (Body.EMPTY, "empty"), (Outcome.AFTER, "after"), (Work.START_MAKING, "start-making")):
+        for it, name in (
+            (State.READY, "ready"),
+            (State.CLEANING_POLLING, "cleaning-polling"),
+            (Kind.POLL, "poll"),
+            (Phase.DELETE_FAILED, "delete-failed"),
+            (Status.NOT_UTF8, "not-utf8"),
+            (Mode.SYNC, "sync"),
+            (Body.EMPTY, "empty"),
+            (Outcome.AFTER, "after"),
+            (Work.START_MAKING, "start-making"),
+        ):
             self.assertEqual((str(it), f"{it}", f"{it:>20}"), (name, name, name.rjust(20)))
         self.assertEqual((int(State.READY), State(2), f"{State.READY.value:02}"), (2, State.READY, "02"))
 
@@ -79,11 +108,17 @@ class Records(unittest.TestCase):
         wanted, polling = record(State.WANTED, PROVISION, 1), record(State.POLLING, POLL, 2)
         cleaning = record(State.CLEANING, DEPROVISION, 3)
         for before, status, body, after in (
-                (wanted, 201, Body.EMPTY, State.READY), (wanted, 202, Body.EMPTY, State.POLLING),
-                (wanted, 409, Body.OTHER_ERROR, State.UNSETTLED), (wanted, 400, Body.OTHER_ERROR, State.GONE),
-                (wanted, 500, Body.OTHER_ERROR, State.CLEANING), (polling, 200, Body.SUCCEEDED, State.READY),
-                (polling, 200, Body.FAILED, State.CLEANING), (polling, 410, Body.EMPTY, State.POLLING),
-                (cleaning, 410, Body.MALFORMED, State.GONE), (cleaning, 202, Body.EMPTY, State.CLEANING_POLLING)):
+            (wanted, 201, Body.EMPTY, State.READY),
+            (wanted, 202, Body.EMPTY, State.POLLING),
+            (wanted, 409, Body.OTHER_ERROR, State.UNSETTLED),
+            (wanted, 400, Body.OTHER_ERROR, State.GONE),
+            (wanted, 500, Body.OTHER_ERROR, State.CLEANING),
+            (polling, 200, Body.SUCCEEDED, State.READY),
+            (polling, 200, Body.FAILED, State.CLEANING),
+            (polling, 410, Body.EMPTY, State.POLLING),
+            (cleaning, 410, Body.MALFORMED, State.GONE),
+            (cleaning, 202, Body.EMPTY, State.CLEANING_POLLING),
+        ):
             taken = before.answer(before.attempt, Answer(status, body))
             self.assertEqual(taken, record(after, None, before.attempt), (before, status))
 
@@ -121,16 +156,25 @@ class Records(unittest.TestCase):
                 self.assertEqual(status_of(call), Status.BAD_RECORD, it)
 
 
-RECORD = ('{"attempt":1,"out":"provision","plan":"00000000-0000-0000-0000-0000000000b1",'
-          '"service":"00000000-0000-0000-0000-0000000000a0","state":"wanted","version":1}')
+RECORD = (
+    '{"attempt":1,"out":"provision","plan":"00000000-0000-0000-0000-0000000000b1",'
+    '"service":"00000000-0000-0000-0000-0000000000a0","state":"wanted","version":1}'
+)
 HOLDINGS = [
-    ('{"marked":false,"row":null,"version":1,"work":{"accepts_incomplete":true,'
-     '"id":"00000000-0000-0000-0000-000000000001","kind":"provision","plan":"00000000-0000-0000-0000-0000000000b1",'
-     '"service":"00000000-0000-0000-0000-0000000000a0"}}', Holding(work=request(PROVISION))),
-    ('{"marked":false,"row":{"phase":"ready","plan":"00000000-0000-0000-0000-0000000000b1",'
-     '"service":"00000000-0000-0000-0000-0000000000a0"},"version":1,"work":null}', Holding(row(Phase.READY, SYNC))),
+    (
+        '{"marked":false,"row":null,"version":1,"work":{"accepts_incomplete":true,'
+        '"id":"00000000-0000-0000-0000-000000000001","kind":"provision","plan":"00000000-0000-0000-0000-0000000000b1",'
+        '"service":"00000000-0000-0000-0000-0000000000a0"}}',
+        Holding(work=request(PROVISION)),
+    ),
+    (
+        '{"marked":false,"row":{"phase":"ready","plan":"00000000-0000-0000-0000-0000000000b1",'
+        '"service":"00000000-0000-0000-0000-0000000000a0"},"version":1,"work":null}',
+        Holding(row(Phase.READY, SYNC)),
+    ),
     ('{"marked":true,"row":null,"version":1,"work":null}', Holding(is_marked=True)),
-    ('{"marked":false,"row":null,"version":1,"work":null}', Holding.NONE)]
+    ('{"marked":false,"row":null,"version":1,"work":null}', Holding.NONE),
+]
 
 
 class Texts(unittest.TestCase):
@@ -147,11 +191,17 @@ class Texts(unittest.TestCase):
     def test_faults(self) -> None:
         marked = HOLDINGS[2][0]
         for text, fault in (
-                ("", Status.NOT_JSON), ("[]", Status.NOT_AN_OBJECT), ("{}", Status.BAD_VERSION),
-                (RECORD.replace(":1}", ":1.0}"), Status.BAD_VERSION), (marked, Status.BAD_OUTER),
-                (RECORD.replace("wanted", "done"), Status.BAD_MEMBER),
-                (RECORD.replace(":1,", ":-1,"), Status.BAD_MEMBER), (RECORD.replace(":1,", ":2,"), Status.IMPOSSIBLE),
-                (RECORD.replace('"provision"', "null"), Status.IMPOSSIBLE), ("\ud800", Status.NOT_UTF8)):
+            ("", Status.NOT_JSON),
+            ("[]", Status.NOT_AN_OBJECT),
+            ("{}", Status.BAD_VERSION),
+            (RECORD.replace(":1}", ":1.0}"), Status.BAD_VERSION),
+            (marked, Status.BAD_OUTER),
+            (RECORD.replace("wanted", "done"), Status.BAD_MEMBER),
+            (RECORD.replace(":1,", ":-1,"), Status.BAD_MEMBER),
+            (RECORD.replace(":1,", ":2,"), Status.IMPOSSIBLE),
+            (RECORD.replace('"provision"', "null"), Status.IMPOSSIBLE),
+            ("\ud800", Status.NOT_UTF8),
+        ):
             self.assertEqual(status_of(lambda: Record.from_text(text)), fault, text)
         both = HOLDINGS[1][0].replace("false", "true")
         for text, fault in ((both, Status.IMPOSSIBLE), (RECORD, Status.BAD_OUTER), (marked[:-1], Status.NOT_JSON)):
@@ -164,25 +214,34 @@ def holding_with_work(kind: Kind, plan: Id = SYNC) -> Holding:
 
 
 class Holdings(unittest.TestCase):
-    def begins(self, holding: Holding, mode: Optional[Mode], kind: Kind, plan: Id, said: object,
-               after: Holding) -> None:
+    def begins(
+        self, holding: Holding, mode: Optional[Mode], kind: Kind, plan: Id, said: object, after: Holding
+    ) -> None:
         self.assertEqual(holding.begin(mode, request(kind, plan)), (after, said), (holding, kind))
 
     def test_busy(self) -> None:
         for held in (holding_with_work(PROVISION), holding_with_work(DEPROVISION)):
-            for kind, said in ((PROVISION, Answer(503, Body.OTHER_ERROR)), (POLL, Answer(200, Body.IN_PROGRESS)),
-                               (DEPROVISION, Answer(422, Body.CONCURRENCY_ERROR))):
+            for kind, said in (
+                (PROVISION, Answer(503, Body.OTHER_ERROR)),
+                (POLL, Answer(200, Body.IN_PROGRESS)),
+                (DEPROVISION, Answer(422, Body.CONCURRENCY_ERROR)),
+            ):
                 self.begins(held, Mode.SYNC, kind, SYNC, said, held)
 
     def test_marked(self) -> None:
         marked = Holding(is_marked=True)
-        for kind, said in ((PROVISION, Answer(409, Body.OTHER_ERROR)), (DEPROVISION, Answer(410, Body.OTHER_ERROR)),
-                           (POLL, Answer(410, Body.OTHER_ERROR))):
+        for kind, said in (
+            (PROVISION, Answer(409, Body.OTHER_ERROR)),
+            (DEPROVISION, Answer(410, Body.OTHER_ERROR)),
+            (POLL, Answer(410, Body.OTHER_ERROR)),
+        ):
             self.begins(marked, Mode.SYNC, kind, SYNC, said, marked)
 
     def test_work(self) -> None:
-        for mode, plan, making, deleting in ((Mode.SYNC, SYNC, Work.MAKE, Work.DELETE),
-                                             (Mode.ASYNC, ASYNC, Work.START_MAKING, Work.START_DELETING)):
+        for mode, plan, making, deleting in (
+            (Mode.SYNC, SYNC, Work.MAKE, Work.DELETE),
+            (Mode.ASYNC, ASYNC, Work.START_MAKING, Work.START_DELETING),
+        ):
             self.begins(Holding.NONE, mode, PROVISION, plan, making, Holding(work=request(PROVISION, plan)))
             ready = Holding(row(Phase.READY, plan))
             self.begins(ready, mode, DEPROVISION, plan, deleting, Holding(ready.row, request(DEPROVISION, plan)))
@@ -196,8 +255,7 @@ class Holdings(unittest.TestCase):
         self.begins(ready, Mode.SYNC, PROVISION, SYNC, Answer(200, Body.EMPTY), ready)
         self.begins(ready, Mode.SYNC, POLL, SYNC, Answer(200, Body.SUCCEEDED), ready)
         unwilling = request(PROVISION, ASYNC, accepts=False)
-        self.assertEqual(Holding.NONE.begin(Mode.ASYNC, unwilling),
-                         (Holding.NONE, Answer(422, Body.ASYNC_REQUIRED)))
+        self.assertEqual(Holding.NONE.begin(Mode.ASYNC, unwilling), (Holding.NONE, Answer(422, Body.ASYNC_REQUIRED)))
 
     def test_end(self) -> None:
         done, before, after = Outcome.DONE, Outcome.BEFORE, Outcome.AFTER
@@ -207,13 +265,15 @@ class Holdings(unittest.TestCase):
             (Mode.ASYNC, PROVISION, done, Answer(202, Body.EMPTY), Holding(row(Phase.MAKING))),
             (Mode.SYNC, PROVISION, after, failed, Holding(row(Phase.READY, SYNC))),
             (Mode.ASYNC, PROVISION, after, failed, Holding(row(Phase.MAKING))),
-            (Mode.SYNC, PROVISION, before, failed, Holding.NONE), (Mode.ASYNC, PROVISION, before, failed, Holding.NONE),
+            (Mode.SYNC, PROVISION, before, failed, Holding.NONE),
+            (Mode.ASYNC, PROVISION, before, failed, Holding.NONE),
             (Mode.SYNC, DEPROVISION, done, Answer(200, Body.EMPTY), marked),
             (Mode.SYNC, DEPROVISION, after, failed, marked),
             (Mode.ASYNC, DEPROVISION, done, Answer(202, Body.EMPTY), Holding(row(Phase.DELETING))),
             (Mode.ASYNC, DEPROVISION, after, failed, Holding(row(Phase.DELETING))),
             (Mode.SYNC, DEPROVISION, before, failed, Holding(row(Phase.READY, SYNC))),
-            (Mode.ASYNC, DEPROVISION, before, failed, Holding(row(Phase.READY))))
+            (Mode.ASYNC, DEPROVISION, before, failed, Holding(row(Phase.READY))),
+        )
         for mode, kind, outcome, answer, left in table:
             held = holding_with_work(kind, SYNC if mode == Mode.SYNC else ASYNC)
             self.assertEqual(held.end(mode, outcome), (left, answer), (mode, kind, outcome))
@@ -221,21 +281,28 @@ class Holdings(unittest.TestCase):
 
     def test_finish(self) -> None:
         for phase, ok, after in (
-                (Phase.MAKING, True, Holding(row(Phase.READY))), (Phase.MAKING, False, Holding(row(Phase.FAILED))),
-                (Phase.DELETING, True, Holding(is_marked=True)),
-                (Phase.DELETING, False, Holding(row(Phase.DELETE_FAILED)))):
+            (Phase.MAKING, True, Holding(row(Phase.READY))),
+            (Phase.MAKING, False, Holding(row(Phase.FAILED))),
+            (Phase.DELETING, True, Holding(is_marked=True)),
+            (Phase.DELETING, False, Holding(row(Phase.DELETE_FAILED))),
+        ):
             self.assertEqual(Holding(row(phase)).finish(ok), after, (phase, ok))
         for held in (Holding.NONE, Holding(is_marked=True), Holding(row(Phase.READY)), holding_with_work(PROVISION)):
             self.assertEqual(status_of(lambda: held.finish(True)), Status.NOTHING_RUNNING, held)
 
     def test_handle(self) -> None:
-        self.assertEqual(Holding.NONE.handle(Mode.SYNC, request(PROVISION), Outcome.DONE),
-                         (Holding(row(Phase.READY, SYNC)), Answer(201, Body.EMPTY)))
+        self.assertEqual(
+            Holding.NONE.handle(Mode.SYNC, request(PROVISION), Outcome.DONE),
+            (Holding(row(Phase.READY, SYNC)), Answer(201, Body.EMPTY)),
+        )
 
     def test_fits(self) -> None:
         for held, sync, asynchronous, none in (
-                (Holding.NONE, True, True, True), (Holding(row(Phase.READY)), True, True, False),
-                (Holding(row(Phase.MAKING)), False, True, False), (holding_with_work(PROVISION), True, True, False)):
+            (Holding.NONE, True, True, True),
+            (Holding(row(Phase.READY)), True, True, False),
+            (Holding(row(Phase.MAKING)), False, True, False),
+            (holding_with_work(PROVISION), True, True, False),
+        ):
             fits = [held.fits(mode) for mode in (Mode.SYNC, Mode.ASYNC, None)]
             self.assertEqual(fits, [sync, asynchronous, none], held)
 
@@ -246,10 +313,15 @@ class Holdings(unittest.TestCase):
             self.assertFalse(held.fits(Mode.ASYNC), held)
 
     def test_unfinished(self) -> None:
-        for held, is_it in ((Holding.NONE, False), (Holding(row(Phase.READY)), False),
-                            (Holding(row(Phase.FAILED)), False), (Holding(row(Phase.MAKING)), True),
-                            (Holding(row(Phase.DELETING)), True),
-                            (holding_with_work(PROVISION), True), (holding_with_work(DEPROVISION), True)):
+        for held, is_it in (
+            (Holding.NONE, False),
+            (Holding(row(Phase.READY)), False),
+            (Holding(row(Phase.FAILED)), False),
+            (Holding(row(Phase.MAKING)), True),
+            (Holding(row(Phase.DELETING)), True),
+            (holding_with_work(PROVISION), True),
+            (holding_with_work(DEPROVISION), True),
+        ):
             self.assertEqual(held.is_unfinished, is_it, held)
 
 

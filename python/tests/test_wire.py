@@ -6,8 +6,21 @@ import unittest
 from typing import Callable, Optional
 
 from osb import Answer, Body, Id, Kind, OsbError, Plan, Refusal, Request, Status
-from osb.wire import (Asked, api_version, asked_operation, basic_auth, catalogue_plans, read_answer, read_operation,
-                      read_request, retry_after, write_answer, write_body, write_method, write_target)
+from osb.wire import (
+    Asked,
+    api_version,
+    asked_operation,
+    basic_auth,
+    catalogue_plans,
+    read_answer,
+    read_operation,
+    read_request,
+    retry_after,
+    write_answer,
+    write_body,
+    write_method,
+    write_target,
+)
 from tests.support import ASYNC, CATALOGUE, ONE, PASSWORD, SERVICE, SYNC, USER, authorization, provision_body, request
 
 PROVISION, POLL, DEPROVISION = Kind.PROVISION, Kind.POLL, Kind.DEPROVISION
@@ -25,14 +38,21 @@ def refusal_of(call: Callable[[], object]) -> Optional[Refusal]:
 class Responses(unittest.TestCase):
     def test_read_answer(self) -> None:
         for kind, status, body, read in (
-                (PROVISION, 201, b"{}", Body.EMPTY), (DEPROVISION, 200, b'{"state":"failed"}', Body.EMPTY),
-                (PROVISION, 202, b"[]", Body.MALFORMED), (POLL, 200, b'{"state":"in progress"}', Body.IN_PROGRESS),
-                (POLL, 200, b'{"state":"succeeded"}', Body.SUCCEEDED), (POLL, 200, b'{"state":"failed"}', Body.FAILED),
-                (POLL, 200, b'{"state":"done"}', Body.EMPTY), (POLL, 200, b"", Body.MALFORMED),
-                (PROVISION, 422, b'{"error":"AsyncRequired"}', Body.ASYNC_REQUIRED),
-                (DEPROVISION, 422, b'{"error":"ConcurrencyError"}', Body.CONCURRENCY_ERROR),
-                (PROVISION, 400, b'{"error":"x"}', Body.OTHER_ERROR), (PROVISION, 500, b'{"a":1}', Body.EMPTY),
-                (PROVISION, 201, b'{"a":1e309}', Body.MALFORMED), (DEPROVISION, 410, b"", Body.MALFORMED)):
+            (PROVISION, 201, b"{}", Body.EMPTY),
+            (DEPROVISION, 200, b'{"state":"failed"}', Body.EMPTY),
+            (PROVISION, 202, b"[]", Body.MALFORMED),
+            (POLL, 200, b'{"state":"in progress"}', Body.IN_PROGRESS),
+            (POLL, 200, b'{"state":"succeeded"}', Body.SUCCEEDED),
+            (POLL, 200, b'{"state":"failed"}', Body.FAILED),
+            (POLL, 200, b'{"state":"done"}', Body.EMPTY),
+            (POLL, 200, b"", Body.MALFORMED),
+            (PROVISION, 422, b'{"error":"AsyncRequired"}', Body.ASYNC_REQUIRED),
+            (DEPROVISION, 422, b'{"error":"ConcurrencyError"}', Body.CONCURRENCY_ERROR),
+            (PROVISION, 400, b'{"error":"x"}', Body.OTHER_ERROR),
+            (PROVISION, 500, b'{"a":1}', Body.EMPTY),
+            (PROVISION, 201, b'{"a":1e309}', Body.MALFORMED),
+            (DEPROVISION, 410, b"", Body.MALFORMED),
+        ):
             self.assertEqual(read_answer(kind, status, body), Answer(status, read), (kind, status, body))
 
     def test_not_surely_the_brokers(self) -> None:
@@ -59,11 +79,17 @@ class Requests(unittest.TestCase):
         front = f"/postgres/v2/service_instances/{ONE}"
         ids = f"service_id={SERVICE}&plan_id={SYNC}"
         for kind, accepts, operation, method, wanted in (
-                (PROVISION, True, None, "PUT", f"{front}?accepts_incomplete=true"),
-                (PROVISION, False, None, "PUT", front),
-                (POLL, True, "making 1*é", "GET",
-                 f"{front}/last_operation?{ids}&accepts_incomplete=true&operation=making+1*%C3%A9"),
-                (DEPROVISION, False, None, "DELETE", f"{front}?{ids}")):
+            (PROVISION, True, None, "PUT", f"{front}?accepts_incomplete=true"),
+            (PROVISION, False, None, "PUT", front),
+            (
+                POLL,
+                True,
+                "making 1*é",
+                "GET",
+                f"{front}/last_operation?{ids}&accepts_incomplete=true&operation=making+1*%C3%A9",
+            ),
+            (DEPROVISION, False, None, "DELETE", f"{front}?{ids}"),
+        ):
             asked = request(kind, accepts=accepts)
             self.assertEqual((write_method(kind), write_target(asked, operation, "/postgres")), (method, wanted))
             if kind != PROVISION:
@@ -72,8 +98,16 @@ class Requests(unittest.TestCase):
     def test_body(self) -> None:
         further = '{"parameters":{"size":3},"service_id":"mine"}'
         written = json.loads(write_body(request(PROVISION), 'an "organization"', "a space", further))
-        self.assertEqual(written, {"service_id": str(SERVICE), "plan_id": str(SYNC), "space_guid": "a space",
-                                   "organization_guid": 'an "organization"', "parameters": {"size": 3}})
+        self.assertEqual(
+            written,
+            {
+                "service_id": str(SERVICE),
+                "plan_id": str(SYNC),
+                "space_guid": "a space",
+                "organization_guid": 'an "organization"',
+                "parameters": {"size": 3},
+            },
+        )
         for text, fault in (("{", Status.NOT_JSON), ("[]", Status.NOT_AN_OBJECT), ('{"a":NaN}', Status.NOT_JSON)):
             with self.assertRaises(OsbError) as raised:
                 write_body(request(PROVISION), "an organization", "a space", text)
@@ -83,8 +117,13 @@ class Requests(unittest.TestCase):
         for kind in Kind:
             for accepts in (False, True):
                 asked = request(kind, ASYNC, accepts)
-                read = read_request(write_method(kind), write_target(asked, None, "/a").encode(),
-                                    write_body(asked, "an organization", "a space"), 1000, "/a")
+                read = read_request(
+                    write_method(kind),
+                    write_target(asked, None, "/a").encode(),
+                    write_body(asked, "an organization", "a space"),
+                    1000,
+                    "/a",
+                )
                 self.assertEqual(read, Asked(kind, accepts, ONE, SERVICE, ASYNC))
                 self.assertEqual(read.request(None), asked)
 
@@ -92,19 +131,20 @@ class Requests(unittest.TestCase):
         front, body = "/v2/service_instances/", provision_body()
         ids = f"service_id={SERVICE}&plan_id={SYNC}"
         for method, target, given, status, http in (
-                ("PUT", "/v2/catalog", body, Status.REFUSED_TARGET, 404),
-                ("PUT", f"{front}{ONE}/a", body, Status.REFUSED_TARGET, 404),
-                ("GET", f"{front}{ONE}", b"", Status.REFUSED_METHOD, 405),
-                ("PUT", f"{front}{ONE}/last_operation", b"", Status.REFUSED_METHOD, 405),
-                ("PUT", f"{front}1", body, Status.REFUSED_INSTANCE, 400),
-                ("PUT", f"{front}{ONE}", b" " * 1001, Status.REFUSED_LENGTH, 413),
-                ("DELETE", f"{front}{ONE}?{ids}&service_id=", b"", Status.REFUSED_REPEATED, 400),
-                ("DELETE", f"{front}{ONE}?plan_id={SYNC}", b"", Status.REFUSED_SERVICE, 400),
-                ("DELETE", f"{front}{ONE}?service_id={SERVICE}", b"", Status.REFUSED_PLAN, 400),
-                ("PUT", f"{front}{ONE}?accepts_incomplete=1", body, Status.REFUSED_ACCEPTS_INCOMPLETE, 400),
-                ("PUT", f"{front}{ONE}", b"[]", Status.REFUSED_BODY, 400),
-                ("PUT", f"{front}{ONE}", body.replace(b"an organization", b""), Status.REFUSED_ORGANIZATION, 400),
-                ("PUT", f"{front}{ONE}", body.replace(b"space_guid", b"space"), Status.REFUSED_SPACE, 400)):
+            ("PUT", "/v2/catalog", body, Status.REFUSED_TARGET, 404),
+            ("PUT", f"{front}{ONE}/a", body, Status.REFUSED_TARGET, 404),
+            ("GET", f"{front}{ONE}", b"", Status.REFUSED_METHOD, 405),
+            ("PUT", f"{front}{ONE}/last_operation", b"", Status.REFUSED_METHOD, 405),
+            ("PUT", f"{front}1", body, Status.REFUSED_INSTANCE, 400),
+            ("PUT", f"{front}{ONE}", b" " * 1001, Status.REFUSED_LENGTH, 413),
+            ("DELETE", f"{front}{ONE}?{ids}&service_id=", b"", Status.REFUSED_REPEATED, 400),
+            ("DELETE", f"{front}{ONE}?plan_id={SYNC}", b"", Status.REFUSED_SERVICE, 400),
+            ("DELETE", f"{front}{ONE}?service_id={SERVICE}", b"", Status.REFUSED_PLAN, 400),
+            ("PUT", f"{front}{ONE}?accepts_incomplete=1", body, Status.REFUSED_ACCEPTS_INCOMPLETE, 400),
+            ("PUT", f"{front}{ONE}", b"[]", Status.REFUSED_BODY, 400),
+            ("PUT", f"{front}{ONE}", body.replace(b"an organization", b""), Status.REFUSED_ORGANIZATION, 400),
+            ("PUT", f"{front}{ONE}", body.replace(b"space_guid", b"space"), Status.REFUSED_SPACE, 400),
+        ):
             refusal = refusal_of(lambda: read_request(method, target.encode(), given, 1000))
             assert refusal is not None, target
             self.assertEqual((refusal.status, refusal.http_status), (status, http), target)
@@ -130,20 +170,26 @@ class Requests(unittest.TestCase):
 class Answers(unittest.TestCase):
     def test_write(self) -> None:
         for answer, operation, wanted in (
-                (Answer(201, Body.EMPTY), None, {}), (Answer(202, Body.EMPTY), "making 1", {"operation": "making 1"}),
-                (Answer(200, Body.EMPTY), "making 1", {}),
-                (Answer(200, Body.IN_PROGRESS), None, {"state": "in progress"}),
-                (Answer(200, Body.SUCCEEDED), None, {"state": "succeeded"}),
-                (Answer(200, Body.FAILED), None, {"state": "failed"})):
+            (Answer(201, Body.EMPTY), None, {}),
+            (Answer(202, Body.EMPTY), "making 1", {"operation": "making 1"}),
+            (Answer(200, Body.EMPTY), "making 1", {}),
+            (Answer(200, Body.IN_PROGRESS), None, {"state": "in progress"}),
+            (Answer(200, Body.SUCCEEDED), None, {"state": "succeeded"}),
+            (Answer(200, Body.FAILED), None, {"state": "failed"}),
+        ):
             self.assertEqual(json.loads(write_answer(answer, operation)), wanted, answer)
         self.assertEqual(write_answer(Answer(200, Body.MALFORMED)), b"")
 
     def test_errors(self) -> None:
         for status, body, error in (
-                (422, Body.ASYNC_REQUIRED, "AsyncRequired"), (422, Body.CONCURRENCY_ERROR, "ConcurrencyError"),
-                (400, Body.OTHER_ERROR, "BadRequest"), (409, Body.OTHER_ERROR, "Conflict"),
-                (500, Body.OTHER_ERROR, "InternalServerError"), (503, Body.OTHER_ERROR, "ServiceUnavailable"),
-                (418, Body.OTHER_ERROR, "Refused")):
+            (422, Body.ASYNC_REQUIRED, "AsyncRequired"),
+            (422, Body.CONCURRENCY_ERROR, "ConcurrencyError"),
+            (400, Body.OTHER_ERROR, "BadRequest"),
+            (409, Body.OTHER_ERROR, "Conflict"),
+            (500, Body.OTHER_ERROR, "InternalServerError"),
+            (503, Body.OTHER_ERROR, "ServiceUnavailable"),
+            (418, Body.OTHER_ERROR, "Refused"),
+        ):
             written = json.loads(write_answer(Answer(status, body)))
             self.assertEqual((written["error"], set(written)), (error, {"description", "error"}), status)
 
@@ -158,21 +204,34 @@ class Headers(unittest.TestCase):
 
     def test_basic_auth(self) -> None:
         self.assertTrue(basic_auth(authorization(), USER, PASSWORD))
-        for value in (None, "", "Basic", authorization(password="x"), authorization(user="x"), authorization() + " ",
-                      authorization().replace(" ", "  "), authorization().replace("Basic", "Bearer"), "Basic é"):
+        for value in (
+            None,
+            "",
+            "Basic",
+            authorization(password="x"),
+            authorization(user="x"),
+            authorization() + " ",
+            authorization().replace(" ", "  "),
+            authorization().replace("Basic", "Bearer"),
+            "Basic é",
+        ):
             self.assertFalse(basic_auth(value, USER, PASSWORD), value)
 
     def test_catalogue(self) -> None:
         self.assertEqual(catalogue_plans(CATALOGUE), [Plan(SERVICE, SYNC, False), Plan(SERVICE, ASYNC, True)])
         many = {"services": [{"id": str(SERVICE), "plans": [{"id": str(Id(0, n))} for n in range(100)]}]}
-        self.assertEqual(catalogue_plans(json.dumps(many).encode()),
-                         [Plan(SERVICE, Id(0, n), False) for n in range(100)])
+        self.assertEqual(
+            catalogue_plans(json.dumps(many).encode()), [Plan(SERVICE, Id(0, n), False) for n in range(100)]
+        )
         for document, fault in (
-                ("", Status.NOT_JSON), ("{}", Status.NO_SERVICES), ('{"services":[{}]}', Status.BAD_SERVICE),
-                (CATALOGUE.decode().replace("plans", "x"), Status.NO_PLANS),
-                (CATALOGUE.decode().replace(str(SYNC), "1"), Status.BAD_PLAN),
-                (CATALOGUE.decode().replace("true", "1"), Status.BAD_PLAN_MODE),
-                (CATALOGUE.decode().replace(str(ASYNC), str(SYNC)), Status.PLAN_TWICE)):
+            ("", Status.NOT_JSON),
+            ("{}", Status.NO_SERVICES),
+            ('{"services":[{}]}', Status.BAD_SERVICE),
+            (CATALOGUE.decode().replace("plans", "x"), Status.NO_PLANS),
+            (CATALOGUE.decode().replace(str(SYNC), "1"), Status.BAD_PLAN),
+            (CATALOGUE.decode().replace("true", "1"), Status.BAD_PLAN_MODE),
+            (CATALOGUE.decode().replace(str(ASYNC), str(SYNC)), Status.PLAN_TWICE),
+        ):
             with self.assertRaises(OsbError) as raised:
                 catalogue_plans(document.encode())
             self.assertEqual(raised.exception.status, fault, document)

@@ -13,8 +13,27 @@ from osb.service import StillRecorded, Task
 from osb.stores import MemoryStore
 from osb.wire import write_answer
 from osb.wsgi import BrokerApplication
-from tests.support import (ASYNC, CATALOGUE, ONE, PASSWORD, SERVICE, SYNC, TWO, UNSOLD, USER, Reply, Things,
-                           authorization, call, deprovision, poll, provision, provision_body, request, target)
+from tests.support import (
+    ASYNC,
+    CATALOGUE,
+    ONE,
+    PASSWORD,
+    SERVICE,
+    SYNC,
+    TWO,
+    UNSOLD,
+    USER,
+    Reply,
+    Things,
+    authorization,
+    call,
+    deprovision,
+    poll,
+    provision,
+    provision_body,
+    request,
+    target,
+)
 
 READY = Holding(BrokerRow(SERVICE, SYNC, Phase.READY))
 
@@ -27,8 +46,9 @@ def put(store: MemoryStore, holding: Holding, id: Id = ONE) -> None:
     store.update(id, lambda _: (holding, None))
 
 
-def application(store: Optional[MemoryStore] = None, worker: Optional[Things] = None,
-                **given: Any) -> BrokerApplication:
+def application(
+    store: Optional[MemoryStore] = None, worker: Optional[Things] = None, **given: Any
+) -> BrokerApplication:
     return BrokerApplication(CATALOGUE, store or MemoryStore(), worker or Things(), USER, PASSWORD, **given)
 
 
@@ -43,8 +63,13 @@ class Requests(Quiet):
         store, worker = MemoryStore(), Things()
         made = application(store, worker)
         table: List[Tuple[Callable[[BrokerApplication], Reply], int, Dict[str, str]]] = [
-            (provision, 201, {}), (provision, 200, {}), (poll, 200, {"state": "succeeded"}), (deprovision, 200, {}),
-            (deprovision, 410, {"error": "Gone"}), (poll, 410, {"error": "Gone"})]
+            (provision, 201, {}),
+            (provision, 200, {}),
+            (poll, 200, {"state": "succeeded"}),
+            (deprovision, 200, {}),
+            (deprovision, 410, {"error": "Gone"}),
+            (poll, 410, {"error": "Gone"}),
+        ]
         for ask, status, said in table:
             reply = ask(made)
             body = json.loads(reply.body)
@@ -93,10 +118,12 @@ class Requests(Quiet):
         def look(task: Task) -> None:
             both = [(it.status, it.error) for it in (provision(made), deprovision(made))]
             seen.append((held(store), both[0], both[1], poll(made).status))
+
         made = application(store, Things(before=look))
         self.assertEqual(provision(made).status, 201)
-        self.assertEqual(seen, [(Holding(work=request(Kind.PROVISION)), (503, "ServiceUnavailable"),
-                                 (422, "ConcurrencyError"), 200)])
+        self.assertEqual(
+            seen, [(Holding(work=request(Kind.PROVISION)), (503, "ServiceUnavailable"), (422, "ConcurrencyError"), 200)]
+        )
 
     def test_tasks(self) -> None:
         """The worker is given the body as it was read, whole and byte for byte; taken up again, work has none."""
@@ -106,6 +133,7 @@ class Requests(Quiet):
             given.append(task)
             if not task.again:
                 raise ConnectionError
+
         made = application(worker=Things(before=broken))
         body = provision_body()[:-1] + b', "parameters" : {"size":3, "name":"\xc3\xa9"}}\n'
         self.assertEqual(call(made, "PUT", target(plan=None), body).status, 500)
@@ -113,13 +141,23 @@ class Requests(Quiet):
         self.assertEqual(call(made, "DELETE", target(), b"{}").status, 500)
         self.assertEqual(made.resume(), [])
         making, deleting = request(Kind.PROVISION, accepts=False), request(Kind.DEPROVISION)
-        self.assertEqual(given, [Task(Work.MAKE, making, body, False), Task(Work.MAKE, making, None, True),
-                                 Task(Work.DELETE, deleting, b"{}", False), Task(Work.DELETE, deleting, None, True)])
+        self.assertEqual(
+            given,
+            [
+                Task(Work.MAKE, making, body, False),
+                Task(Work.MAKE, making, None, True),
+                Task(Work.DELETE, deleting, b"{}", False),
+                Task(Work.DELETE, deleting, None, True),
+            ],
+        )
 
     def test_tasks_in_chunks(self) -> None:
         given: List[Task] = []
-        chunked: Dict[str, Any] = {"CONTENT_LENGTH": None, "HTTP_TRANSFER_ENCODING": "chunked",
-                                   "wsgi.input_terminated": True}
+        chunked: Dict[str, Any] = {
+            "CONTENT_LENGTH": None,
+            "HTTP_TRANSFER_ENCODING": "chunked",
+            "wsgi.input_terminated": True,
+        }
         made = application(worker=Things(before=given.append))
         self.assertEqual(call(made, "PUT", target(plan=None), provision_body(ASYNC), **chunked).error, "AsyncRequired")
         self.assertEqual(call(made, "PUT", target(plan=None), provision_body(), **chunked).status, 201)
@@ -134,6 +172,7 @@ class Requests(Quiet):
                 made.finish(ONE, True)
             except StillRecorded as error:
                 raised.append(type(error))
+
         store = MemoryStore()
         made = application(store, Things(before=quick))
         self.assertEqual((provision(made, plan=ASYNC).status, raised), (202, [StillRecorded]))
@@ -146,17 +185,21 @@ class Requests(Quiet):
 
     def test_operations_by_what_is_running(self) -> None:
         """As docs/python.md has it: the work is nothing, and what the rows say is made and deleted by another hand."""
+
         class Slow:
             def work(self, task: Task) -> Outcome:
                 return Outcome.DONE
+
         made = BrokerApplication(CATALOGUE, MemoryStore(), Slow(), USER, PASSWORD)
         hand = Things()
 
         def turn() -> None:
             for id, row in made.running().items():
-                work, kind = ((Work.MAKE, Kind.PROVISION) if row.phase == Phase.MAKING
-                              else (Work.DELETE, Kind.DEPROVISION))
+                work, kind = (
+                    (Work.MAKE, Kind.PROVISION) if row.phase == Phase.MAKING else (Work.DELETE, Kind.DEPROVISION)
+                )
                 made.finish(id, hand.work(Task(work, request(kind, ASYNC, id=id), None, False)) == Outcome.DONE)
+
         self.assertEqual(provision(made, plan=ASYNC).status, 202)
         turn()
         self.assertEqual((json.loads(poll(made, plan=ASYNC).body), hand.things), ({"state": "succeeded"}, {ONE}))
@@ -181,8 +224,10 @@ class Refused(Quiet):
     def test_version_and_target(self) -> None:
         made = application(longest_body=1000)
         for method, way, status, error in (
-                ("GET", "/nowhere", 404, "NotFound"), ("PUT", target(end="/a"), 404, "NotFound"),
-                ("PUT", "/v2/service_instances/1", 400, "BadRequest")):
+            ("GET", "/nowhere", 404, "NotFound"),
+            ("PUT", target(end="/a"), 404, "NotFound"),
+            ("PUT", "/v2/service_instances/1", 400, "BadRequest"),
+        ):
             reply = call(made, method, way, provision_body())
             self.assertEqual((reply.status, reply.error), (status, error), way)
         for version in (None, "3.0"):
@@ -190,8 +235,12 @@ class Refused(Quiet):
 
     def test_methods(self) -> None:
         made, front = application(), "/v2/service_instances"
-        for way, allowed in ((f"{front}/{ONE}", "PUT, DELETE"), (f"{front}/{ONE}/last_operation", "GET"),
-                             (f"{front}/last_operation", "PUT, DELETE"), (f"{front}//last_operation", "GET")):
+        for way, allowed in (
+            (f"{front}/{ONE}", "PUT, DELETE"),
+            (f"{front}/{ONE}/last_operation", "GET"),
+            (f"{front}/last_operation", "PUT, DELETE"),
+            (f"{front}//last_operation", "GET"),
+        ):
             reply = call(made, "PATCH", way)
             self.assertEqual((reply.status, reply.headers["Allow"]), (405, allowed), way)
 
@@ -202,6 +251,7 @@ class Refused(Quiet):
             def read(self, size: int = -1) -> bytes:
                 Endless.taken += size
                 return b" " * size
+
         made = application(longest_body=1000)
         for length in ("1001", "100000000000"):
             Endless.taken = 0
@@ -213,23 +263,32 @@ class Refused(Quiet):
         class Lost(io.RawIOBase):
             def read(self, size: int = -1) -> bytes:
                 raise ConnectionResetError
+
         whole, worker = provision_body(), Things()
         made = application(worker=worker)
         cut: List[Dict[str, Any]] = [
-            {"CONTENT_LENGTH": str(len(whole) + 1)}, {"CONTENT_LENGTH": "x"}, {"CONTENT_LENGTH": "-1"},
-            {"wsgi.input": Lost()}, {"CONTENT_LENGTH": "", "HTTP_TRANSFER_ENCODING": "chunked"}]
+            {"CONTENT_LENGTH": str(len(whole) + 1)},
+            {"CONTENT_LENGTH": "x"},
+            {"CONTENT_LENGTH": "-1"},
+            {"wsgi.input": Lost()},
+            {"CONTENT_LENGTH": "", "HTTP_TRANSFER_ENCODING": "chunked"},
+        ]
         for given in cut:
             reply = call(made, "PUT", target(plan=None), whole, **given)
             self.assertEqual((reply.status, reply.error), (408, "Refused"), given)
         self.assertEqual(worker.done, [])
-        chunked: Dict[str, Any] = {"CONTENT_LENGTH": None, "HTTP_TRANSFER_ENCODING": "chunked",
-                                   "wsgi.input_terminated": True}
+        chunked: Dict[str, Any] = {
+            "CONTENT_LENGTH": None,
+            "HTTP_TRANSFER_ENCODING": "chunked",
+            "wsgi.input_terminated": True,
+        }
         self.assertEqual(call(made, "PUT", target(plan=None), whole, **chunked).status, 201)
 
     def test_pieces(self) -> None:
         class Slow(io.BytesIO):
             def read(self, size: Optional[int] = -1) -> bytes:
                 return super().read(1)
+
         stream = Slow(provision_body())
         reply = call(application(), "PUT", target(plan=None), provision_body(), **{"wsgi.input": stream})
         self.assertEqual(reply.status, 201)
@@ -246,10 +305,18 @@ class Refused(Quiet):
 
     def test_what_can_not_do_at_the_start(self) -> None:
         given: List[Tuple[str, str, Dict[str, Any]]] = [
-            ("a:b", PASSWORD, {}), ("", PASSWORD, {}), (USER, "", {}), ("\ud800", PASSWORD, {}), (USER, "\ud800", {}),
-            *[(USER, PASSWORD, {"prefix": it})
-              for it in ("a", "/", "/a/", "/a?b", "/a#b", "/a b", "/a\n", "/a\r", "/a\tb", "/\ud800")],
-            (USER, PASSWORD, {"longest_body": 0}), (USER, PASSWORD, {"longest_body": -1})]
+            ("a:b", PASSWORD, {}),
+            ("", PASSWORD, {}),
+            (USER, "", {}),
+            ("\ud800", PASSWORD, {}),
+            (USER, "\ud800", {}),
+            *[
+                (USER, PASSWORD, {"prefix": it})
+                for it in ("a", "/", "/a/", "/a?b", "/a#b", "/a b", "/a\n", "/a\r", "/a\tb", "/\ud800")
+            ],
+            (USER, PASSWORD, {"longest_body": 0}),
+            (USER, PASSWORD, {"longest_body": -1}),
+        ]
         for user, password, named in given:
             with self.assertRaises(ValueError, msg=(user, password, named)) as raised:
                 BrokerApplication(CATALOGUE, MemoryStore(), Things(), user, password, **named)
@@ -261,6 +328,7 @@ class Faults(Quiet):
     def test_outcome_that_nobody_knows(self) -> None:
         def broken(task: Task) -> None:
             raise ConnectionError("the backend is away")
+
         store, worker = MemoryStore(), Things(before=broken)
         made = application(store, worker)
         reply = provision(made)
@@ -279,6 +347,7 @@ class Faults(Quiet):
         """
         recorded = Holding(work=request(Kind.PROVISION))
         for status, answered in ((Status.REFUSED_BODY, 500), (Status.REFUSED_METHOD, 500), (Status.MEMORY, 503)):
+
             def refuse(*_: object) -> Any:
                 raise Refusal(status)
 
@@ -288,12 +357,17 @@ class Faults(Quiet):
                 def update(self, id: Id, change: Callable[[Holding], Tuple[Holding, Any]]) -> Any:
                     self.left -= 1
                     return refuse() if self.left == -1 else super().update(id, change)
+
             store = MemoryStore()
-            self.assertEqual((provision(application(store, Things(before=refuse))).status, held(store)),
-                             (answered, recorded), status)
+            self.assertEqual(
+                (provision(application(store, Things(before=refuse))).status, held(store)), (answered, recorded), status
+            )
             store, worker = MemoryStore(), Things()
-            self.assertEqual((provision(application(store, worker, lock=refuse)).status, held(store), worker.done),
-                             (answered, recorded, []), status)
+            self.assertEqual(
+                (provision(application(store, worker, lock=refuse)).status, held(store), worker.done),
+                (answered, recorded, []),
+                status,
+            )
             for left, kept in ((0, Holding.NONE), (1, recorded)):
                 refusing = Refusing()
                 refusing.left = left
@@ -303,6 +377,7 @@ class Faults(Quiet):
         class Silent:
             def work(self, task: Task) -> Any:
                 return None
+
         store = MemoryStore()
         made = BrokerApplication(CATALOGUE, store, Silent(), USER, PASSWORD)
         self.assertEqual((provision(made).status, held(store).work), (500, request(Kind.PROVISION)))
@@ -315,15 +390,19 @@ class Faults(Quiet):
         making = Holding(BrokerRow(SERVICE, ASYNC, Phase.MAKING))
         put(store, making, Id(0, 3))
         self.assertEqual(application(store, worker).resume(), [])
-        self.assertEqual((held(store), held(store, TWO), held(store, Id(0, 3))),
-                         (READY, Holding(is_marked=True), making))
+        self.assertEqual(
+            (held(store), held(store, TWO), held(store, Id(0, 3))), (READY, Holding(is_marked=True), making)
+        )
         self.assertEqual(worker.done, [Work.MAKE, Work.DELETE])
 
     def test_misfits(self) -> None:
         """What can't come about at its plan is left as it is, and nothing is worked."""
-        for misfit in (Holding(BrokerRow(SERVICE, SYNC, Phase.MAKING)),
-                       Holding(BrokerRow(SERVICE, UNSOLD, Phase.READY)),
-                       Holding(work=request(Kind.PROVISION, UNSOLD)), Holding(work=request(Kind.PROVISION, id=TWO))):
+        for misfit in (
+            Holding(BrokerRow(SERVICE, SYNC, Phase.MAKING)),
+            Holding(BrokerRow(SERVICE, UNSOLD, Phase.READY)),
+            Holding(work=request(Kind.PROVISION, UNSOLD)),
+            Holding(work=request(Kind.PROVISION, id=TWO)),
+        ):
             store, worker = MemoryStore(), Things()
             put(store, misfit)
             made = application(store, worker)
@@ -342,6 +421,7 @@ class Faults(Quiet):
                     raise OSError("the disk is full")
                 self.left -= 1
                 return super().update(id, change)
+
         for left, work in ((0, []), (1, [Work.MAKE])):
             store, worker = Broken(), Things()
             store.left = left
@@ -366,6 +446,7 @@ class Faults(Quiet):
             said.append(f"locked {held(store, id).work is not None}")
             yield
             said.append(f"unlocked {held(store, id).work is not None}")
+
         worker = Things(before=lambda task: said.append("work"))
         made = application(store, worker, lock=lock)
         self.assertEqual(provision(made).status, 201)
@@ -380,6 +461,7 @@ class Faults(Quiet):
         def lock(id: Id) -> Iterator[None]:
             put(store, READY, id)  # while this one waited, another did the work
             yield
+
         made = application(store, worker, lock=lock)
         self.assertEqual((provision(made).status, worker.done), (200, []))
 
@@ -391,6 +473,7 @@ class Faults(Quiet):
 
         def lock(id: Id) -> ContextManager[None]:
             raise AssertionError("the caller has it")
+
         made = application(store, worker, lock=lock)
         for _ in range(2):
             made.take_up(ONE)
@@ -414,6 +497,7 @@ class Memory(Quiet):
         class Wanting(MemoryStore):
             def update(self, id: Id, change: Callable[[Holding], Tuple[Holding, Any]]) -> Any:
                 raise OsbError(Status.MEMORY)
+
         reply = provision(application(Wanting()))
         self.assertEqual((reply.status, reply.error), (503, "ServiceUnavailable"))
 

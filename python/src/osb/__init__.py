@@ -20,6 +20,27 @@ from osb.messages import Answer, BrokerRow, Plan, PlatformRow, Request
 from osb.platform import Platform
 from osb.record import Record
 
-__all__ = ["Answer", "Body", "Broker", "BrokerRow", "Holding", "Id", "Kind", "Mode", "OsbError", "Outcome", "Phase",
-           "Plan", "Platform", "PlatformRow", "Record", "Refusal", "Request", "State", "Status", "Work", "version",
-           "work_of"]
+__all__ = [
+    "Answer",
+    "Body",
+    "Broker",
+    "BrokerRow",
+    "Holding",
+    "Id",
+    "Kind",
+    "Mode",
+    "OsbError",
+    "Outcome",
+    "Phase",
+    "Plan",
+    "Platform",
+    "PlatformRow",
+    "Record",
+    "Refusal",
+    "Request",
+    "State",
+    "Status",
+    "Work",
+    "version",
+    "work_of",
+]

@@ -3,7 +3,7 @@ from __future__ import annotations
 
 from typing import Optional
 
-from osb._structs import (KIND_NONE, MODE_NONE, CAnswer, CBrokerRow, CId, CPlan, CPlatformRow, CRequest)
+from osb._structs import KIND_NONE, MODE_NONE, CAnswer, CBrokerRow, CId, CPlan, CPlatformRow, CRequest
 from osb.enums import Body, Kind, Mode, Phase, State
 from osb.ids import Id
 from osb.messages import Answer, BrokerRow, Plan, PlatformRow, Request
@@ -30,13 +30,23 @@ def mode_to(mode: Optional[Mode]) -> int:
 
 
 def request_to(request: Request) -> CRequest:
-    return CRequest(Kind(request.kind).value, bool(request.accepts_incomplete), id_to(request.id),
-                    id_to(request.service), id_to(request.plan))
+    return CRequest(
+        Kind(request.kind).value,
+        bool(request.accepts_incomplete),
+        id_to(request.id),
+        id_to(request.service),
+        id_to(request.plan),
+    )
 
 
 def request_from(request: CRequest) -> Request:
-    return Request(Kind(request.kind), bool(request.accepts_incomplete), id_from(request.id),
-                   id_from(request.service), id_from(request.plan))
+    return Request(
+        Kind(request.kind),
+        bool(request.accepts_incomplete),
+        id_from(request.id),
+        id_from(request.service),
+        id_from(request.plan),
+    )
 
 
 def answer_to(answer: Answer) -> CAnswer:

@@ -68,8 +68,7 @@ class Deadline:
 
 
 class _Reader(io.RawIOBase):
-    """What comes on a connection. Each read may take the time that is left, and no more, and all of them so many bytes.
-    """
+    """What comes on a connection. Each read may take the time that is left, and no more, and all of them so many bytes."""
 
     def __init__(self, connection: socket.socket, deadline: Deadline, most: int) -> None:
         self._connection, self._deadline, self._left = connection, deadline, most
@@ -107,7 +106,7 @@ class _Timed:
     def sendall(self, data: bytes) -> None:
         for at in range(0, len(data), _PIECE):
             self._connection.settimeout(self._deadline.left())
-            self._connection.sendall(data[at:at + _PIECE])
+            self._connection.sendall(data[at : at + _PIECE])
 
     def makefile(self, _mode: str) -> io.BufferedReader:
         return _Lines(_Reader(self._connection, self._deadline, self._most))
@@ -131,8 +130,9 @@ class FarEnd:
         """That of an exchange that begins now."""
         return Deadline(self.seconds)
 
-    def exchange(self, deadline: Deadline, method: str, target: str, body: bytes, headers: Dict[str, str]
-                 ) -> Optional[Response]:
+    def exchange(
+        self, deadline: Deadline, method: str, target: str, body: bytes, headers: Dict[str, str]
+    ) -> Optional[Response]:
         """Sends a request on a connection of its own, and takes its response, of which no redirect is followed. None
         where no whole response came within the limits, or a connection didn't come about; the log has why. Only the
         look-up of the host's name has a limit of its own, which is the system's.
@@ -154,8 +154,11 @@ class FarEnd:
 
     def _asking(self, connection: _Timed) -> http.client.HTTPConnection:
         host, port = self.address.host, self.address.port
-        asking = (http.client.HTTPSConnection(host, port, context=self.tls) if self.address.is_tls
-                  else http.client.HTTPConnection(host, port))
+        asking = (
+            http.client.HTTPSConnection(host, port, context=self.tls)
+            if self.address.is_tls
+            else http.client.HTTPConnection(host, port)
+        )
         asking.sock = cast(Any, connection)
         return asking
 

@@ -8,19 +8,48 @@ import ctypes as c
 import os
 from typing import Any, List, Tuple
 
-from osb._structs import (CAnswer, CAsked, CBegun, CBroker, CBrokerRow, CHolding, CId, CPlan, CPlatform, CPlatformRow,
-                          CRecord, CRequest)
+from osb._structs import (
+    CAnswer,
+    CAsked,
+    CBegun,
+    CBroker,
+    CBrokerRow,
+    CHolding,
+    CId,
+    CPlan,
+    CPlatform,
+    CPlatformRow,
+    CRecord,
+    CRequest,
+)
 
 # OSB_VERSION of the header that this package is written for.
 VERSION = 200
 
 _BYTE, _SHORT, _INT, _LONG, _SIZE, _BOOL, _TEXT = (
-    c.c_uint8, c.c_uint16, c.c_uint32, c.c_uint64, c.c_size_t, c.c_bool, c.c_char_p)
+    c.c_uint8,
+    c.c_uint16,
+    c.c_uint32,
+    c.c_uint64,
+    c.c_size_t,
+    c.c_bool,
+    c.c_char_p,
+)
 _NEEDED, _SECONDS = c.POINTER(c.c_size_t), c.POINTER(c.c_uint64)
 _PLATFORM, _BROKER, _ID, _REQUEST, _ANSWER = (
-    c.POINTER(CPlatform), c.POINTER(CBroker), c.POINTER(CId), c.POINTER(CRequest), c.POINTER(CAnswer))
+    c.POINTER(CPlatform),
+    c.POINTER(CBroker),
+    c.POINTER(CId),
+    c.POINTER(CRequest),
+    c.POINTER(CAnswer),
+)
 _RECORD, _HOLDING, _BEGUN, _ASKED, _PLAN = (
-    c.POINTER(CRecord), c.POINTER(CHolding), c.POINTER(CBegun), c.POINTER(CAsked), c.POINTER(CPlan))
+    c.POINTER(CRecord),
+    c.POINTER(CHolding),
+    c.POINTER(CBegun),
+    c.POINTER(CAsked),
+    c.POINTER(CPlan),
+)
 _PLATFORM_ROW, _BROKER_ROW = c.POINTER(CPlatformRow), c.POINTER(CBrokerRow)
 # A text that is read: where it is, and its length. A text that is written: the buffer, its length, what is needed.
 _READ, _WRITTEN = [_TEXT, _SIZE], [_TEXT, _SIZE, _NEEDED]

@@ -44,8 +44,13 @@ class CRecord(c.Structure):
 
 
 class CHolding(c.Structure):
-    _fields_ = [("row", CBrokerRow), ("work", CRequest), ("has_row", c.c_bool), ("has_work", c.c_bool),
-                ("is_marked", c.c_bool)]
+    _fields_ = [
+        ("row", CBrokerRow),
+        ("work", CRequest),
+        ("has_row", c.c_bool),
+        ("has_work", c.c_bool),
+        ("is_marked", c.c_bool),
+    ]
 
 
 class CBegun(c.Structure):
@@ -53,5 +58,12 @@ class CBegun(c.Structure):
 
 
 class CAsked(c.Structure):
-    _fields_ = [("kind", c.c_uint8), ("accepts_incomplete", c.c_bool), ("has_service", c.c_bool),
-                ("has_plan", c.c_bool), ("id", CId), ("service", CId), ("plan", CId)]
+    _fields_ = [
+        ("kind", c.c_uint8),
+        ("accepts_incomplete", c.c_bool),
+        ("has_service", c.c_bool),
+        ("has_plan", c.c_bool),
+        ("id", CId),
+        ("service", CId),
+        ("plan", CId),
+    ]

@@ -17,7 +17,7 @@ def written(call: Callable[[Any, int, Any], int]) -> Tuple[int, bytes]:
     while status == Status.TOO_SMALL:
         buffer = c.create_string_buffer(needed.value)
         status = call(buffer, len(buffer), needed)
-    return status, buffer.raw[:needed.value]
+    return status, buffer.raw[: needed.value]
 
 
 def utf8(text: str) -> bytes:

@@ -25,8 +25,16 @@ from osb.ids import Id
 from osb.messages import Answer, Request
 from osb.record import Record
 from osb.records import Kept, RecordStore
-from osb.wire import (API_VERSION, CONTENT_TYPE, read_answer, read_operation, retry_after, write_body, write_method,
-                      write_target)
+from osb.wire import (
+    API_VERSION,
+    CONTENT_TYPE,
+    read_answer,
+    read_operation,
+    retry_after,
+    write_body,
+    write_method,
+    write_target,
+)
 
 T = TypeVar("T")
 
@@ -63,8 +71,19 @@ class _Heard:
 class Client:
     """A platform's side of one broker. Any number of threads may use it, as far as the store allows it."""
 
-    def __init__(self, url: str, user: str, password: str, records: RecordStore, *, organization: str, space: str,
-                 seconds: float = 60.0, longest_body: int = 1 << 20, tls: Optional[ssl.SSLContext] = None) -> None:
+    def __init__(
+        self,
+        url: str,
+        user: str,
+        password: str,
+        records: RecordStore,
+        *,
+        organization: str,
+        space: str,
+        seconds: float = 60.0,
+        longest_body: int = 1 << 20,
+        tls: Optional[ssl.SSLContext] = None,
+    ) -> None:
         """`url` is the broker's, without /v2. `seconds` is the limit on the time of each exchange, `longest_body` that
         on the bytes of a response's body. Raises ValueError where the URL is no broker's, the user has a colon, one of
         the user, the password, the organization and the space is empty or isn't UTF-8, or `longest_body` is below 1.
@@ -75,13 +94,16 @@ class Client:
         check_texts("the organization or the space", organization, space)
         check_longest(longest_body)
         token = base64.b64encode(utf8(f"{user}:{password}")).decode()
-        self._headers = {"Authorization": f"Basic {token}", "X-Broker-API-Version": API_VERSION,
-                         "Accept": CONTENT_TYPE, "Connection": "close"}
+        self._headers = {
+            "Authorization": f"Basic {token}",
+            "X-Broker-API-Version": API_VERSION,
+            "Accept": CONTENT_TYPE,
+            "Connection": "close",
+        }
         self._far_end = FarEnd(Address.of(url), tls or ssl.create_default_context(), seconds, longest_body)
         self._records, self._organization, self._space = records, organization, space
 
-    def create(self, id: Id, service: Id, plan: Id, accepts_incomplete: bool = True,
-               further: str = "{}") -> Exchanged:
+    def create(self, id: Id, service: Id, plan: Id, accepts_incomplete: bool = True, further: str = "{}") -> Exchanged:
         """Records a new instance, and sends its Provision. `further` is the text of an object with the members that the
         body has besides, as parameters. Raises ID_USED, NOT_JSON, NOT_AN_OBJECT, NOT_UTF8: nothing is then recorded or
         sent.
@@ -96,10 +118,12 @@ class Client:
         """Sends the request that is due: a Poll or a Deprovision. Raises UNKNOWN, BUSY, NOTHING_DUE,
         ATTEMPTS_USED_UP: nothing is then sent.
         """
+
         def sent(kept: Kept) -> Tuple[Kept, _Sent]:
             record, request = kept.record.send(id)
             operation = kept.operation if request.kind == Kind.POLL else None
             return Kept(record, kept.operation), _Sent(request, record.attempt, operation)
+
         deadline = self._far_end.deadline()
         return self._exchange(deadline, self._records.update(id, sent), b"")
 
@@ -138,6 +162,7 @@ class Client:
         def changed(kept: Kept) -> Tuple[Kept, Record]:
             record = call(kept.record)
             return Kept(record, kept.operation), record
+
         return self._records.update(id, changed)
 
     def _exchange(self, deadline: Deadline, sent: _Sent, body: bytes) -> Exchanged:
@@ -148,8 +173,9 @@ class Client:
         named = None if response is None else response.retry_after
         return Exchanged(record, answer, None if named is None else retry_after(named))
 
-    def _response(self, deadline: Deadline, request: Request, operation: Optional[str], body: bytes
-                  ) -> Optional[Response]:
+    def _response(
+        self, deadline: Deadline, request: Request, operation: Optional[str], body: bytes
+    ) -> Optional[Response]:
         headers = {**self._headers, "Content-Type": CONTENT_TYPE} if body else self._headers
         target = _unless_memory(lambda: write_target(request, operation, self._far_end.address.prefix))
         if target is None:
@@ -169,12 +195,14 @@ def _unless_memory(call: Callable[[], T]) -> Optional[T]:
 
 def _heard(kind: Kind, response: Response) -> Optional[_Heard]:
     """What a response says, or None where it isn't surely the broker's."""
+
     def read() -> Optional[_Heard]:
         answer = read_answer(kind, response.status, response.body)
         if answer is None:
             _log.warning("an answer of %d to a %s isn't surely the broker's", response.status, kind.name.lower())
             return None
         return _Heard(answer, read_operation(response.body) if response.status == 202 else None)
+
     return _unless_memory(read)
 
 

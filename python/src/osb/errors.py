@@ -87,8 +87,9 @@ class Refusal(OsbError):
     def __init__(self, status: int) -> None:
         super().__init__(status)
         self.http_status = int(lib.osb_refusal_status(self.status))
-        done, self.body = written(lambda buffer, length, needed: int(
-            lib.osb_refusal_body(self.status, buffer, length, needed)))
+        done, self.body = written(
+            lambda buffer, length, needed: int(lib.osb_refusal_body(self.status, buffer, length, needed))
+        )
         if done != Status.DONE:
             raise OsbError(done)
 

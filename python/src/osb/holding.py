@@ -4,7 +4,7 @@ from __future__ import annotations
 from dataclasses import dataclass
 from typing import ClassVar, Optional, Tuple, Union
 
-from osb._crossing import (answer_from, broker_row_from, broker_row_to, kind_to, mode_to, request_from, request_to)
+from osb._crossing import answer_from, broker_row_from, broker_row_to, kind_to, mode_to, request_from, request_to
 from osb._lib import lib
 from osb._structs import WORK_NONE, CAnswer, CBegun, CHolding
 from osb._texts import utf8
@@ -77,8 +77,9 @@ class Holding:
     def to_text(self) -> str:
         """The text of the holding, for a column of a database."""
         holding = _to(self)
-        return text_of(lambda buffer, length, needed: int(
-            lib.osb_holding_to_text(holding, buffer, length, needed))).decode()
+        return text_of(
+            lambda buffer, length, needed: int(lib.osb_holding_to_text(holding, buffer, length, needed))
+        ).decode()
 
     @classmethod
     def from_text(cls, text: str) -> Holding:
@@ -102,8 +103,9 @@ def work_of(kind: Kind, mode: Optional[Mode]) -> Optional[Work]:
 
 
 def _to(holding: Holding) -> CHolding:
-    made = CHolding(has_row=holding.row is not None, has_work=holding.work is not None,
-                    is_marked=bool(holding.is_marked))
+    made = CHolding(
+        has_row=holding.row is not None, has_work=holding.work is not None, is_marked=bool(holding.is_marked)
+    )
     if holding.row is not None:
         made.row = broker_row_to(holding.row)
     if holding.work is not None:
@@ -112,5 +114,8 @@ def _to(holding: Holding) -> CHolding:
 
 
 def _from(holding: CHolding) -> Holding:
-    return Holding(broker_row_from(holding.row) if holding.has_row else None,
-                   request_from(holding.work) if holding.has_work else None, bool(holding.is_marked))
+    return Holding(
+        broker_row_from(holding.row) if holding.has_row else None,
+        request_from(holding.work) if holding.has_work else None,
+        bool(holding.is_marked),
+    )

@@ -42,8 +42,9 @@ class Platform:
     def create(self, id: Id, service: Id, plan: Id, accepts_incomplete: bool) -> Request:
         """Records a new instance as wanted, and gives its Provision, which is then in flight. Raises ID_USED."""
         request = CRequest()
-        check(lib.osb_platform_create(self._handle, id_to(id), id_to(service), id_to(plan), accepts_incomplete,
-                                      request))
+        check(
+            lib.osb_platform_create(self._handle, id_to(id), id_to(service), id_to(plan), accepts_incomplete, request)
+        )
         return request_from(request)
 
     def send(self, id: Id) -> Request:
@@ -82,9 +83,8 @@ class Platform:
             buffer = (CId * needed.value)()
             status = lib.osb_platform_ids(self._handle, buffer, needed.value, needed)
         check(status)
-        return [id_from(it) for it in buffer[:needed.value]]
+        return [id_from(it) for it in buffer[: needed.value]]
 
     def save(self) -> bytes:
         """The saved record, JSON in UTF-8."""
-        return text_of(lambda buffer, length, needed: int(
-            lib.osb_platform_save(self._handle, buffer, length, needed)))
+        return text_of(lambda buffer, length, needed: int(lib.osb_platform_save(self._handle, buffer, length, needed)))

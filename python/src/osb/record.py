@@ -89,8 +89,9 @@ class Record:
     def to_text(self) -> str:
         """The text of the record, for a column of a database."""
         record = _to(self)
-        return text_of(lambda buffer, length, needed: int(
-            lib.osb_record_to_text(record, buffer, length, needed))).decode()
+        return text_of(
+            lambda buffer, length, needed: int(lib.osb_record_to_text(record, buffer, length, needed))
+        ).decode()
 
     @classmethod
     def from_text(cls, text: str) -> Record:
@@ -109,10 +110,12 @@ def _in_range(attempt: int) -> int:
 
 
 def _to(record: Record) -> CRecord:
-    return CRecord(id_to(record.service), id_to(record.plan), record.attempt, State(record.state).value,
-                   kind_to(record.out))
+    return CRecord(
+        id_to(record.service), id_to(record.plan), record.attempt, State(record.state).value, kind_to(record.out)
+    )
 
 
 def _from(record: CRecord) -> Record:
-    return Record(id_from(record.service), id_from(record.plan), record.attempt, State(record.state),
-                  kind_from(record.out))
+    return Record(
+        id_from(record.service), id_from(record.plan), record.attempt, State(record.state), kind_from(record.out)
+    )

@@ -90,8 +90,10 @@ class SqliteRecords:
         """`seconds`: how long a transaction waits for others to end, before it raises sqlite3.OperationalError."""
         self._path, self._seconds = path, seconds
         with transaction(path, seconds) as database:
-            database.execute("CREATE TABLE IF NOT EXISTS records (id TEXT PRIMARY KEY, record TEXT NOT NULL, "
-                             "operation TEXT, pending INTEGER NOT NULL) WITHOUT ROWID")
+            database.execute(
+                "CREATE TABLE IF NOT EXISTS records (id TEXT PRIMARY KEY, record TEXT NOT NULL, "
+                "operation TEXT, pending INTEGER NOT NULL) WITHOUT ROWID"
+            )
             database.execute("CREATE INDEX IF NOT EXISTS pending_records ON records (id) WHERE pending")
 
     def insert(self, id: Id, kept: Kept) -> None:
@@ -106,14 +108,17 @@ class SqliteRecords:
         """As `RecordStore` says."""
         with transaction(self._path, self._seconds) as database:
             found: Optional[Tuple[str, Optional[str]]] = database.execute(
-                "SELECT record, operation FROM records WHERE id = ?", [str(id)]).fetchone()
+                "SELECT record, operation FROM records WHERE id = ?", [str(id)]
+            ).fetchone()
             if found is None:
                 raise OsbError(Status.UNKNOWN, str(id))
             before = Kept(Record.from_text(found[0]), found[1])
             after, given = change(before)
             if after != before:
-                database.execute("UPDATE records SET record = ?, operation = ?, pending = ? WHERE id = ?",
-                                 [*_columns(after), str(id)])
+                database.execute(
+                    "UPDATE records SET record = ?, operation = ?, pending = ? WHERE id = ?",
+                    [*_columns(after), str(id)],
+                )
             return given
 
     def pending(self) -> List[Id]:

@@ -112,11 +112,13 @@ class BrokerService:
         NOTHING_RUNNING where no operation runs: then it isn't. After an error of the store, `running` tells whether the
         end was written.
         """
+
         def finished(holding: Holding) -> Tuple[Holding, None]:
             self._check(id, holding)
             if holding.work is not None:
                 raise StillRecorded(f"the work that starts the operation on {id} is still recorded")
             return holding.finish(ok), None
+
         self._store.update(id, finished)
 
     def resume(self) -> List[Id]:
@@ -140,9 +142,11 @@ class BrokerService:
         """Does the recorded work of one instance, where there is any, without the lock: who calls this holds it, or
         knows that nobody else works at the instance. Raises where nobody knows how the work went, which stays recorded.
         """
+
         def recorded(holding: Holding) -> Tuple[Holding, Optional[Request]]:
             self._check(id, holding)
             return holding, holding.work
+
         request = self._store.update(id, recorded)
         work = None if request is None else work_of(request.kind, self.mode(request.service, request.plan))
         if request is not None and work is not None:
@@ -151,8 +155,7 @@ class BrokerService:
     def running(self) -> Dict[Id, BrokerRow]:
         """The instances on which an operation runs, with what is held of them: each goes on until `finish`."""
         rows = {id: self._store.update(id, lambda holding: (holding, holding.row)) for id in self._store.unfinished()}
-        return {id: row for id, row in rows.items()
-                if row is not None and row.phase in (Phase.MAKING, Phase.DELETING)}
+        return {id: row for id, row in rows.items() if row is not None and row.phase in (Phase.MAKING, Phase.DELETING)}
 
     def _begin(self, holding: Holding, asked: Asked) -> Tuple[Holding, Tuple[Request, Union[Answer, Work]]]:
         self._check(asked.id, holding)
@@ -169,6 +172,7 @@ class BrokerService:
             if holding.work != request:
                 raise LostWork(f"the work of {request.id} was ended by another")
             return holding.end(self.mode(request.service, request.plan), outcome)
+
         return self._store.update(request.id, ended)
 
     def _check(self, id: Id, holding: Holding) -> None:

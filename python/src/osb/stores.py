@@ -57,22 +57,26 @@ class SqliteStore:
         """`seconds`: how long a transaction waits for others to end, before it raises sqlite3.OperationalError."""
         self._path, self._seconds = path, seconds
         with transaction(path, seconds) as database:
-            database.execute("CREATE TABLE IF NOT EXISTS holdings (id TEXT PRIMARY KEY, holding TEXT NOT NULL, "
-                             "unfinished INTEGER NOT NULL) WITHOUT ROWID")
+            database.execute(
+                "CREATE TABLE IF NOT EXISTS holdings (id TEXT PRIMARY KEY, holding TEXT NOT NULL, "
+                "unfinished INTEGER NOT NULL) WITHOUT ROWID"
+            )
             database.execute("CREATE INDEX IF NOT EXISTS unfinished_holdings ON holdings (id) WHERE unfinished")
 
     def update(self, id: Id, change: Callable[[Holding], Tuple[Holding, T]]) -> T:
         """As `Store` says."""
         with transaction(self._path, self._seconds) as database:
             found: Optional[Tuple[str]] = database.execute(
-                "SELECT holding FROM holdings WHERE id = ?", [str(id)]).fetchone()
+                "SELECT holding FROM holdings WHERE id = ?", [str(id)]
+            ).fetchone()
             held = Holding.NONE if found is None else Holding.from_text(found[0])
             after, given = change(held)
             if after != held:
                 database.execute(
                     "INSERT INTO holdings VALUES (?, ?, ?) ON CONFLICT (id) "
                     "DO UPDATE SET holding = excluded.holding, unfinished = excluded.unfinished",
-                    [str(id), after.to_text(), after.is_unfinished])
+                    [str(id), after.to_text(), after.is_unfinished],
+                )
             return given
 
     def unfinished(self) -> List[Id]:

@@ -21,9 +21,24 @@ from osb.messages import Answer, Plan, Request
 CONTENT_TYPE = "application/json"
 API_VERSION = "2.17"
 
-__all__ = ["API_VERSION", "Asked", "CONTENT_TYPE", "Refusal", "api_version", "asked_operation", "basic_auth",
-           "catalogue_plans", "read_answer", "read_operation", "read_request", "retry_after", "write_answer",
-           "write_body", "write_method", "write_target"]
+__all__ = [
+    "API_VERSION",
+    "Asked",
+    "CONTENT_TYPE",
+    "Refusal",
+    "api_version",
+    "asked_operation",
+    "basic_auth",
+    "catalogue_plans",
+    "read_answer",
+    "read_operation",
+    "read_request",
+    "retry_after",
+    "write_answer",
+    "write_body",
+    "write_method",
+    "write_target",
+]
 
 # ---- The platform's side.
 
@@ -44,15 +59,17 @@ def read_operation(body: bytes) -> Optional[str]:
     """The operation that a broker names in the body of an accepted request, which a platform sends back in its Polls.
     None where it names none.
     """
-    status, text = written(lambda buffer, length, needed: int(
-        lib.osb_read_operation(body, len(body), buffer, length, needed)))
+    status, text = written(
+        lambda buffer, length, needed: int(lib.osb_read_operation(body, len(body), buffer, length, needed))
+    )
     return _operation(status, text)
 
 
 def write_method(kind: Kind) -> str:
     """The method of a request of the kind: PUT, GET or DELETE."""
-    return text_of(lambda buffer, length, needed: int(
-        lib.osb_write_method(Kind(kind).value, buffer, length, needed))).decode()
+    return text_of(
+        lambda buffer, length, needed: int(lib.osb_write_method(Kind(kind).value, buffer, length, needed))
+    ).decode()
 
 
 def write_target(request: Request, operation: Optional[str] = None, prefix: str = "") -> str:
@@ -60,8 +77,13 @@ def write_target(request: Request, operation: Optional[str] = None, prefix: str 
     `?`), and the query. The operation is the broker's; give one to a Poll alone. Raises NOT_UTF8.
     """
     front, named, given = utf8(prefix), utf8(operation or ""), request_to(request)
-    return text_of(lambda buffer, length, needed: int(lib.osb_write_target(
-        front, len(front), given, operation is not None, named, len(named), buffer, length, needed))).decode()
+    return text_of(
+        lambda buffer, length, needed: int(
+            lib.osb_write_target(
+                front, len(front), given, operation is not None, named, len(named), buffer, length, needed
+            )
+        )
+    ).decode()
 
 
 def write_body(request: Request, organization: str, space: str, further: str = "{}") -> bytes:
@@ -102,9 +124,15 @@ class Asked:
         those that a Poll lacks. Raises BAD_ASKED where this is nothing that `read_request` gives.
         """
         nothing = Id(0, 0)
-        asked = CAsked(Kind(self.kind).value, bool(self.accepts_incomplete), self.service is not None,
-                       self.plan is not None, id_to(self.id), id_to(self.service or nothing),
-                       id_to(self.plan or nothing))
+        asked = CAsked(
+            Kind(self.kind).value,
+            bool(self.accepts_incomplete),
+            self.service is not None,
+            self.plan is not None,
+            id_to(self.id),
+            id_to(self.service or nothing),
+            id_to(self.plan or nothing),
+        )
         service, plan = held or (nothing, nothing)
         request = CRequest()
         check(lib.osb_asked_request(asked, held is not None, id_to(service), id_to(plan), request))
@@ -117,24 +145,36 @@ def read_request(method: str, target: bytes, body: bytes, longest_body: int, pre
     fits in the order of docs/wire.md, and NOT_UTF8.
     """
     front, way, asked = utf8(prefix), utf8(method), CAsked()
-    check(lib.osb_read_request(front, len(front), longest_body, way, len(way), target, len(target), body, len(body),
-                               asked))
-    return Asked(Kind(asked.kind), bool(asked.accepts_incomplete), id_from(asked.id),
-                 _id_if(asked.has_service, asked.service), _id_if(asked.has_plan, asked.plan))
+    check(
+        lib.osb_read_request(
+            front, len(front), longest_body, way, len(way), target, len(target), body, len(body), asked
+        )
+    )
+    return Asked(
+        Kind(asked.kind),
+        bool(asked.accepts_incomplete),
+        id_from(asked.id),
+        _id_if(asked.has_service, asked.service),
+        _id_if(asked.has_plan, asked.plan),
+    )
 
 
 def asked_operation(target: bytes) -> Optional[str]:
     """The operation that the target of a Poll names, or None. Raises `Refusal`: it stands twice."""
-    status, text = written(lambda buffer, length, needed: int(
-        lib.osb_asked_operation(target, len(target), buffer, length, needed)))
+    status, text = written(
+        lambda buffer, length, needed: int(lib.osb_asked_operation(target, len(target), buffer, length, needed))
+    )
     return _operation(status, text)
 
 
 def write_answer(answer: Answer, operation: Optional[str] = None) -> bytes:
     """The body of an answer. The operation is written in a 202 alone. Raises NOT_UTF8."""
     given, named = answer_to(answer), utf8(operation or "")
-    return text_of(lambda buffer, length, needed: int(lib.osb_write_answer(
-        given, operation is not None, named, len(named), buffer, length, needed)))
+    return text_of(
+        lambda buffer, length, needed: int(
+            lib.osb_write_answer(given, operation is not None, named, len(named), buffer, length, needed)
+        )
+    )
 
 
 def api_version(value: Optional[str]) -> None:
@@ -170,7 +210,7 @@ def catalogue_plans(document: bytes) -> List[Plan]:
         buffer = (CPlan * needed.value)()
         status = lib.osb_catalogue_plans(document, len(document), buffer, len(buffer), needed)
     check(status)
-    return [plan_from(it) for it in buffer[:needed.value]]
+    return [plan_from(it) for it in buffer[: needed.value]]
 
 
 def _status(status: int) -> int:

@@ -35,8 +35,18 @@ class BrokerApplication:
     Any number of threads may call it, as far as the store and the worker allow it.
     """
 
-    def __init__(self, catalogue: bytes, store: Store, worker: Worker, user: str, password: str, *, prefix: str = "",
-                 longest_body: int = 1 << 20, lock: Optional[Lock] = None) -> None:
+    def __init__(
+        self,
+        catalogue: bytes,
+        store: Store,
+        worker: Worker,
+        user: str,
+        password: str,
+        *,
+        prefix: str = "",
+        longest_body: int = 1 << 20,
+        lock: Optional[Lock] = None,
+    ) -> None:
         """`catalogue` is the document that GET /v2/catalog answers; it raises as `catalogue_plans` does. `prefix` is
         what the target of a request has before /v2, as /postgres, or nothing; `longest_body` the bytes that a body may
         have. `lock` is `BrokerService`'s. Raises ValueError where the user or the password is empty or the user has a
@@ -97,7 +107,7 @@ class BrokerApplication:
         except Refusal as refusal:
             if refusal.status != Status.REFUSED_METHOD:
                 return _refused(refusal)
-            rest = path[len((self._prefix + "/v2/service_instances/").encode()):]
+            rest = path[len((self._prefix + "/v2/service_instances/").encode()) :]
             return _not_allowed("GET" if b"/" in rest else "PUT, DELETE")
         # A Refusal from here on isn't this request's: it was raised by the worker, the store or the lock.
         answer = self._service.handle(asked, body)
