@@ -1,11 +1,11 @@
-/* How long each call takes, in nanoseconds, beside the same step through a handle that has 1,000 instances, and a save
- * and a load of these. No check: it is run by hand, with nothing else on the machine, at the top of the repository:
+/* How long each call takes, in nanoseconds. It is no check: run it by hand, with nothing else on the machine, at the
+ * top of the repository:
  *
- *     cc -std=c99 -O2 -Iinclude -o build/nanoseconds checks/from_c/nanoseconds.c build/libosb.a
+ *     cc -std=c99 -O2 -Iinclude -o build/nanoseconds bench/c/nanoseconds.c build/libosb.a
  *     build/nanoseconds
  *
- * Each figure is the least of five runs, nearly all of at least 20 milliseconds. It ends with status 1 where a call
- * returned another status than it should. */
+ * Each figure is the least of five runs, nearly all of at least 20 milliseconds. If a call returns another status than
+ * it should, the program ends with status 1. */
 #define _POSIX_C_SOURCE 199309L
 #include "osb.h"
 #include <stdio.h>
@@ -13,7 +13,7 @@
 #include <string.h>
 #include <time.h>
 
-enum { INSTANCES = 1000, RUNS = 5, TEXT = 400 };
+enum { RUNS = 5, TEXT = 400 };
 
 static double now(void)
 {
@@ -60,21 +60,14 @@ static void expect(uint32_t got, uint32_t wanted, const char *what)
 #define PLAN "00000000-0000-0000-0000-0000000000b1"
 #define PAIR "service_id=" SERVICE "&plan_id=" PLAN
 
-static const struct osb_id service = {0, 0xa0}, plan = {0, 0xb1};
-
-static struct osb_id id_of(unsigned k)
-{
-    struct osb_id id = {0, 0};
-    id.low = k;
-    return id;
-}
+static const struct osb_id id = {0, 1}, service = {0, 0xa0}, plan = {0, 0xb1};
 
 static struct osb_request asked(uint8_t kind)
 {
     struct osb_request request = {0};
     request.kind = kind;
     request.accepts_incomplete = true;
-    request.id = id_of(INSTANCES / 2);
+    request.id = id;
     request.service = service;
     request.plan = plan;
     return request;
@@ -96,9 +89,9 @@ static void time_records(void)
     size_t length = 0;
 
     printf("one record\n");
-    TIME("osb_record_create", osb_record_create(id_of(1), service, plan, true, &record, &request), 1, record.attempt);
+    TIME("osb_record_create", osb_record_create(id, service, plan, true, &record, &request), 1, record.attempt);
     TIME("osb_record_from_row", NOTHING, OSB_DONE, osb_record_from_row(&row, &record));
-    TIME("osb_record_send", record = cleaning, OSB_DONE, osb_record_send(&record, id_of(1), &request));
+    TIME("osb_record_send", record = cleaning, OSB_DONE, osb_record_send(&record, id, &request));
     TIME("osb_record_answer", record = out, OSB_DONE, osb_record_answer(&record, 2, busy));
     TIME("osb_record_timeout", record = out, OSB_DONE, osb_record_timeout(&record, 2));
     TIME("osb_record_expire", record = polling, OSB_DONE, osb_record_expire(&record));
@@ -106,10 +99,10 @@ static void time_records(void)
     TIME("osb_record_to_text", NOTHING, OSB_DONE, osb_record_to_text(&out, text, TEXT, &length));
     TIME("osb_record_from_text", NOTHING, OSB_DONE, osb_record_from_text(text, length, &record));
     TIME("osb_record_send, and osb_record_answer", record = cleaning, OSB_DONE,
-         osb_record_send(&record, id_of(1), &request) || osb_record_answer(&record, 2, busy));
+         osb_record_send(&record, id, &request) || osb_record_answer(&record, 2, busy));
     TIME("  with both texts, read and written", NOTHING, OSB_DONE,
          osb_record_to_text(&cleaning, text, TEXT, &length) || osb_record_from_text(text, length, &record)
-             || osb_record_send(&record, id_of(1), &request) || osb_record_to_text(&record, text, TEXT, &length)
+             || osb_record_send(&record, id, &request) || osb_record_to_text(&record, text, TEXT, &length)
              || osb_record_from_text(text, length, &record) || osb_record_answer(&record, 2, busy));
 }
 
@@ -140,81 +133,6 @@ static void time_holdings(void)
     TIME("osb_work_of", NOTHING, OSB_WORK_MAKE, osb_work_of(OSB_KIND_PROVISION, OSB_MODE_SYNC));
     TIME("osb_holding_to_text", NOTHING, OSB_DONE, osb_holding_to_text(&making, text, TEXT, &length));
     TIME("osb_holding_from_text", NOTHING, OSB_DONE, osb_holding_from_text(text, length, &holding));
-}
-
-/* ---- The same through handles. */
-
-static void time_platform(struct osb_platform *platform)
-{
-    struct osb_id id = id_of(INSTANCES / 2);
-    struct osb_platform_row row = {0};
-    struct osb_request request = {0};
-
-    TIME("osb_platform_send, and osb_platform_answer", NOTHING, OSB_DONE,
-         osb_platform_send(platform, id, &request) || osb_platform_answer(platform, id, busy));
-    TIME("osb_platform_send, and osb_platform_timeout", NOTHING, OSB_DONE,
-         osb_platform_send(platform, id, &request) || osb_platform_timeout(platform, id));
-    TIME("osb_platform_row", NOTHING, OSB_DONE, osb_platform_row(platform, id, &row));
-    TIME("osb_platform_expire, refused", NOTHING, OSB_NOT_POLLING, osb_platform_expire(platform, id));
-}
-
-/* Each of so many instances, created in an empty platform. */
-static void time_creation(void)
-{
-    struct osb_request request = {0};
-    double least = 0;
-    int run;
-    for (run = 0; run < RUNS; run++) {
-        struct osb_platform platform = {0};
-        double start, took;
-        unsigned k;
-        expect(osb_platform_new(&platform), OSB_DONE, "osb_platform_new");
-        start = now();
-        for (k = 0; k < INSTANCES; k++)
-            expect(osb_platform_create(&platform, id_of(k), service, plan, true, &request), OSB_DONE, "create");
-        took = (now() - start) / INSTANCES;
-        least = run == 0 || took < least ? took : least;
-        osb_platform_free(&platform);
-    }
-    printf("%-58s %10.0f\n", "osb_platform_create", least);
-}
-
-/* A save into a buffer that is large enough, and a load of it. */
-static void time_saving(struct osb_platform *platform)
-{
-    static uint8_t text[INSTANCES * 250];
-    struct osb_platform loaded = {0};
-    size_t length = 0;
-
-    TIME("osb_platform_save", NOTHING, OSB_DONE, osb_platform_save(platform, text, sizeof text, &length));
-    TIME("osb_platform_load, and osb_platform_free", NOTHING, OSB_DONE,
-         osb_platform_load(&loaded, text, length) || (osb_platform_free(&loaded), 0u));
-}
-
-static void time_handles(void)
-{
-    struct osb_platform platform = {0};
-    struct osb_broker broker = {0};
-    struct osb_plan plans[1] = {{{0, 0xa0}, {0, 0xb1}, true}};
-    struct osb_request request = {0}, poll = asked(OSB_KIND_POLL);
-    struct osb_answer answer = {0}, failed = {500, OSB_BODY_OTHER_ERROR};
-    unsigned k;
-
-    printf("handles with %d instances\n", INSTANCES);
-    expect(osb_platform_new(&platform), OSB_DONE, "osb_platform_new");
-    expect(osb_broker_new(&broker, plans, 1), OSB_DONE, "osb_broker_new");
-    for (k = 0; k < INSTANCES; k++) {
-        expect(osb_platform_create(&platform, id_of(k), service, plan, true, &request), OSB_DONE, "create");
-        expect(osb_broker_handle(&broker, &request, OSB_OUTCOME_DONE, &answer), OSB_DONE, "handle");
-        expect(osb_platform_answer(&platform, id_of(k), failed), OSB_DONE, "answer");
-    }
-    time_creation();
-    time_platform(&platform);
-    TIME("osb_broker_handle, of a Poll", NOTHING, OSB_DONE,
-         osb_broker_handle(&broker, &poll, OSB_OUTCOME_DONE, &answer));
-    time_saving(&platform);
-    osb_platform_free(&platform);
-    osb_broker_free(&broker);
 }
 
 /* ---- The wire. */
@@ -273,7 +191,6 @@ int main(void)
 {
     time_records();
     time_holdings();
-    time_handles();
     time_sent();
     time_taken();
     return 0;

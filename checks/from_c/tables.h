@@ -1,7 +1,38 @@
 /* The lines of the tables in docs/platform.md and docs/broker.md, by hand. */
-#include "suite.h"
+#ifndef TABLES_H
+#define TABLES_H
 
-const struct line provisions[] = {
+#include "osb.h"
+
+/* A line of a platform's table: an answer, the state that the platform records after it, and whether it cleans up. */
+struct line {
+    uint16_t status;
+    uint8_t body, recorded;
+    bool mitigated;
+};
+
+/* An answer to a Poll, and the state after it in `polling` and in `cleaning-polling`. */
+struct poll {
+    uint16_t status;
+    uint8_t body, from_polling, from_cleaning_polling;
+};
+
+enum { NO_ROW = 255 };
+
+/* A rule of the broker: the row before, the request, the outcome of its work, the answer, and the phase after. The
+ * service 0xa0 sells the plan 0xb1, which is synchronous, and 0xb2, which is asynchronous. */
+struct rule {
+    uint64_t row_plan;
+    uint8_t phase;
+    uint64_t plan;
+    bool accepts;
+    uint8_t outcome;
+    uint16_t status;
+    uint8_t body;
+    uint8_t phase_after;
+};
+
+static const struct line provisions[] = {
     {100, OSB_BODY_EMPTY, OSB_STATE_CLEANING, true},
     {200, OSB_BODY_EMPTY, OSB_STATE_READY, false},
     {200, OSB_BODY_MALFORMED, OSB_STATE_UNSETTLED, false},
@@ -27,11 +58,9 @@ const struct line provisions[] = {
     /* a number that stands for no body is one that can't be read */
     {201, 8, OSB_STATE_CLEANING, true},
     {200, 255, OSB_STATE_UNSETTLED, false},
-    {TIMEOUT, OSB_BODY_EMPTY, OSB_STATE_CLEANING, true},
 };
-const size_t provision_count = COUNT(provisions);
 
-const struct line deprovisions[] = {
+static const struct line deprovisions[] = {
     {200, OSB_BODY_EMPTY, OSB_STATE_GONE, false},
     {200, OSB_BODY_MALFORMED, OSB_STATE_CLEANING, false},
     {201, OSB_BODY_EMPTY, OSB_STATE_CLEANING, false},
@@ -46,11 +75,9 @@ const struct line deprovisions[] = {
     {422, OSB_BODY_ASYNC_REQUIRED, OSB_STATE_CLEANING, false},
     {422, OSB_BODY_CONCURRENCY_ERROR, OSB_STATE_CLEANING, false},
     {500, OSB_BODY_OTHER_ERROR, OSB_STATE_CLEANING, false},
-    {TIMEOUT, OSB_BODY_EMPTY, OSB_STATE_CLEANING, false},
 };
-const size_t deprovision_count = COUNT(deprovisions);
 
-const struct poll polls[] = {
+static const struct poll polls[] = {
     {200, OSB_BODY_IN_PROGRESS, OSB_STATE_POLLING, OSB_STATE_CLEANING_POLLING},
     {200, OSB_BODY_SUCCEEDED, OSB_STATE_READY, OSB_STATE_GONE},
     {200, OSB_BODY_FAILED, OSB_STATE_CLEANING, OSB_STATE_CLEANING},
@@ -60,19 +87,7 @@ const struct poll polls[] = {
     {400, OSB_BODY_OTHER_ERROR, OSB_STATE_POLLING, OSB_STATE_CLEANING_POLLING},
     {410, OSB_BODY_MALFORMED, OSB_STATE_POLLING, OSB_STATE_GONE},
     {500, OSB_BODY_OTHER_ERROR, OSB_STATE_POLLING, OSB_STATE_CLEANING_POLLING},
-    {TIMEOUT, OSB_BODY_EMPTY, OSB_STATE_POLLING, OSB_STATE_CLEANING_POLLING},
 };
-const size_t poll_count = COUNT(polls);
-
-const struct due dues[] = {
-    {OSB_STATE_POLLING, OSB_KIND_POLL, OSB_DONE, OSB_DONE},
-    {OSB_STATE_READY, OSB_KIND_NONE, OSB_NOT_POLLING, OSB_DONE},
-    {OSB_STATE_CLEANING, OSB_KIND_DEPROVISION, OSB_NOT_POLLING, OSB_NOT_REMOVABLE},
-    {OSB_STATE_CLEANING_POLLING, OSB_KIND_POLL, OSB_NOT_POLLING, OSB_NOT_REMOVABLE},
-    {OSB_STATE_GONE, OSB_KIND_NONE, OSB_NOT_POLLING, OSB_NOT_REMOVABLE},
-    {OSB_STATE_UNSETTLED, OSB_KIND_NONE, OSB_NOT_POLLING, OSB_DONE},
-};
-const size_t due_count = COUNT(dues);
 
 static const struct rule provision_rules[] = {
     /* 1: the pair isn't on sale, whatever there is */
@@ -134,18 +149,13 @@ static const struct rule deprovision_rules[] = {
     {0xb2, OSB_PHASE_DELETE_FAILED, 0xb2, true, OSB_OUTCOME_DONE, 202, OSB_BODY_EMPTY, OSB_PHASE_DELETING},
 };
 
+/* Without the rule for work that fails: a holding handles every Poll with the outcome Done. */
 static const struct rule poll_rules[] = {
     /* 1: no row, whatever is asked */
     {0, NO_ROW, 0xb1, true, OSB_OUTCOME_DONE, 410, OSB_BODY_OTHER_ERROR, NO_ROW},
-    {0, NO_ROW, 0xb2, false, OSB_OUTCOME_BEFORE, 410, OSB_BODY_OTHER_ERROR, NO_ROW},
     /* 2: another plan */
     {0xb1, OSB_PHASE_READY, 0xb2, true, OSB_OUTCOME_DONE, 400, OSB_BODY_OTHER_ERROR, OSB_PHASE_READY},
     {0xb2, OSB_PHASE_MAKING, 0xb1, false, OSB_OUTCOME_DONE, 400, OSB_BODY_OTHER_ERROR, OSB_PHASE_MAKING},
-    /* 3: the work fails */
-    {0xb2, OSB_PHASE_MAKING, 0xb2, true, OSB_OUTCOME_BEFORE, 500, OSB_BODY_OTHER_ERROR, OSB_PHASE_MAKING},
-    {0xb2, OSB_PHASE_MAKING, 0xb2, false, OSB_OUTCOME_BEFORE, 500, OSB_BODY_OTHER_ERROR, OSB_PHASE_MAKING},
-    {0xb2, OSB_PHASE_READY, 0xb2, true, OSB_OUTCOME_AFTER, 500, OSB_BODY_OTHER_ERROR, OSB_PHASE_READY},
-    {0xb2, OSB_PHASE_READY, 0xb2, false, OSB_OUTCOME_AFTER, 500, OSB_BODY_OTHER_ERROR, OSB_PHASE_READY},
     /* 4 to 6: the state of the last operation, whether an asynchronous one is accepted or not */
     {0xb2, OSB_PHASE_MAKING, 0xb2, true, OSB_OUTCOME_DONE, 200, OSB_BODY_IN_PROGRESS, OSB_PHASE_MAKING},
     {0xb2, OSB_PHASE_MAKING, 0xb2, false, OSB_OUTCOME_DONE, 200, OSB_BODY_IN_PROGRESS, OSB_PHASE_MAKING},
@@ -158,13 +168,4 @@ static const struct rule poll_rules[] = {
     {0xb2, OSB_PHASE_DELETE_FAILED, 0xb2, false, OSB_OUTCOME_DONE, 200, OSB_BODY_FAILED, OSB_PHASE_DELETE_FAILED},
 };
 
-const struct rules broker_tables[3] = {
-    {OSB_KIND_PROVISION, provision_rules, COUNT(provision_rules)},
-    {OSB_KIND_DEPROVISION, deprovision_rules, COUNT(deprovision_rules)},
-    {OSB_KIND_POLL, poll_rules, COUNT(poll_rules)},
-};
-
-uint8_t mode_of_plan(uint64_t plan)
-{
-    return plan == 0xb1 ? OSB_MODE_SYNC : plan == 0xb2 ? OSB_MODE_ASYNC : OSB_MODE_NONE;
-}
+#endif
