@@ -153,6 +153,8 @@ def test_the_smoke_suite_finds_each_export_that_does_nothing(library: Path, tmp_
     bodies = "".join(f"unsigned __wrap_{name}(void) {{ return 0; }}\n" for name in declared())
     (tmp_path / "nothing.c").write_text(bodies, encoding="utf-8")
     run("gcc", "-c", tmp_path / "nothing.c", "-o", nothing)
+    run("gcc", "-o", tmp_path / "whole", suite, library / "libosb.a")
+    assert run(tmp_path / "whole") == ""
     missed = []
     for name in declared():
         run("gcc", "-o", tmp_path / "planted", suite, nothing, f"-Wl,--wrap={name}", library / "libosb.a")
