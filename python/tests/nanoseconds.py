@@ -1,5 +1,5 @@
-"""How long each call takes from Python, in nanoseconds, beside the same step through a handle that has 1,000 instances,
-and a save and a load of these. No test: it is run by hand, with nothing else on the machine, in the folder python:
+"""How long each call takes from Python, in nanoseconds. No test: it is run by hand, with nothing else on the machine,
+in the folder python:
 
     LIBOSB=../build/libosb.so PYTHONPATH=src python3 -m tests.nanoseconds
 
@@ -11,24 +11,7 @@ import timeit
 from dataclasses import replace
 from typing import Any, Callable, List, Tuple
 
-from osb import (
-    Answer,
-    Body,
-    Broker,
-    Holding,
-    Id,
-    Kind,
-    Mode,
-    Outcome,
-    Plan,
-    Platform,
-    PlatformRow,
-    Record,
-    State,
-    tables,
-    wire,
-    work_of,
-)
+from osb import Answer, Body, Holding, Id, Kind, Mode, Outcome, PlatformRow, Record, State, tables, wire, work_of
 
 Step = Tuple[str, Callable[[], Any]]
 
@@ -103,26 +86,6 @@ def of_the_wire() -> List[Step]:
     ]
 
 
-def of_handles() -> List[Step]:
-    platform, broker = Platform(), Broker([Plan(SERVICE, PLAN, True)])
-    for number in range(1000):
-        broker.handle(platform.create(Id(0, number), SERVICE, PLAN, True), Outcome.DONE)
-        platform.answer(Id(0, number), FAILED)
-    _, provision = Record.create(ONE, SERVICE, PLAN, True)
-    poll, saved = replace(provision, kind=Kind.POLL), platform.save()
-
-    def stepped() -> None:
-        platform.send(ONE)
-        platform.answer(ONE, BUSY)
-
-    return [
-        ("Platform.send, and Platform.answer", stepped),
-        ("Broker.handle, of a Poll", lambda: broker.handle(poll, Outcome.DONE)),
-        ("Platform.save", platform.save),
-        ("Platform of a saved text", lambda: Platform(saved).close()),
-    ]
-
-
 def tell(name: str, steps: List[Step]) -> None:
     print(name)
     for called, call in steps:
@@ -134,5 +97,4 @@ def tell(name: str, steps: List[Step]) -> None:
 if __name__ == "__main__":
     tell("one record", of_records())
     tell("one holding", of_holdings())
-    tell("handles with 1,000 instances", of_handles())
     tell("the wire", of_the_wire())

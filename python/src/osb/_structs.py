@@ -19,16 +19,8 @@ class CAnswer(c.Structure):
     _fields_ = [("status", c.c_uint16), ("body", c.c_uint8)]
 
 
-class CPlatform(c.Structure):
-    _fields_ = [("at", c.c_void_p)]
-
-
 class CPlatformRow(c.Structure):
     _fields_ = [("service", CId), ("plan", CId), ("state", c.c_uint8), ("out", c.c_uint8)]
-
-
-class CBroker(c.Structure):
-    _fields_ = [("at", c.c_void_p)]
 
 
 class CPlan(c.Structure):

@@ -45,8 +45,8 @@ class Record:
 
     @classmethod
     def from_platform_row(cls, row: PlatformRow) -> Record:
-        """The first record of an instance that a `Platform` has recorded until now, as after a restart. Called once
-        for an instance, as a platform moves to a database. Raises BAD_ROW.
+        """The first record of an instance that a saved record names, as after a restart. Call it once for each
+        instance, when a platform moves from a saved record to a database. Raises BAD_ROW.
         """
         record = CRecord()
         check(lib.osb_record_from_row(platform_row_to(row), record))
