@@ -13,7 +13,7 @@ from unittest import mock
 
 from osb import Answer, Body, Id, Kind, OsbError, Record, State, Status
 from osb.client import Client, Exchanged
-from osb.records import Kept, MemoryRecords
+from osb.records import IdUsed, Kept, MemoryRecords, UnknownId
 from osb_tests.support import ONE, PASSWORD, SERVICE, SYNC, TWO, USER, authorization
 
 
@@ -163,19 +163,17 @@ class Sent(Quiet):
         """What is refused is refused before a connection comes about; the port is nobody's."""
         ready, nowhere = client("http://127.0.0.1:9", kept_as(State.READY)), client("http://127.0.0.1:9")
         calls: List[Tuple[Callable[[], object], Status]] = [
-            (lambda: ready.create(ONE, SERVICE, SYNC), Status.ID_USED),
             (lambda: ready.step(ONE), Status.NOTHING_DUE),
             (lambda: ready.expire(ONE), Status.NOT_POLLING),
-            (lambda: nowhere.step(TWO), Status.UNKNOWN),
             (lambda: nowhere.create(TWO, SERVICE, SYNC, True, "["), Status.NOT_JSON),
         ]
         for call, status in calls:
             with self.assertRaises(OsbError) as raised:
                 call()
             self.assertEqual(raised.exception.status, status)
-        with self.assertRaises(OsbError) as raised:
-            nowhere.record(TWO)
-        self.assertEqual(raised.exception.status, Status.UNKNOWN)
+        self.assertRaises(IdUsed, ready.create, ONE, SERVICE, SYNC)
+        self.assertRaises(UnknownId, nowhere.step, TWO)
+        self.assertRaises(UnknownId, nowhere.record, TWO)
 
     def test_catalogue(self) -> None:
         """The document as it came, with its status; none where it didn't come whole."""

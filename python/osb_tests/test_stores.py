@@ -7,9 +7,9 @@ import unittest
 from pathlib import Path
 from typing import Callable, List, Tuple
 
-from osb import BrokerRow, Holding, Id, Kind, OsbError, Phase, Record, State, Status
+from osb import BrokerRow, Holding, Id, Kind, OsbError, Phase, Record, State
 from osb.locks import FileLocks
-from osb.records import Kept, MemoryRecords, RecordStore, SqliteRecords
+from osb.records import IdUsed, Kept, MemoryRecords, RecordStore, SqliteRecords, UnknownId
 from osb.stores import MemoryStore, SqliteStore, Store
 from osb_tests.support import ASYNC, ONE, SERVICE, SYNC, TWO, request
 
@@ -108,12 +108,8 @@ class Records(InFolder):
             self.assertEqual((kept(store), store.pending()), (wanted, [ONE]))
             self.assertEqual(store.update(ONE, lambda it: (ready, it)), wanted)
             self.assertEqual((kept(store), store.pending()), (ready, []))
-            with self.assertRaises(OsbError) as raised:
-                store.insert(ONE, wanted)
-            self.assertEqual(raised.exception.status, Status.ID_USED)
-            with self.assertRaises(OsbError) as raised:
-                kept(store, TWO)
-            self.assertEqual(raised.exception.status, Status.UNKNOWN)
+            self.assertRaisesRegex(IdUsed, str(ONE), store.insert, ONE, wanted)
+            self.assertRaisesRegex(UnknownId, str(TWO), kept, store, TWO)
             self.assertEqual(kept(store), ready)
 
     def test_reopened(self) -> None:

@@ -105,7 +105,7 @@ class Client:
 
     def create(self, id: Id, service: Id, plan: Id, accepts_incomplete: bool = True, further: str = "{}") -> Exchanged:
         """Records a new instance, and sends its Provision. `further` is the text of an object with the members that the
-        body has besides, as parameters. Raises ID_USED, NOT_JSON, NOT_AN_OBJECT, NOT_UTF8: nothing is then recorded or
+        body has besides, as parameters. Raises `IdUsed`, NOT_JSON, NOT_AN_OBJECT, NOT_UTF8: nothing is then recorded or
         sent.
         """
         deadline = self._far_end.deadline()
@@ -115,7 +115,7 @@ class Client:
         return self._exchange(deadline, _Sent(request, record.attempt, None), body)
 
     def step(self, id: Id) -> Exchanged:
-        """Sends the request that is due: a Poll or a Deprovision. Raises UNKNOWN, BUSY, NOTHING_DUE,
+        """Sends the request that is due: a Poll or a Deprovision. Raises `UnknownId`, BUSY, NOTHING_DUE,
         ATTEMPTS_USED_UP: nothing is then sent.
         """
 
@@ -128,13 +128,13 @@ class Client:
         return self._exchange(deadline, self._records.update(id, sent), b"")
 
     def remove(self, id: Id) -> Record:
-        """Has the instance deleted, as an operator asks: its Deprovision is then due. Raises UNKNOWN, BUSY,
+        """Has the instance deleted, as an operator asks: its Deprovision is then due. Raises `UnknownId`, BUSY,
         NOT_REMOVABLE.
         """
         return self._changed(id, Record.remove)
 
     def expire(self, id: Id) -> Record:
-        """Gives up polling, as the maximum polling duration has passed: a Deprovision is then due. Raises UNKNOWN,
+        """Gives up polling, as the maximum polling duration has passed: a Deprovision is then due. Raises `UnknownId`,
         BUSY, NOT_POLLING.
         """
         return self._changed(id, Record.expire)
@@ -142,7 +142,7 @@ class Client:
     def give_up(self, id: Id) -> Record:
         """Gives up the request in flight, as what a crash left there, or a `create` or a `step` whose last transaction
         failed in the store: it may be done or not, and what is due then finds out. Where none is in flight, nothing
-        changes. Raises UNKNOWN.
+        changes. Raises `UnknownId`.
         """
         return self._changed(id, lambda record: record if record.out is None else record.timeout(record.attempt))
 
@@ -155,7 +155,7 @@ class Client:
         return None if response is None else (response.status, response.body)
 
     def record(self, id: Id) -> Record:
-        """What is recorded of the instance. Raises UNKNOWN."""
+        """What is recorded of the instance. Raises `UnknownId`."""
         return self._changed(id, lambda record: record)
 
     def _changed(self, id: Id, call: Callable[[Record], Record]) -> Record:

@@ -6,8 +6,7 @@ import threading
 from dataclasses import dataclass
 from typing import Callable, Dict, List, Optional, Protocol, Tuple, TypeVar
 
-from osb.enums import State, Status
-from osb.errors import OsbError
+from osb.enums import State
 from osb.ids import Id
 from osb.record import Record
 from osb.sqlite import Path, transaction
@@ -30,14 +29,28 @@ class Kept:
         return self.record.state not in _AT_REST
 
 
+class IdUsed(Exception):
+    """The id of a new instance is recorded already, in any state. An id is never used twice."""
+
+    def __init__(self, id: Id) -> None:
+        super().__init__(f"{id}: the id is recorded already")
+
+
+class UnknownId(Exception):
+    """The id isn't recorded."""
+
+    def __init__(self, id: Id) -> None:
+        super().__init__(f"{id}: the id isn't recorded")
+
+
 class RecordStore(Protocol):
     """Where a platform keeps a row for each instance: its id, the text of its record, and the operation of its Polls.
     No row is ever deleted.
     """
 
     def insert(self, id: Id, kept: Kept) -> None:
-        """Writes a new row, and commits. Raises `OsbError` (ID_USED) where the id has one; it stays as it was. So the
-        id is the primary key.
+        """Writes a new row, and commits. Raises `IdUsed` if the id has one, which stays as it was. So the id is the
+        primary key.
         """
         ...
 
@@ -46,7 +59,7 @@ class RecordStore(Protocol):
 
         Hands what is kept to `change`, writes what it gives where it differs, and commits; returns the rest of what it
         gives. Once `update` returns, what was written stays. Where `change` raises, nothing is written, and `update`
-        raises the same. Raises `OsbError` (UNKNOWN) where the id has no row.
+        raises the same. Raises `UnknownId` if the id has no row.
         """
         ...
 
@@ -66,14 +79,14 @@ class MemoryRecords:
         """As `RecordStore` says."""
         with self._lock:
             if id in self._kept:
-                raise OsbError(Status.ID_USED, str(id))
+                raise IdUsed(id)
             self._kept[id] = kept
 
     def update(self, id: Id, change: Callable[[Kept], Tuple[Kept, T]]) -> T:
         """As `RecordStore` says."""
         with self._lock:
             if id not in self._kept:
-                raise OsbError(Status.UNKNOWN, str(id))
+                raise UnknownId(id)
             self._kept[id], given = change(self._kept[id])
             return given
 
@@ -102,7 +115,7 @@ class SqliteRecords:
             try:
                 database.execute("INSERT INTO records VALUES (?, ?, ?, ?)", [str(id), *_columns(kept)])
             except sqlite3.IntegrityError as error:
-                raise OsbError(Status.ID_USED, str(id)) from error
+                raise IdUsed(id) from error
 
     def update(self, id: Id, change: Callable[[Kept], Tuple[Kept, T]]) -> T:
         """As `RecordStore` says."""
@@ -111,7 +124,7 @@ class SqliteRecords:
                 "SELECT record, operation FROM records WHERE id = ?", [str(id)]
             ).fetchone()
             if found is None:
-                raise OsbError(Status.UNKNOWN, str(id))
+                raise UnknownId(id)
             before = Kept(Record.from_text(found[0]), found[1])
             after, given = change(before)
             if after != before:
