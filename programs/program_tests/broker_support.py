@@ -13,7 +13,7 @@ import subprocess
 import tempfile
 import unittest
 from pathlib import Path
-from typing import Any, Dict, Iterator, List, NamedTuple, Optional
+from typing import Any, Iterator, NamedTuple
 from urllib.parse import urlsplit
 
 from osb import Holding, Id, Kind, Request
@@ -58,18 +58,18 @@ class InFolder(unittest.TestCase):
 
 class Reply(NamedTuple):
     status: int
-    headers: Dict[str, str]
+    headers: dict[str, str]
     body: Any
 
 
 class Running(NamedTuple):
     """A broker that runs as a process."""
 
-    process: "subprocess.Popen[str]"
+    process: subprocess.Popen[str]
     url: str
     log: Path
 
-    def ask(self, method: str, path: str, body: Optional[bytes] = None, **headers: str) -> Reply:
+    def ask(self, method: str, path: str, body: bytes | None = None, **headers: str) -> Reply:
         """What it answers; headers with _ for -, and none where they are empty."""
         given = {"Authorization": authorization(PASSWORD), "X_Broker_API_Version": "2.17", **headers}
         with contextlib.closing(http.client.HTTPConnection(urlsplit(self.url).netloc, timeout=60)) as connection:
@@ -100,7 +100,7 @@ class Running(NamedTuple):
         self.process.send_signal(signal.SIGTERM)
         return self.process.wait(60)
 
-    def lines(self) -> List[Dict[str, Any]]:
+    def lines(self) -> list[dict[str, Any]]:
         """What it has logged until now."""
         return [json.loads(line) for line in self.log.read_text().splitlines()]
 
@@ -135,7 +135,7 @@ def broker(folder: Path, *words: str, crash_at: str = "", **variables: str) -> I
         process.wait()
 
 
-def _url(process: "subprocess.Popen[str]", log: Path) -> str:
+def _url(process: subprocess.Popen[str], log: Path) -> str:
     """Where it serves, once it does."""
     while process.poll() is None:
         for line in log.read_text().splitlines():

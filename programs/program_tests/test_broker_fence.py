@@ -3,7 +3,7 @@ from __future__ import annotations
 
 import contextlib
 import unittest
-from typing import Any, ContextManager, Iterator, Tuple
+from typing import Any, ContextManager, Iterator
 
 from osb import BrokerRow, Holding, Id, Phase
 from osb.stores import Store
@@ -38,7 +38,7 @@ class OfFence(InFolder):
         super().setUp()
         self.store: WorkersStore = SqliteStore(self.folder / "holdings.sqlite")
 
-    def side(self) -> Tuple[Store, Locks]:
+    def side(self) -> tuple[Store, Locks]:
         """What one of two has, who work at the same instances."""
         return fenced(self.store, Lost())
 

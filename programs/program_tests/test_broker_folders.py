@@ -3,7 +3,7 @@ from __future__ import annotations
 
 import json
 import unittest
-from typing import Any, List
+from typing import Any
 
 from osb import Kind
 from osb_broker.backend import OwnLocks, There
@@ -19,7 +19,7 @@ class OfFolders(InFolder):
         self.top = self.folder / "instances"
         self.backend = Folders(self.top)
 
-    def names(self) -> List[str]:
+    def names(self) -> list[str]:
         return sorted(it.name for it in self.top.iterdir() if it.name != ".locks")
 
     def test_life(self) -> None:

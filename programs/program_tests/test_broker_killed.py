@@ -10,7 +10,7 @@ import contextlib
 import unittest
 from concurrent.futures import ThreadPoolExecutor
 from pathlib import Path
-from typing import Any, ContextManager, Iterator, List, Set, Tuple
+from typing import Any, ContextManager, Iterator
 
 from osb import Holding, Id, State
 from osb.client import Client
@@ -39,7 +39,7 @@ BEFORE_ANSWER = ("begin-next", "begin-written", "work-next", "end-next", "end-wr
 
 
 class Killed(InFolder):
-    def words(self, folder: Path) -> List[str]:
+    def words(self, folder: Path) -> list[str]:
         """The store and the backend of a case."""
         return []
 
@@ -53,7 +53,7 @@ class Killed(InFolder):
     def broker(self, folder: Path, *words: str, crash_at: str = "") -> ContextManager[Running]:
         return broker(folder, *self.words(folder), *words, crash_at=crash_at, OSB_BACKEND_KEY="a key")
 
-    def all(self, cases: List[Tuple[str, Id, bool]]) -> None:
+    def all(self, cases: list[tuple[str, Id, bool]]) -> None:
         """Each of the cases in a folder of its own, some of them at once."""
         with ThreadPoolExecutor(4) as pool:
             done = [(case, pool.submit(self.killed, self.folder / str(at), *case)) for at, case in enumerate(cases)]
@@ -140,7 +140,7 @@ class Killed(InFolder):
 
 @unittest.skipUnless(POSTGRESQL, "OSB_TEST_POSTGRESQL names no database")
 class KilledWithPostgresql(Killed):
-    def words(self, folder: Path) -> List[str]:
+    def words(self, folder: Path) -> list[str]:
         return ["--store", self.url(folder), "--backend", self.url(folder)]
 
     def url(self, folder: Path) -> str:
@@ -153,7 +153,7 @@ class KilledWithPostgresql(Killed):
 
     def setUp(self) -> None:
         super().setUp()
-        self.schemas: Set[str] = set()
+        self.schemas: set[str] = set()
         self.addCleanup(self.drop)
 
     def drop(self) -> None:

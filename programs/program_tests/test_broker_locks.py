@@ -5,7 +5,6 @@ import subprocess
 import sys
 import threading
 import unittest
-from typing import List
 
 from osb_broker.locks import RangeLocks
 from program_tests.broker_support import ONE, TWO, InFolder
@@ -27,8 +26,8 @@ class OfLocks(InFolder):
         self.locks = RangeLocks(self.file)
 
     def test_one_at_a_time(self) -> None:
-        inside: List[int] = []
-        most: List[int] = []
+        inside: list[int] = []
+        most: list[int] = []
 
         def work() -> None:
             with RangeLocks(self.file)(ONE):

@@ -14,7 +14,7 @@ import threading
 import time
 import unittest
 from pathlib import Path
-from typing import Callable, List, Tuple
+from typing import Callable
 from urllib.parse import urlsplit
 
 from program_tests.broker_support import (
@@ -63,7 +63,7 @@ print(server.stop(time.monotonic() + 9))
 """
 
 
-def held_rows(folder: Path) -> List[str]:
+def held_rows(folder: Path) -> list[str]:
     """The ids of all rows of the broker's store."""
     with contextlib.closing(sqlite3.connect(folder / "state" / "holdings.sqlite")) as database:
         return [id for (id,) in database.execute("SELECT id FROM holdings ORDER BY id")]
@@ -141,7 +141,7 @@ class Life(InFolder):
             "    def make(self, id, request):\n        time.sleep(1)\n        super().make(id, request)\n"
         )
         with broker(self.folder, "--backend", str(slow)) as running:
-            got: List[int] = []
+            got: list[int] = []
             asking = threading.Thread(target=lambda: got.append(running.provision().status))
             self.assertEqual(running.provision(TWO, BY_WORKER).status, 202)
             asking.start()
@@ -336,7 +336,7 @@ def wrong(chance: random.Random) -> bytes:
         {"service_id": str(SERVICE), "plan_id": str(AT_ONCE), "organization_guid": "o", "space_guid": "s"}
     ).encode()
     target = PATH.encode()
-    kinds: List[Callable[[], Tuple[bytes, bytes, bytes]]] = [
+    kinds: list[Callable[[], tuple[bytes, bytes, bytes]]] = [
         lambda: (b"GET", b"/" + junk, b""),
         lambda: (chance.choice([b"PUT", b"DELETE"]), b"/v2/service_instances/" + junk + b"?" + ids, body),
         lambda: (b"DELETE", target + b"?" + ids + b"&service_id=" + junk, b""),

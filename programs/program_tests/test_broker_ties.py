@@ -5,7 +5,6 @@ import contextlib
 import threading
 import unittest
 import uuid
-from typing import List, Optional, Tuple
 
 from osb import BrokerRow, Holding, Id, Phase, Request
 from osb_broker.backend import Backend, There
@@ -69,10 +68,10 @@ class OfTies(InFolder):
 
     def test_two_at_once(self) -> None:
         """Of two brokers that would tie a new store to two new backends at one moment, one is refused."""
-        both, said = threading.Barrier(2), []  # type: Tuple[threading.Barrier, List[str]]
+        both, said = threading.Barrier(2), []  # type: tuple[threading.Barrier, list[str]]
 
         class Slow(Folders):
-            def owner(self) -> Optional[str]:
+            def owner(self) -> str | None:
                 found = super().owner()
                 with contextlib.suppress(threading.BrokenBarrierError):
                     both.wait(0.5)

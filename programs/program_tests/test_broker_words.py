@@ -9,14 +9,13 @@ import subprocess
 import sys
 import unittest
 from pathlib import Path
-from typing import Tuple
 
 from osb_broker.words import read
 from program_tests.broker_support import PASSWORD, TOP, InFolder, broker, has_waitress
 
 
 class Words(InFolder):
-    def run_with(self, *words: str, **variables: str) -> Tuple[int, str, str]:
+    def run_with(self, *words: str, **variables: str) -> tuple[int, str, str]:
         if not has_waitress():
             self.skipTest("waitress isn't installed")
         kept = {name: it for name, it in os.environ.items() if not name.startswith("OSB_B")}

@@ -2,7 +2,6 @@
 from __future__ import annotations
 
 import unittest
-from typing import List, Optional
 
 from osb import BrokerRow, Id, Kind, Outcome, Phase, Request, Work
 from osb.service import Task
@@ -17,10 +16,10 @@ class Thing:
     """A backend of one thing: `makes` and `deletes` are what is there after a call, None where it changes nothing."""
 
     def __init__(
-        self, there: There, makes: Optional[There] = WHOLE, deletes: Optional[There] = NONE, raises: bool = False
+        self, there: There, makes: There | None = WHOLE, deletes: There | None = NONE, raises: bool = False
     ) -> None:
         self.there, self.makes, self.deletes, self.raises = there, makes, deletes, raises
-        self.calls: List[str] = []
+        self.calls: list[str] = []
 
     def look(self, id: Id) -> There:
         return self.there
@@ -31,7 +30,7 @@ class Thing:
     def delete(self, id: Id) -> None:
         self._do("delete", self.deletes)
 
-    def _do(self, name: str, there: Optional[There]) -> None:
+    def _do(self, name: str, there: There | None) -> None:
         self.calls.append(name)
         self.there = self.there if there is None else there
         if self.raises:

@@ -107,7 +107,7 @@ class InstancesTest(InFolder):
         self.order()
         record = self.send()
 
-        def raising(kept: Kept) -> "tuple[Kept, None]":
+        def raising(kept: Kept) -> tuple[Kept, None]:
             raise KeyError
 
         self.assertRaises(KeyError, self.instances.update, self.instance, raising)

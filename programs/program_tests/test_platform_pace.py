@@ -3,7 +3,6 @@ from __future__ import annotations
 
 import json
 import unittest
-from typing import List, Optional, Tuple
 
 from osb import State
 from osb_platform.pace import Pace, held_until, wait
@@ -70,10 +69,10 @@ class PlansTest(unittest.TestCase):
 
 class ReachTest(unittest.TestCase):
     def reached(
-        self, *answers: Optional[Tuple[int, bytes]], seconds: Optional[float] = None, stops: int = 9
-    ) -> "Tuple[Optional[Durations], List[str], List[float]]":
+        self, *answers: tuple[int, bytes] | None, seconds: float | None = None, stops: int = 9
+    ) -> tuple[Durations | None, list[str], list[float]]:
         """What comes of these answers, the last again and again: the durations, what was told, and the rests."""
-        left, told, rests = list(answers), [], []  # type: List[Optional[Tuple[int, bytes]]], List[str], List[float]
+        left, told, rests = list(answers), [], []  # type: list[tuple[int, bytes] | None], list[str], list[float]
 
         def rest(wanted: float) -> bool:
             rests.append(wanted)

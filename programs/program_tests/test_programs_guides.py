@@ -12,7 +12,6 @@ import subprocess
 import unittest
 import uuid
 from pathlib import Path
-from typing import Dict, List, Tuple
 from urllib.parse import quote, urlencode
 
 from osb_program.pg import Sessions
@@ -31,7 +30,7 @@ RUN = {
 }
 
 
-def blocks(page: Path, heading: str) -> List[str]:
+def blocks(page: Path, heading: str) -> list[str]:
     """The indented blocks of a section that is run."""
     section = re.split(r"^## ", page.read_text(), flags=re.MULTILINE)
     text = next(it for it in section if it.startswith(f"{heading}\n"))
@@ -56,7 +55,7 @@ class Shell(InFolder):
 
     def ran(self, script: str, **given: str) -> str:
         """What it writes on standard output; all that it has started is killed in the end."""
-        environment: Dict[str, str] = {**os.environ, "XDG_STATE_HOME": str(self.folder), **given}
+        environment: dict[str, str] = {**os.environ, "XDG_STATE_HOME": str(self.folder), **given}
         shell = subprocess.Popen(
             ["bash", "-e"],
             cwd=TOP,
@@ -131,7 +130,7 @@ class OverPostgresql(Shell):
         with self.server.session() as session, session.cursor() as cursor:
             cursor.execute(statement)
 
-    def made(self, sql: str, role: str) -> Tuple[str, str]:
+    def made(self, sql: str, role: str) -> tuple[str, str]:
         """Runs the statements, and gives the URL of the database, and the password; both go in the end."""
         one = "osb_" + self.instance.replace("-", "")
         for its_role, database in ((self.name, f"{self.name}s"), (one, one)):
@@ -148,7 +147,7 @@ class OverPostgresql(Shell):
         """That of the database, for its role, quoted: the server is that of the tests, however they name it."""
         from psycopg2.extensions import parse_dsn  # where PostgreSQL is used it is there
 
-        parts: Dict[str, str] = {**parse_dsn(POSTGRESQL), "user": self.name, "dbname": f"{self.name}s"}
+        parts: dict[str, str] = {**parse_dsn(POSTGRESQL), "user": self.name, "dbname": f"{self.name}s"}
         parts.pop("password", None)
         return shlex.quote(f"postgresql://?{urlencode(parts, quote_via=quote)}")
 

@@ -12,7 +12,7 @@ import warnings
 from contextlib import closing, redirect_stderr
 from io import StringIO
 from pathlib import Path
-from typing import Iterator, List, Tuple
+from typing import Iterator
 
 from osb_replay_log.dask_engine import Dask
 from osb_replay_log.engines import MOST_DEATHS, Engine, Processes
@@ -30,7 +30,7 @@ def fail(number: int) -> int:
     return number
 
 
-def die(given: Tuple[str, int, int]) -> int:
+def die(given: tuple[str, int, int]) -> int:
     """The worker dies, up to so many times."""
     folder, number, times = given
     for time_ in range(times if number % 4 == 0 else 0):
@@ -49,7 +49,7 @@ class EngineCases:
         raise NotImplementedError
 
     def check(self, case: unittest.TestCase) -> None:
-        begun: List[int] = []
+        begun: list[int] = []
 
         def given() -> Iterator[int]:
             for number in range(1000):

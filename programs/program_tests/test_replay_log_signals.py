@@ -31,7 +31,7 @@ print("not dead")
 
 
 class SignalsTest(unittest.TestCase):
-    def ran(self, then: str, is_ignored: bool = False) -> "subprocess.CompletedProcess[str]":
+    def ran(self, then: str, is_ignored: bool = False) -> subprocess.CompletedProcess[str]:
         words = [sys.executable, "-u", "-c", TEXT.format(then=then)]
         # Those of this process, which the program has first, may be ignored too.
         before = {it: signal.signal(it, signal.SIG_DFL) for it in (signal.SIGINT, signal.SIGTERM, signal.SIGHUP)}

@@ -4,7 +4,7 @@ from __future__ import annotations
 import sqlite3
 import threading
 from dataclasses import dataclass
-from typing import Callable, Dict, List, Optional, Protocol, Tuple, TypeVar
+from typing import Callable, Protocol, TypeVar
 
 from osb.enums import State, Status
 from osb.errors import OsbError
@@ -22,7 +22,7 @@ class Kept:
     """What a platform keeps of an instance: its record, and the operation that its Polls are about, or None."""
 
     record: Record
-    operation: Optional[str] = None
+    operation: str | None = None
 
     @property
     def is_pending(self) -> bool:
@@ -41,7 +41,7 @@ class RecordStore(Protocol):
         """
         ...
 
-    def update(self, id: Id, change: Callable[[Kept], Tuple[Kept, T]]) -> T:
+    def update(self, id: Id, change: Callable[[Kept], tuple[Kept, T]]) -> T:
         """Changes what is kept of an instance, in one transaction that locks its row.
 
         Hands what is kept to `change`, writes what it gives where it differs, and commits; returns the rest of what it
@@ -50,7 +50,7 @@ class RecordStore(Protocol):
         """
         ...
 
-    def pending(self) -> List[Id]:
+    def pending(self) -> list[Id]:
         """The instances whose row `is_pending`."""
         ...
 
@@ -60,7 +60,7 @@ class MemoryRecords:
 
     def __init__(self) -> None:
         self._lock = threading.Lock()
-        self._kept: Dict[Id, Kept] = {}
+        self._kept: dict[Id, Kept] = {}
 
     def insert(self, id: Id, kept: Kept) -> None:
         """As `RecordStore` says."""
@@ -69,7 +69,7 @@ class MemoryRecords:
                 raise OsbError(Status.ID_USED, str(id))
             self._kept[id] = kept
 
-    def update(self, id: Id, change: Callable[[Kept], Tuple[Kept, T]]) -> T:
+    def update(self, id: Id, change: Callable[[Kept], tuple[Kept, T]]) -> T:
         """As `RecordStore` says."""
         with self._lock:
             if id not in self._kept:
@@ -77,7 +77,7 @@ class MemoryRecords:
             self._kept[id], given = change(self._kept[id])
             return given
 
-    def pending(self) -> List[Id]:
+    def pending(self) -> list[Id]:
         """As `RecordStore` says."""
         with self._lock:
             return [id for id, kept in self._kept.items() if kept.is_pending]
@@ -104,10 +104,10 @@ class SqliteRecords:
             except sqlite3.IntegrityError as error:
                 raise OsbError(Status.ID_USED, str(id)) from error
 
-    def update(self, id: Id, change: Callable[[Kept], Tuple[Kept, T]]) -> T:
+    def update(self, id: Id, change: Callable[[Kept], tuple[Kept, T]]) -> T:
         """As `RecordStore` says."""
         with transaction(self._path, self._seconds) as database:
-            found: Optional[Tuple[str, Optional[str]]] = database.execute(
+            found: tuple[str, str | None] | None = database.execute(
                 "SELECT record, operation FROM records WHERE id = ?", [str(id)]
             ).fetchone()
             if found is None:
@@ -121,11 +121,11 @@ class SqliteRecords:
                 )
             return given
 
-    def pending(self) -> List[Id]:
+    def pending(self) -> list[Id]:
         """As `RecordStore` says."""
         with transaction(self._path, self._seconds) as database:
             return [Id.of(text) for (text,) in database.execute("SELECT id FROM records WHERE pending ORDER BY id")]
 
 
-def _columns(kept: Kept) -> Tuple[str, Optional[str], bool]:
+def _columns(kept: Kept) -> tuple[str, str | None, bool]:
     return kept.record.to_text(), kept.operation, kept.is_pending
