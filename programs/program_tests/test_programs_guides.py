@@ -9,13 +9,19 @@ import shutil
 import signal
 import socket
 import subprocess
-import unittest
 import uuid
 from pathlib import Path
 from urllib.parse import quote, urlencode
 
+import pytest
 from osb_program.pg import Sessions
 from program_tests.broker_support import ONE, POSTGRESQL, TOP, InFolder, has_waitress
+
+pytestmark = pytest.mark.slow
+needs_curl_and_waitress = pytest.mark.skipif(
+    not (shutil.which("curl") and has_waitress()),
+    reason="curl or waitress isn't installed (Debian: curl, python3-waitress)",
+)
 
 BROKER, PLATFORM = TOP / "docs" / "broker-guide.md", TOP / "docs" / "platform-guide.md"
 
@@ -85,7 +91,7 @@ class Shell(InFolder):
         return f"until curl -sf http://127.0.0.1:{self.port}/healthz >/dev/null; do sleep 0.05; done\n"
 
 
-@unittest.skipUnless(shutil.which("curl") and has_waitress(), "curl or waitress isn't installed")
+@needs_curl_and_waitress
 class Guides(Shell):
     def test_a_broker(self) -> None:
         serve, at_once, by_worker = (self.here(it) for it in blocks(BROKER, "Start it"))
@@ -117,7 +123,8 @@ class Guides(Shell):
         self.assertEqual(out.count("<title>"), 1, out)
 
 
-@unittest.skipUnless(POSTGRESQL and shutil.which("curl") and has_waitress(), "OSB_TEST_POSTGRESQL names no database")
+@pytest.mark.postgres
+@needs_curl_and_waitress
 class OverPostgresql(Shell):
     """What the guides have one do at a server, with other names; but for what is of all of its databases."""
 
@@ -180,7 +187,3 @@ class OverPostgresql(Shell):
             f"{serve}{order}\n{started} --once\nkill %1; wait %1\n", OSB_PLATFORM_PASSWORD="x", PGPASSWORD=secret
         )
         self.assertRegex(out, r"\tready\n")
-
-
-if __name__ == "__main__":
-    unittest.main()

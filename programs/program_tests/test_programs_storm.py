@@ -66,7 +66,3 @@ class Cries(unittest.TestCase):
             (logged + "osb-platform: x\n" + raised, ["KeyError: 1"]),
         ):
             self.assertEqual(cries(log_), wanted, log_)
-
-
-if __name__ == "__main__":
-    unittest.main()
