@@ -37,7 +37,7 @@ def _worked(service: Any, request: Request, mode: Optional[Mode], body: bytes) -
 
 
 class _Usual:
-    """As brokers are usually written: the work, and then its row. Nothing is kept of work that goes on, or has ended."""
+    """As brokers are usually written: the work, and then its row. Nothing is kept of work that goes on or has ended."""
 
     def handle(self, service: Any, asked: Asked, body: bytes) -> Answer:
         """By the row alone."""

@@ -11,7 +11,7 @@ import signal
 import sqlite3
 import sys
 from pathlib import Path
-from typing import Iterator, List, Optional
+from typing import Iterator
 
 from osb import Id, Kind, OsbError, Request
 from osb.client import Client
@@ -37,7 +37,7 @@ from osb_program.secret import NoSecret, secret
 _MARGIN = 30.0
 
 
-def main(given: List[str]) -> int:
+def main(given: list[str]) -> int:
     """Does what these words ask for, and gives the exit status."""
     asked = words.read(given)
     if not crash.is_one_of(POINTS):
@@ -173,7 +173,7 @@ def _client(asked: argparse.Namespace, instances: Instances) -> Client:
         raise words.refuse(str(error)) from error
 
 
-def _durations(asked: argparse.Namespace, client: Client, worker: Worker) -> Optional[Durations]:
+def _durations(asked: argparse.Namespace, client: Client, worker: Worker) -> Durations | None:
     """How long the plans' instances may be polled, or None where it is to stop before that is known."""
     if asked.catalog is None:
         try:

@@ -13,9 +13,10 @@ import subprocess
 import tempfile
 import unittest
 from pathlib import Path
-from typing import Any, Dict, Iterator, List, NamedTuple, Optional
+from typing import Any, Iterator, NamedTuple
 from urllib.parse import urlsplit
 
+import pytest
 from osb import Holding, Id, Kind, Request
 from osb.stores import Store
 
@@ -27,6 +28,8 @@ AT_ONCE = Id.of("00000000-0000-0000-0000-0000000000b1")
 BY_WORKER = Id.of("00000000-0000-0000-0000-0000000000b2")
 USER, PASSWORD = "platform", "a password: with a colon"
 POSTGRESQL = os.environ.get("OSB_TEST_POSTGRESQL", "")
+"""The URL of this worker's database, which exists while a test runs that is marked `postgres`."""
+NO_WAITRESS = "waitress isn't installed (Debian: python3-waitress)"
 
 
 def request(kind: Kind, plan: Id = AT_ONCE, id: Id = ONE) -> Request:
@@ -58,18 +61,18 @@ class InFolder(unittest.TestCase):
 
 class Reply(NamedTuple):
     status: int
-    headers: Dict[str, str]
+    headers: dict[str, str]
     body: Any
 
 
 class Running(NamedTuple):
     """A broker that runs as a process."""
 
-    process: "subprocess.Popen[str]"
+    process: subprocess.Popen[str]
     url: str
     log: Path
 
-    def ask(self, method: str, path: str, body: Optional[bytes] = None, **headers: str) -> Reply:
+    def ask(self, method: str, path: str, body: bytes | None = None, **headers: str) -> Reply:
         """What it answers; headers with _ for -, and none where they are empty."""
         given = {"Authorization": authorization(PASSWORD), "X_Broker_API_Version": "2.17", **headers}
         with contextlib.closing(http.client.HTTPConnection(urlsplit(self.url).netloc, timeout=60)) as connection:
@@ -100,7 +103,7 @@ class Running(NamedTuple):
         self.process.send_signal(signal.SIGTERM)
         return self.process.wait(60)
 
-    def lines(self) -> List[Dict[str, Any]]:
+    def lines(self) -> list[dict[str, Any]]:
         """What it has logged until now."""
         return [json.loads(line) for line in self.log.read_text().splitlines()]
 
@@ -122,7 +125,7 @@ def broker(folder: Path, *words: str, crash_at: str = "", **variables: str) -> I
     test is skipped where there is no waitress.
     """
     if not has_waitress():
-        raise unittest.SkipTest("waitress isn't installed")
+        pytest.skip(NO_WAITRESS)
     environment = {**os.environ, "OSB_BROKER_PASSWORD": PASSWORD, "OSB_CRASH_AT": crash_at, **variables}
     log = folder / "log"
     line = [str(TOP / "osb-broker"), "serve", "--listen", "127.0.0.1:0", "--state", str(folder / "state"), *words]
@@ -135,7 +138,7 @@ def broker(folder: Path, *words: str, crash_at: str = "", **variables: str) -> I
         process.wait()
 
 
-def _url(process: "subprocess.Popen[str]", log: Path) -> str:
+def _url(process: subprocess.Popen[str], log: Path) -> str:
     """Where it serves, once it does."""
     while process.poll() is None:
         for line in log.read_text().splitlines():

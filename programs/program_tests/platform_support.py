@@ -7,7 +7,7 @@ import subprocess
 import threading
 from http.server import BaseHTTPRequestHandler, ThreadingHTTPServer
 from pathlib import Path
-from typing import Dict, Iterator, List, NamedTuple, Optional, Tuple
+from typing import Iterator, NamedTuple
 
 from osb.client import Client
 from osb_platform.instances import Instance, Instances
@@ -25,16 +25,16 @@ class Said(NamedTuple):
 
     status: int
     body: bytes = b"{}"
-    headers: Tuple[Tuple[str, str], ...] = ()
+    headers: tuple[tuple[str, str], ...] = ()
 
 
 class FarEnd:
     """A broker that says one thing after another, and then 503; and its catalogue when it is asked for that."""
 
-    def __init__(self, url: str, said: List[Said]) -> None:
+    def __init__(self, url: str, said: list[Said]) -> None:
         self.url, self.said = url, said
         self.catalogue = Said(200, b'{"services":[]}')
-        self.came: List[str] = []
+        self.came: list[str] = []
         """The method and the target of each request but those for the catalogue."""
 
     def answer(self, method: str, target: str) -> Said:
@@ -91,18 +91,18 @@ def parts(
     instances: Instances,
     pace: Pace = Pace(1.0, 8.0, 0.0),
     longest: float = 100.0,
-    tell: Optional[List[Instance]] = None,
+    tell: list[Instance] | None = None,
 ) -> Parts:
     client = Client(url, "platform", "secret", instances, organization="o", space="s", seconds=5)
-    told: List[Instance] = [] if tell is None else tell
+    told: list[Instance] = [] if tell is None else tell
     return Parts(client, instances, WORKER, pace, Longest(longest, {}), told.append)
 
 
-def platform(folder: Path, *words: str, password: str = "secret", **environment: str) -> "subprocess.Popen[str]":
+def platform(folder: Path, *words: str, password: str = "secret", **environment: str) -> subprocess.Popen[str]:
     """The program over a table in the folder, as a process."""
     command, *rest = words
     store = [] if "--store" in words else ["--store", str(folder / "instances.sqlite")]
-    given: Dict[str, str] = {**os.environ, "OSB_PLATFORM_PASSWORD": password, **environment}
+    given: dict[str, str] = {**os.environ, "OSB_PLATFORM_PASSWORD": password, **environment}
     return subprocess.Popen(
         [str(TOP / "osb-platform"), command, *store, *rest],
         env=given,
@@ -113,7 +113,7 @@ def platform(folder: Path, *words: str, password: str = "secret", **environment:
     )
 
 
-def ran(folder: Path, *words: str, password: str = "secret", **environment: str) -> Tuple[int, str, str]:
+def ran(folder: Path, *words: str, password: str = "secret", **environment: str) -> tuple[int, str, str]:
     """Its status, and what it says on standard output and on standard error."""
     process = platform(folder, *words, password=password, **environment)
     out, err = process.communicate(timeout=60)

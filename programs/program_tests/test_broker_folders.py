@@ -2,8 +2,7 @@
 from __future__ import annotations
 
 import json
-import unittest
-from typing import Any, List
+from typing import Any
 
 from osb import Kind
 from osb_broker.backend import OwnLocks, There
@@ -19,7 +18,7 @@ class OfFolders(InFolder):
         self.top = self.folder / "instances"
         self.backend = Folders(self.top)
 
-    def names(self) -> List[str]:
+    def names(self) -> list[str]:
         return sorted(it.name for it in self.top.iterdir() if it.name != ".locks")
 
     def test_life(self) -> None:
@@ -66,7 +65,3 @@ class OfFolders(InFolder):
         assert isinstance(self.backend, OwnLocks)
         with self.backend.locks(ONE), Folders(self.top).locks.attempt(ONE) as is_had:
             self.assertFalse(is_had)
-
-
-if __name__ == "__main__":
-    unittest.main()

@@ -3,8 +3,7 @@ from __future__ import annotations
 
 import json
 import logging
-import unittest
-from typing import Any, Callable, Dict, Iterable, List, Tuple
+from typing import Any, Callable, Iterable
 
 from osb import Id
 from osb_broker.front import Front
@@ -17,17 +16,17 @@ PATH = f"/v2/service_instances/{ONE}"
 class OfFront(InFolder):
     def setUp(self) -> None:
         super().setUp()
-        self.touched: List[Id] = []
+        self.touched: list[Id] = []
         self.status, self.body, self.asked = "200 OK", b"{}", 0
         self.front = Front(self.application, self.touched.append)
 
-    def application(self, environ: Dict[str, Any], start_response: Callable[..., Any]) -> Iterable[bytes]:
+    def application(self, environ: dict[str, Any], start_response: Callable[..., Any]) -> Iterable[bytes]:
         self.asked += 1
         start_response(self.status, [])
         return [self.body]
 
-    def call(self, method: str, path: str, **environ: str) -> Tuple[str, Dict[str, str], bytes]:
-        said: List[Any] = []
+    def call(self, method: str, path: str, **environ: str) -> tuple[str, dict[str, str], bytes]:
+        said: list[Any] = []
         body = self.front({"REQUEST_METHOD": method, "PATH_INFO": path, **environ}, lambda *it: said.extend(it))
         return said[0], dict(said[1]), b"".join(body)
 
@@ -78,7 +77,7 @@ class OfFront(InFolder):
     def test_log(self) -> None:
         """A line of JSON with the instance, the request's id, the status and the time, and nothing of a secret."""
         logging.disable(logging.NOTSET)
-        lines: List[str] = []
+        lines: list[str] = []
 
         class Kept(logging.Handler):
             def emit(self, record: logging.LogRecord) -> None:
@@ -103,7 +102,3 @@ class OfFront(InFolder):
         )
         self.assertTrue({"time", "event", "milliseconds"} <= set(line))
         self.assertNotIn("secret", lines[0])
-
-
-if __name__ == "__main__":
-    unittest.main()

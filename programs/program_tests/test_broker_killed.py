@@ -7,11 +7,11 @@ to, by a role that may make databases and roles.
 from __future__ import annotations
 
 import contextlib
-import unittest
 from concurrent.futures import ThreadPoolExecutor
 from pathlib import Path
-from typing import Any, ContextManager, Iterator, List, Set, Tuple
+from typing import Any, ContextManager, Iterator
 
+import pytest
 from osb import Holding, Id, State
 from osb.client import Client
 from osb.records import SqliteRecords
@@ -34,12 +34,14 @@ from program_tests.broker_support import (
     held,
 )
 
+pytestmark = pytest.mark.slow
+
 # The points at which a plan that is made by a worker hasn't been answered yet.
 BEFORE_ANSWER = ("begin-next", "begin-written", "work-next", "end-next", "end-written")
 
 
 class Killed(InFolder):
-    def words(self, folder: Path) -> List[str]:
+    def words(self, folder: Path) -> list[str]:
         """The store and the backend of a case."""
         return []
 
@@ -53,7 +55,7 @@ class Killed(InFolder):
     def broker(self, folder: Path, *words: str, crash_at: str = "") -> ContextManager[Running]:
         return broker(folder, *self.words(folder), *words, crash_at=crash_at, OSB_BACKEND_KEY="a key")
 
-    def all(self, cases: List[Tuple[str, Id, bool]]) -> None:
+    def all(self, cases: list[tuple[str, Id, bool]]) -> None:
         """Each of the cases in a folder of its own, some of them at once."""
         with ThreadPoolExecutor(4) as pool:
             done = [(case, pool.submit(self.killed, self.folder / str(at), *case)) for at, case in enumerate(cases)]
@@ -138,9 +140,9 @@ class Killed(InFolder):
                 self.assertEqual((running.provision(id).status, self.is_there(self.folder, id)), (409, False))
 
 
-@unittest.skipUnless(POSTGRESQL, "OSB_TEST_POSTGRESQL names no database")
+@pytest.mark.postgres
 class KilledWithPostgresql(Killed):
-    def words(self, folder: Path) -> List[str]:
+    def words(self, folder: Path) -> list[str]:
         return ["--store", self.url(folder), "--backend", self.url(folder)]
 
     def url(self, folder: Path) -> str:
@@ -153,7 +155,7 @@ class KilledWithPostgresql(Killed):
 
     def setUp(self) -> None:
         super().setUp()
-        self.schemas: Set[str] = set()
+        self.schemas: set[str] = set()
         self.addCleanup(self.drop)
 
     def drop(self) -> None:
@@ -173,7 +175,3 @@ class KilledWithPostgresql(Killed):
 
     def store(self, folder: Path) -> Store:
         return PgStore(self.url(folder), 1)
-
-
-if __name__ == "__main__":
-    unittest.main()

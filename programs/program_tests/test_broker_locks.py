@@ -4,8 +4,6 @@ from __future__ import annotations
 import subprocess
 import sys
 import threading
-import unittest
-from typing import List
 
 from osb_broker.locks import RangeLocks
 from program_tests.broker_support import ONE, TWO, InFolder
@@ -27,8 +25,8 @@ class OfLocks(InFolder):
         self.locks = RangeLocks(self.file)
 
     def test_one_at_a_time(self) -> None:
-        inside: List[int] = []
-        most: List[int] = []
+        inside: list[int] = []
+        most: list[int] = []
 
         def work() -> None:
             with RangeLocks(self.file)(ONE):
@@ -62,7 +60,3 @@ class OfLocks(InFolder):
             process.kill()
             with self.locks(ONE) as waited:
                 self.assertTrue(waited)
-
-
-if __name__ == "__main__":
-    unittest.main()

@@ -12,11 +12,12 @@ import subprocess
 import sys
 import threading
 import time
-import unittest
 from pathlib import Path
-from typing import Callable, List, Tuple
+from typing import Callable
 from urllib.parse import urlsplit
 
+import pytest
+from hypothesis import given, note, settings, strategies
 from program_tests.broker_support import (
     AT_ONCE,
     BY_WORKER,
@@ -29,6 +30,8 @@ from program_tests.broker_support import (
     authorization,
     broker,
 )
+
+pytestmark = pytest.mark.slow
 
 COUNT = int(os.environ.get("OSB_TEST_HOSTILE", "500"))
 PATH = f"/v2/service_instances/{ONE}"
@@ -63,7 +66,7 @@ print(server.stop(time.monotonic() + 9))
 """
 
 
-def held_rows(folder: Path) -> List[str]:
+def held_rows(folder: Path) -> list[str]:
     """The ids of all rows of the broker's store."""
     with contextlib.closing(sqlite3.connect(folder / "state" / "holdings.sqlite")) as database:
         return [id for (id,) in database.execute("SELECT id FROM holdings ORDER BY id")]
@@ -141,7 +144,7 @@ class Life(InFolder):
             "    def make(self, id, request):\n        time.sleep(1)\n        super().make(id, request)\n"
         )
         with broker(self.folder, "--backend", str(slow)) as running:
-            got: List[int] = []
+            got: list[int] = []
             asking = threading.Thread(target=lambda: got.append(running.provision().status))
             self.assertEqual(running.provision(TWO, BY_WORKER).status, 202)
             asking.start()
@@ -313,16 +316,19 @@ class Hostile(InFolder):
 
     def test_random(self) -> None:
         """Targets, headers and bodies that are wrong in some way: 4xx each, and nothing is held afterwards."""
-        seed = random.randrange(2**32)
-        chance = random.Random(seed)
         with broker(self.folder) as running:
-            for at in range(COUNT):
+
+            @settings(max_examples=COUNT, deadline=None, database=None)
+            @given(strategies.randoms(use_true_random=False))
+            def is_rejected(chance: random.Random) -> None:
                 sent = wrong(chance)
-                got = raw(running, sent)
-                self.assertTrue(400 <= status(got) < 500, (seed, at, sent, got))
+                note(repr(sent))
+                self.assertIn(status(raw(running, sent)), range(400, 500))
+
+            is_rejected()
             self.assertEqual(running.provision().status, 201)
             failed = [it for it in running.lines() if it["level"] not in ("info", "debug")]
-            self.assertEqual(failed, [], seed)
+            self.assertEqual(failed, [])
         self.assertEqual(held_rows(self.folder), [str(ONE)])
         folders = self.folder / "state" / "instances"
         self.assertEqual(sorted(it.name for it in folders.iterdir()), [".locks", ".owner", str(ONE)])
@@ -336,7 +342,7 @@ def wrong(chance: random.Random) -> bytes:
         {"service_id": str(SERVICE), "plan_id": str(AT_ONCE), "organization_guid": "o", "space_guid": "s"}
     ).encode()
     target = PATH.encode()
-    kinds: List[Callable[[], Tuple[bytes, bytes, bytes]]] = [
+    kinds: list[Callable[[], tuple[bytes, bytes, bytes]]] = [
         lambda: (b"GET", b"/" + junk, b""),
         lambda: (chance.choice([b"PUT", b"DELETE"]), b"/v2/service_instances/" + junk + b"?" + ids, body),
         lambda: (b"DELETE", target + b"?" + ids + b"&service_id=" + junk, b""),
@@ -353,7 +359,3 @@ def wrong(chance: random.Random) -> bytes:
     if chance.random() < 0.2:
         return head(method, at, length, password=chance.choice(["x", "", PASSWORD + " "])) + sent
     return head(method, at, length, version=chance.choice(["2.17", "2.14", "1.0", "x", ""])) + sent
-
-
-if __name__ == "__main__":
-    unittest.main()

@@ -5,10 +5,9 @@ That of PostgreSQL is tried where the environment variable OSB_TEST_POSTGRESQL n
 from __future__ import annotations
 
 import threading
-import unittest
-from typing import List, Tuple
 from unittest import mock
 
+import pytest
 from osb import BrokerRow, Holding, Id, Kind, Phase
 from osb_broker import points
 from osb_broker.fence import LostLock, WorkersStore
@@ -22,7 +21,7 @@ MAKING = Holding(BrokerRow(SERVICE, BY_WORKER, Phase.MAKING))
 READY = Holding(BrokerRow(SERVICE, AT_ONCE, Phase.READY))
 
 
-def broken(holding: Holding) -> Tuple[Holding, None]:
+def broken(holding: Holding) -> tuple[Holding, None]:
     raise KeyError("x")
 
 
@@ -92,10 +91,10 @@ class OfSqlite(InFolder):
         """Of twenty threads, over three stores, one makes the row; also of those whose changes are written together."""
         stores = [self.store() for _ in range(3)]
         for id in (ONE, TWO):
-            made: List[bool] = []
+            made: list[bool] = []
 
             def make(at: int) -> None:
-                def change(holding: Holding) -> Tuple[Holding, bool]:
+                def change(holding: Holding) -> tuple[Holding, bool]:
                     return READY, holding == Holding.NONE
 
                 made.append(stores[at % 3].update(id, change))
@@ -108,7 +107,7 @@ class OfSqlite(InFolder):
             self.assertEqual(sorted(made), [False] * 19 + [True])
 
 
-@unittest.skipUnless(POSTGRESQL, "OSB_TEST_POSTGRESQL names no database")
+@pytest.mark.postgres
 class OfPostgresql(OfSqlite):
     def setUp(self) -> None:
         super().setUp()
@@ -128,16 +127,16 @@ class Together(InFolder):
     def test_together(self) -> None:
         """Of changes that come at once, one that raises takes none of the others with it."""
         store = SqliteStore(self.folder / "holdings.sqlite")
-        failed: List[int] = []
+        failed: list[int] = []
 
         def once(at: int) -> None:
-            def change(holding: Holding) -> Tuple[Holding, None]:
+            def change(holding: Holding) -> tuple[Holding, None]:
                 if at % 4 == 0 and seen:  # the second time it is called, to be written
                     raise KeyError(at)
                 seen.append(at)
                 return READY, None
 
-            seen: List[int] = []
+            seen: list[int] = []
             try:
                 store.update(Id(9, at), change)
             except KeyError:
@@ -155,7 +154,7 @@ class Together(InFolder):
 class Points(InFolder):
     def test_steps(self) -> None:
         """Each change has the places of the call that made it."""
-        said: List[str] = []
+        said: list[str] = []
         patched = mock.patch.object(points, "crash", said.append)
         patched.start()
         self.addCleanup(patched.stop)
@@ -170,7 +169,3 @@ class Points(InFolder):
         self.assertEqual(set(said), {"mark-next", "mark-written"})
         said.clear()
         self.assertEqual((held(store, TWO), said), (Holding(is_marked=True), []))
-
-
-if __name__ == "__main__":
-    unittest.main()

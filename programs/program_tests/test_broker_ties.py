@@ -3,10 +3,9 @@ from __future__ import annotations
 
 import contextlib
 import threading
-import unittest
 import uuid
-from typing import List, Optional, Tuple
 
+import pytest
 from osb import BrokerRow, Holding, Id, Phase, Request
 from osb_broker.backend import Backend, There
 from osb_broker.folders import Folders
@@ -69,10 +68,10 @@ class OfTies(InFolder):
 
     def test_two_at_once(self) -> None:
         """Of two brokers that would tie a new store to two new backends at one moment, one is refused."""
-        both, said = threading.Barrier(2), []  # type: Tuple[threading.Barrier, List[str]]
+        both, said = threading.Barrier(2), []  # type: tuple[threading.Barrier, list[str]]
 
         class Slow(Folders):
-            def owner(self) -> Optional[str]:
+            def owner(self) -> str | None:
                 found = super().owner()
                 with contextlib.suppress(threading.BrokenBarrierError):
                     both.wait(0.5)
@@ -113,7 +112,7 @@ class OfTies(InFolder):
         self.assertEqual([things.own("one"), things.own("two"), self.things("here").owner()], ["one"] * 3)
 
     def test_a_backend_without_a_name(self) -> None:
-        """As authors may write one: it isn't told from others like it, and isn't taken in the place of one with a name."""
+        """As authors may write one: it can't be told from others like it, and doesn't replace one with a name."""
         self.assertIsInstance(self.things("here"), Tied)
         for name in "aab":
             tie(self.store(name), Nameless(), False)
@@ -135,6 +134,7 @@ class Nameless:
         raise OSError("never asked")
 
 
+@pytest.mark.slow
 class OfProgram(InFolder):
     def test_words(self) -> None:
         """A folder of another store's is refused, and --existing refuses where there is no store."""
@@ -152,7 +152,3 @@ class OfProgram(InFolder):
                 pass
             self.assertIn("it has ended with 2: osb-broker: ", str(raised.exception))
             self.assertIn(said, str(raised.exception))
-
-
-if __name__ == "__main__":
-    unittest.main()

@@ -3,8 +3,7 @@ from __future__ import annotations
 
 import threading
 import time
-import unittest
-from typing import Callable, List
+from typing import Callable
 
 from osb import BrokerRow, Holding, Id, Kind, Phase, Plan, Request
 from osb.service import BrokerService
@@ -122,7 +121,7 @@ class OfUpkeep(InFolder):
         upkeep.touch(ONE)
         begun.wait(60)
         self.assertFalse(ended(upkeep, 0.01))
-        said: List[bool] = []
+        said: list[bool] = []
         waiting = threading.Thread(target=lambda: said.append(ended(upkeep, 60)))
         waiting.start()
         go_on.set()
@@ -132,7 +131,3 @@ class OfUpkeep(InFolder):
         upkeep.touch(TWO)
         self.assertTrue(ended(upkeep, 60))
         self.assertIsNotNone(held(self.store, TWO).work)
-
-
-if __name__ == "__main__":
-    unittest.main()

@@ -1,9 +1,6 @@
 """Outcomes are told by what is there: every way that a making and a deletion can go."""
 from __future__ import annotations
 
-import unittest
-from typing import List, Optional
-
 from osb import BrokerRow, Id, Kind, Outcome, Phase, Request, Work
 from osb.service import Task
 from osb_broker.backend import There
@@ -17,10 +14,10 @@ class Thing:
     """A backend of one thing: `makes` and `deletes` are what is there after a call, None where it changes nothing."""
 
     def __init__(
-        self, there: There, makes: Optional[There] = WHOLE, deletes: Optional[There] = NONE, raises: bool = False
+        self, there: There, makes: There | None = WHOLE, deletes: There | None = NONE, raises: bool = False
     ) -> None:
         self.there, self.makes, self.deletes, self.raises = there, makes, deletes, raises
-        self.calls: List[str] = []
+        self.calls: list[str] = []
 
     def look(self, id: Id) -> There:
         return self.there
@@ -31,7 +28,7 @@ class Thing:
     def delete(self, id: Id) -> None:
         self._do("delete", self.deletes)
 
-    def _do(self, name: str, there: Optional[There]) -> None:
+    def _do(self, name: str, there: There | None) -> None:
         self.calls.append(name)
         self.there = self.there if there is None else there
         if self.raises:
@@ -110,7 +107,3 @@ class Operations(InFolder):
         ):
             row = BrokerRow(SERVICE, AT_ONCE, phase)
             self.assertEqual(BackendWorker(thing).operate(ONE, row), ok, (phase, thing.there))
-
-
-if __name__ == "__main__":
-    unittest.main()

@@ -3,9 +3,9 @@ environment variable OSB_TEST_POSTGRESQL names a database that may be written to
 """
 from __future__ import annotations
 
-import unittest
 from concurrent.futures import ThreadPoolExecutor
 
+import pytest
 from osb import Answer, Body, Id, Record
 from osb.records import IdUsed, Kept, UnknownId
 from osb_platform.instances import Database, Instances
@@ -101,7 +101,7 @@ class InstancesTest(InFolder):
         self.order()
         record = self.send()
 
-        def raising(kept: Kept) -> "tuple[Kept, None]":
+        def raising(kept: Kept) -> tuple[Kept, None]:
             raise KeyError
 
         self.assertRaises(KeyError, self.instances.update, self.instance, raising)
@@ -150,7 +150,7 @@ class InstancesTest(InFolder):
         self.assertNotIn(self.instance, [row.id for row in self.instances.rows("ready")])
 
 
-@unittest.skipUnless(POSTGRESQL, "OSB_TEST_POSTGRESQL names no database")
+@pytest.mark.postgres
 class InstancesInPostgresqlTest(InstancesTest):
     def database(self) -> Database:
         return PgDatabase(POSTGRESQL, 8)
@@ -168,7 +168,3 @@ class InstancesInPostgresqlTest(InstancesTest):
         name = str(self.instance)
         with self.instances.only(name) as is_only, Instances(self.database()).only(name) as is_too:
             self.assertEqual((is_only, is_too), (True, False))
-
-
-if __name__ == "__main__":
-    unittest.main()

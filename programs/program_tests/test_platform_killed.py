@@ -5,10 +5,9 @@ A broker serves meanwhile. In the end the platform has what was ordered and not 
 from __future__ import annotations
 
 import time
-import unittest
 from pathlib import Path
-from typing import List, Tuple
 
+import pytest
 from osb import Holding, Id
 from osb_broker.sqlite_store import SqliteStore
 from osb_platform.instances import Instances
@@ -16,6 +15,8 @@ from osb_platform.points import POINTS
 from osb_platform.sqlite_database import SqliteDatabase
 from program_tests.broker_support import AT_ONCE, BY_WORKER, PASSWORD, SERVICE, InFolder, Running, broker, held
 from program_tests.platform_support import ran
+
+pytestmark = pytest.mark.slow
 
 ORDERING = ("order-next", "order-written")
 RUNNING = [it for it in POINTS if it not in ORDERING]
@@ -73,7 +74,7 @@ class KilledTest(InFolder):
         self.assertIn(states[kept], ("ready", "gone"))
         self.compare(states, Path(self.folder / "state"))
 
-    def until_killed(self, folder: Path, url: str, words: Tuple[str, ...], point: str) -> int:
+    def until_killed(self, folder: Path, url: str, words: tuple[str, ...], point: str) -> int:
         status = 0
         for _ in range(10):
             status = self.run_once(folder, url, *words, crash_at=point)
@@ -82,17 +83,17 @@ class KilledTest(InFolder):
             time.sleep(0.05)
         return status
 
-    def settled(self, folder: Path, instances: Instances, url: str) -> "dict[Id, str]":
+    def settled(self, folder: Path, instances: Instances, url: str) -> dict[Id, str]:
         for _ in range(40):
             if instances.next_due() is None and all(row.due is None for row in instances.rows()):
                 break
             self.assertEqual(self.run_once(folder, url), 0)
         return {row.id: row.state for row in instances.rows()}
 
-    def compare(self, states: "dict[Id, str]", state: Path) -> None:
+    def compare(self, states: dict[Id, str], state: Path) -> None:
         """What is recorded, held and there."""
         store = SqliteStore(state / "holdings.sqlite")
-        names: List[str] = [it.name for it in (state / "instances").iterdir()]
+        names: list[str] = [it.name for it in (state / "instances").iterdir()]
         for id, recorded in states.items():
             holding = held(store, id)
             self.assertEqual(any(str(id) in name for name in names), recorded == "ready", id)
@@ -100,7 +101,3 @@ class KilledTest(InFolder):
                 self.assertEqual(holding, Holding(is_marked=True))
             else:
                 self.assertIsNotNone(holding.row)
-
-
-if __name__ == "__main__":
-    unittest.main()

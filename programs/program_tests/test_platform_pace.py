@@ -3,7 +3,6 @@ from __future__ import annotations
 
 import json
 import unittest
-from typing import List, Optional, Tuple
 
 from osb import State
 from osb_platform.pace import Pace, held_until, wait
@@ -70,10 +69,10 @@ class PlansTest(unittest.TestCase):
 
 class ReachTest(unittest.TestCase):
     def reached(
-        self, *answers: Optional[Tuple[int, bytes]], seconds: Optional[float] = None, stops: int = 9
-    ) -> "Tuple[Optional[Durations], List[str], List[float]]":
+        self, *answers: tuple[int, bytes] | None, seconds: float | None = None, stops: int = 9
+    ) -> tuple[Durations | None, list[str], list[float]]:
         """What comes of these answers, the last again and again: the durations, what was told, and the rests."""
-        left, told, rests = list(answers), [], []  # type: List[Optional[Tuple[int, bytes]]], List[str], List[float]
+        left, told, rests = list(answers), [], []  # type: list[tuple[int, bytes] | None], list[str], list[float]
 
         def rest(wanted: float) -> bool:
             rests.append(wanted)
@@ -103,7 +102,3 @@ class ReachTest(unittest.TestCase):
             self.reached(None, seconds=0.05)
         found, _, rests = self.reached(None)
         self.assertEqual((found, rests), (None, [0.1, 0.2, 0.4, 0.8, 1.6, 3.2, 5.0, 5.0, 5.0]))
-
-
-if __name__ == "__main__":
-    unittest.main()

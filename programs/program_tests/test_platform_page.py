@@ -12,12 +12,12 @@ import socket
 import sqlite3
 import threading
 import time
-import unittest
 import uuid
-from typing import Any, ContextManager, Dict, Iterator, List, NamedTuple, Optional, Tuple
+from typing import Any, ContextManager, Iterator, NamedTuple
 from unittest import mock
 from urllib.parse import quote
 
+import pytest
 from osb import Answer, Body, Id, Record
 from osb.records import Kept
 from osb_platform import page, page_asked, readings, words
@@ -40,14 +40,14 @@ class Got(NamedTuple):
     """What came from the page."""
 
     status: int
-    headers: Dict[str, str]
+    headers: dict[str, str]
     text: str
 
-    def ids(self) -> List[str]:
+    def ids(self) -> list[str]:
         """The ids of the list, in its order."""
         return re.findall(r'id="i-([0-9a-f-]{36})"', self.text)
 
-    def link(self, id: str) -> Optional[str]:
+    def link(self, id: str) -> str | None:
         """Where the link of this id leads."""
         found = re.search(f'href="([^"]*)" id="{id}"', self.text)
         return None if found is None else found[1].replace("&amp;", "&")
@@ -58,7 +58,7 @@ class Got(NamedTuple):
         return "" if found is None else " ".join(re.sub("<[^>]*>", " ", found[0]).split())
 
 
-def get(url: str, target: str = "/", method: str = "GET", body: Optional[bytes] = None, **headers: str) -> Got:
+def get(url: str, target: str = "/", method: str = "GET", body: bytes | None = None, **headers: str) -> Got:
     """What it answers; headers with _ for -."""
     with contextlib.closing(http.client.HTTPConnection(url[len("http://") : -1], timeout=30)) as connection:
         connection.putrequest(method, target, skip_host="Host" in headers)
@@ -111,7 +111,7 @@ class OverTable(InFolder):
         with serving(Page(self.reader(), BROKER), "127.0.0.1", 0) as url:
             yield url
 
-    def order(self, id: Optional[Id] = None, further: str = "{}") -> Id:
+    def order(self, id: Id | None = None, further: str = "{}") -> Id:
         id = id or Id.new()
         self.instances.order(id, SERVICE, AT_ONCE, further)
         return id
@@ -121,7 +121,7 @@ class OverTable(InFolder):
         self.instances.insert(id, Kept(Record.create(id, SERVICE, AT_ONCE, True)[0]))
         return id
 
-    def answered(self, id: Id, answer: Answer, operation: Optional[str] = None) -> None:
+    def answered(self, id: Id, answer: Answer, operation: str | None = None) -> None:
         self.instances.update(id, lambda kept: (Kept(kept.record.answer(kept.record.attempt, answer), operation), None))
 
     def send(self, id: Id) -> None:
@@ -130,7 +130,7 @@ class OverTable(InFolder):
     def remove(self, id: Id) -> None:
         self.instances.update(id, lambda kept: (Kept(kept.record.remove(), kept.operation), None))
 
-    def life(self, id: Id) -> List[Tuple[int, str]]:
+    def life(self, id: Id) -> list[tuple[int, str]]:
         whole = readings.instance(self.reader(), str(id))
         assert whole is not None
         times = [it.since for it in whole.life]
@@ -166,7 +166,7 @@ class ReadingsTest(OverTable):
         """Neither is what a transaction had written that is rolled back, nor a state that is the same."""
         id = self.sent()
 
-        def raising(kept: Kept) -> "tuple[Kept, None]":
+        def raising(kept: Kept) -> tuple[Kept, None]:
             raise KeyError
 
         self.assertRaises(KeyError, self.instances.update, id, raising)
@@ -267,7 +267,7 @@ class ReadingsTest(OverTable):
         self.assertEqual((len(ids), len(set(ids))), (70, 70))
         self.assertEqual(self.walked_back(Asked(readings.IN_FLIGHT, is_last=True)), ids)
 
-    def thousand(self) -> List[str]:
+    def thousand(self) -> list[str]:
         """A thousand instances, by the time at which they came to their state: some at the same."""
         rows = sorted((float(at // 3), str(Id.new())) for at in range(1000))
         with self.database().transaction() as execute:
@@ -280,9 +280,9 @@ class ReadingsTest(OverTable):
                 )
         return [id for _, id in rows]
 
-    def walked(self, asked: Asked) -> List[str]:
+    def walked(self, asked: Asked) -> list[str]:
         """The ids of all pages, from this one on."""
-        ids: List[str] = []
+        ids: list[str] = []
         while True:
             listed = readings.overview(self.reader(), asked).listed
             self.assertEqual(listed.skipped, len(ids))
@@ -291,9 +291,9 @@ class ReadingsTest(OverTable):
                 return ids
             asked = asked._replace(after=Place(listed.rows[-1].since, listed.rows[-1].id))
 
-    def walked_back(self, asked: Asked) -> List[str]:
+    def walked_back(self, asked: Asked) -> list[str]:
         """The ids of all pages up to this one."""
-        ids: List[str] = []
+        ids: list[str] = []
         while True:
             listed = readings.overview(self.reader(), asked).listed
             ids = [*(it.id for it in listed.rows if it.id not in ids), *ids]
@@ -302,7 +302,7 @@ class ReadingsTest(OverTable):
             asked = asked._replace(before=Place(listed.rows[0].since, listed.rows[0].id), is_last=False)
 
 
-@unittest.skipUnless(POSTGRESQL, "OSB_TEST_POSTGRESQL names no database")
+@pytest.mark.postgres
 class ReadingsInPostgresqlTest(ReadingsTest):
     def setUp(self) -> None:
         self.schema = f"page_{uuid.uuid4().hex}"
@@ -310,7 +310,7 @@ class ReadingsInPostgresqlTest(ReadingsTest):
         self.addCleanup(self.run_in_postgresql, f"DROP SCHEMA {self.schema} CASCADE")
         sign = "&" if "?" in POSTGRESQL else "?"
         self.url = f"{POSTGRESQL}{sign}options={quote(f'-csearch_path={self.schema}')}"
-        self.made: Dict[str, Any] = {}
+        self.made: dict[str, Any] = {}
         super().setUp()
 
     def run_in_postgresql(self, statement: str) -> None:
@@ -507,6 +507,7 @@ class PageTest(OverTable):
             self.assertEqual(get(url).ids(), [str(id)])
 
 
+@pytest.mark.slow
 class ServerTest(OverTable):
     """What the server takes and refuses."""
 
@@ -581,14 +582,14 @@ class ServerTest(OverTable):
             for host, status in ((f"127.0.0.2:{port}", 200), (f"127.0.0.1:{port}", 421), (f"a.example:{port}", 421)):
                 self.assertEqual(get(f"http://127.0.0.2:{port}/", Host=host).status, status, host)
 
-    @unittest.skipUnless(socket.has_ipv6, "without IPv6")
+    @pytest.mark.skipif(not socket.has_ipv6, reason="this machine has no IPv6")
     def test_host_with_colons(self) -> None:
         try:
             with serving(Page(self.reader(), BROKER), "::1", 0) as url:
                 self.assertRegex(url, r"^http://\[::1\]:\d+/$")
                 self.assertEqual(get(url).status, 200)
         except OSError as error:
-            self.skipTest(f"no address ::1: {error}")
+            pytest.skip(f"this machine has no address ::1: {error}")
 
     def test_a_request_that_takes_too_long(self) -> None:
         """The time counts for the whole request, however often a byte comes."""
@@ -629,6 +630,7 @@ class ServerTest(OverTable):
         self.assertRaises(OSError, get, url)
 
 
+@pytest.mark.slow
 class WordsTest(InFolder):
     """The program with a page."""
 
@@ -708,7 +710,3 @@ class WordsTest(InFolder):
             (2.6 * 86400, "2 days 14 h"),
         ):
             self.assertEqual(lasting(seconds), told)
-
-
-if __name__ == "__main__":
-    unittest.main()

@@ -2,8 +2,6 @@
 from __future__ import annotations
 
 import logging
-import unittest
-from typing import List, Optional
 from unittest import mock
 
 from osb import Id, Record
@@ -30,12 +28,12 @@ class StepsTest(InFolder):
         self.clock = Clock(self.folder / "instances.sqlite")
         self.instances = Instances(self.clock, 5.0)
         self.instances.order(ONE, SERVICE, BY_WORKER, "{}")
-        self.told: List[Instance] = []
+        self.told: list[Instance] = []
 
     def parts(self, end: FarEnd, pace: Pace = Pace(1.0, 8.0, 0.0), longest: float = 100.0) -> Parts:
         return parts(end.url, self.instances, pace, longest, self.told)
 
-    def stepped(self, with_parts: Parts, at: Optional[float] = None) -> str:
+    def stepped(self, with_parts: Parts, at: float | None = None) -> str:
         """The state after a step, at a moment, or when it is due."""
         due = self.instances.row(ONE).due
         assert at is not None or due is not None
@@ -182,7 +180,3 @@ class StepsTest(InFolder):
         """What can't be done is told, and ends nothing."""
         with far_end() as end:
             step(self.parts(end), Id.of("00000000-0000-0000-0000-00000000000f"))
-
-
-if __name__ == "__main__":
-    unittest.main()

@@ -9,14 +9,19 @@ import shutil
 import signal
 import socket
 import subprocess
-import unittest
 import uuid
 from pathlib import Path
-from typing import Dict, List, Tuple
 from urllib.parse import quote, urlencode
 
+import pytest
 from osb_program.pg import Sessions
 from program_tests.broker_support import ONE, POSTGRESQL, TOP, InFolder, has_waitress
+
+pytestmark = pytest.mark.slow
+needs_curl_and_waitress = pytest.mark.skipif(
+    not (shutil.which("curl") and has_waitress()),
+    reason="curl or waitress isn't installed (Debian: curl, python3-waitress)",
+)
 
 BROKER, PLATFORM = TOP / "docs" / "broker-guide.md", TOP / "docs" / "platform-guide.md"
 
@@ -31,7 +36,7 @@ RUN = {
 }
 
 
-def blocks(page: Path, heading: str) -> List[str]:
+def blocks(page: Path, heading: str) -> list[str]:
     """The indented blocks of a section that is run."""
     section = re.split(r"^## ", page.read_text(), flags=re.MULTILINE)
     text = next(it for it in section if it.startswith(f"{heading}\n"))
@@ -56,7 +61,7 @@ class Shell(InFolder):
 
     def ran(self, script: str, **given: str) -> str:
         """What it writes on standard output; all that it has started is killed in the end."""
-        environment: Dict[str, str] = {**os.environ, "XDG_STATE_HOME": str(self.folder), **given}
+        environment: dict[str, str] = {**os.environ, "XDG_STATE_HOME": str(self.folder), **given}
         shell = subprocess.Popen(
             ["bash", "-e"],
             cwd=TOP,
@@ -86,7 +91,7 @@ class Shell(InFolder):
         return f"until curl -sf http://127.0.0.1:{self.port}/healthz >/dev/null; do sleep 0.05; done\n"
 
 
-@unittest.skipUnless(shutil.which("curl") and has_waitress(), "curl or waitress isn't installed")
+@needs_curl_and_waitress
 class Guides(Shell):
     def test_a_broker(self) -> None:
         serve, at_once, by_worker = (self.here(it) for it in blocks(BROKER, "Start it"))
@@ -118,7 +123,8 @@ class Guides(Shell):
         self.assertEqual(out.count("<title>"), 1, out)
 
 
-@unittest.skipUnless(POSTGRESQL and shutil.which("curl") and has_waitress(), "OSB_TEST_POSTGRESQL names no database")
+@pytest.mark.postgres
+@needs_curl_and_waitress
 class OverPostgresql(Shell):
     """What the guides have one do at a server, with other names; but for what is of all of its databases."""
 
@@ -131,7 +137,7 @@ class OverPostgresql(Shell):
         with self.server.session() as session, session.cursor() as cursor:
             cursor.execute(statement)
 
-    def made(self, sql: str, role: str) -> Tuple[str, str]:
+    def made(self, sql: str, role: str) -> tuple[str, str]:
         """Runs the statements, and gives the URL of the database, and the password; both go in the end."""
         one = "osb_" + self.instance.replace("-", "")
         for its_role, database in ((self.name, f"{self.name}s"), (one, one)):
@@ -148,7 +154,7 @@ class OverPostgresql(Shell):
         """That of the database, for its role, quoted: the server is that of the tests, however they name it."""
         from psycopg2.extensions import parse_dsn  # where PostgreSQL is used it is there
 
-        parts: Dict[str, str] = {**parse_dsn(POSTGRESQL), "user": self.name, "dbname": f"{self.name}s"}
+        parts: dict[str, str] = {**parse_dsn(POSTGRESQL), "user": self.name, "dbname": f"{self.name}s"}
         parts.pop("password", None)
         return shlex.quote(f"postgresql://?{urlencode(parts, quote_via=quote)}")
 
@@ -181,7 +187,3 @@ class OverPostgresql(Shell):
             f"{serve}{order}\n{started} --once\nkill %1; wait %1\n", OSB_PLATFORM_PASSWORD="x", PGPASSWORD=secret
         )
         self.assertRegex(out, r"\tready\n")
-
-
-if __name__ == "__main__":
-    unittest.main()

@@ -6,10 +6,13 @@ import subprocess
 import sys
 import unittest
 
+import pytest
 from program_tests.broker_support import TOP
 
+pytestmark = pytest.mark.slow
 
-@unittest.skipUnless(shutil.which("wrk"), "wrk isn't installed")
+
+@pytest.mark.skipif(not shutil.which("wrk"), reason="wrk isn't installed (Debian: wrk)")
 class Load(unittest.TestCase):
     def test_a_short_one(self) -> None:
         line = [
@@ -39,7 +42,3 @@ class Load(unittest.TestCase):
             [it.split(" ", 1)[1] for it in steps],
             ["steps a second of a platform with 1000 records", "steps a second of a platform with 100000 records"],
         )
-
-
-if __name__ == "__main__":
-    unittest.main()

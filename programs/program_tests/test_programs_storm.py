@@ -3,7 +3,7 @@ from __future__ import annotations
 
 import json
 import unittest
-from typing import Any, List
+from typing import Any
 from xml.dom import minidom
 
 from program_tests.broker_support import TOP
@@ -13,7 +13,7 @@ from storming.programs import cries
 _PICTURES = TOP / "docs" / "pictures"
 
 
-def log(*said: Any) -> List[str]:
+def log(*said: Any) -> list[str]:
     return [json.dumps(it) for it in said]
 
 
@@ -66,7 +66,3 @@ class Cries(unittest.TestCase):
             (logged + "osb-platform: x\n" + raised, ["KeyError: 1"]),
         ):
             self.assertEqual(cries(log_), wanted, log_)
-
-
-if __name__ == "__main__":
-    unittest.main()

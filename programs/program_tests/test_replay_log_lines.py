@@ -6,7 +6,7 @@ import random
 import tempfile
 import unittest
 from pathlib import Path
-from typing import Callable, List
+from typing import Callable
 
 from osb_replay_log.faults import Unreplayed
 from osb_replay_log.head import body_of, head_of
@@ -17,7 +17,7 @@ from osb_replay_log.spool import Room
 
 ID = b"00000000-0000-0000-0000-00000000000a"
 UPPER = ID.upper()
-PACKS: List[Callable[[bytes], bytes]] = [bytes, gzip.compress]
+PACKS: list[Callable[[bytes], bytes]] = [bytes, gzip.compress]
 PLAN = b"plan " + ID + b" " + ID + b" sync"
 
 
@@ -94,14 +94,14 @@ class LinesTest(unittest.TestCase):
         names = [b"%08x-0000-0000-0000-000000000000" % number for number in range(50)]
         lines = [b"send " + (name.upper() if turn % 2 else name) for turn in range(4) for name in names]
         lines[70:70] = [b"restart", b"# nothing", b"", b"restart"]
-        buckets: List[List[bytes]] = [[] for _ in range(7)]
+        buckets: list[list[bytes]] = [[] for _ in range(7)]
         self.assertEqual(part_lines(iter(lines), buckets), (2, End.WHOLE))
         for name in names:
             have = [[line for line in bucket if name_in(line) == name] for bucket in buckets]
             self.assertEqual([it for it in have if it], [[line for line in lines if name_in(line) == name]])
         self.assertEqual([bucket.count(b"restart") for bucket in buckets], [2] * 7)
         self.assertGreater(min(map(len, buckets)), 2)
-        again: List[List[bytes]] = [[] for _ in range(7)]
+        again: list[list[bytes]] = [[] for _ in range(7)]
         self.assertEqual(part_lines(iter([*lines[:72], PLAN, *lines[72:]]), again), (1, End.ODD))
         self.assertEqual(sum(map(len, again)), 70 + 7)
 
@@ -125,7 +125,7 @@ class FilesTest(unittest.TestCase):
         path.write_bytes(data)
         return str(path)
 
-    def read(self, path: str, chunk: int) -> List[bytes]:
+    def read(self, path: str, chunk: int) -> list[bytes]:
         (log,) = from_paths([path])
         return [line for it in stretches(log, 0, chunk) for lines in lines_of(it, chunk) for line in lines]
 
@@ -213,7 +213,3 @@ class FilesTest(unittest.TestCase):
         self.file(b"send\n")
         with self.assertRaisesRegex(Unreplayed, "it has become shorter"):
             list(lines_of(stretches(log, 0, 1000)[0], 1000))
-
-
-if __name__ == "__main__":
-    unittest.main()

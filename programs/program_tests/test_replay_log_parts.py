@@ -8,7 +8,7 @@ import stat
 import tempfile
 import unittest
 from pathlib import Path
-from typing import Dict, List, Sequence
+from typing import Sequence
 
 from osb_replay_log import reports, spool
 from osb_replay_log.faults import Unreplayed
@@ -33,7 +33,7 @@ class InRoom(unittest.TestCase):
         self.room = Room(folder.name)
         self.room.file("plans").write_bytes(b"plan 1\nplan 2\n")
 
-    def spool(self, pieces: Sequence[Sequence[List[bytes]]]) -> None:
+    def spool(self, pieces: Sequence[Sequence[list[bytes]]]) -> None:
         """Each stretch has one piece, which has these buckets."""
         for number, buckets in enumerate(pieces):
             spool.write(self.room, self.room.piece(number, 0), buckets)
@@ -139,7 +139,7 @@ class ProgramTest(InRoom):
 
 
 class ReportsTest(InRoom):
-    def report(self, number: int, rows: Dict[str, str], has_record: bool, counts: str = COUNTS) -> str:
+    def report(self, number: int, rows: dict[str, str], has_record: bool, counts: str = COUNTS) -> str:
         text = "".join(f"{name} {state} none\n" for name, state in sorted(rows.items())) + counts
         if has_record:
             text += (
@@ -160,7 +160,7 @@ class ReportsTest(InRoom):
             for has_record in (False, True):
                 names = [f"{chance.getrandbits(64):016x}" for _ in range(count)]
                 rows = {name: chance.choice(("ready", "gone", "cleaning-polling")) for name in names}
-                parts: List[Dict[str, str]] = [{} for _ in range(many)]
+                parts: list[dict[str, str]] = [{} for _ in range(many)]
                 for name, state in rows.items():
                     parts[chance.randrange(many)][name] = state
                 found = [reports.report_in(self.report(number, part, has_record)) for number, part in enumerate(parts)]
@@ -192,7 +192,7 @@ class PlacesTest(InRoom):
         path.write_bytes(b"\n".join(lines) + b"\n")
         return str(path)
 
-    def told(self, path: str, found: List[Faulty]) -> str:
+    def told(self, path: str, found: list[Faulty]) -> str:
         return first_fault(from_paths([path]), found, lambda line: f"of {line[:4]!r}", 10).said
 
     def test_first(self) -> None:

@@ -8,6 +8,10 @@ import sys
 import unittest
 from pathlib import Path
 
+import pytest
+
+pytestmark = pytest.mark.slow
+
 TEXT = """
 import os, signal
 from osb_replay_log import signals
@@ -31,7 +35,7 @@ print("not dead")
 
 
 class SignalsTest(unittest.TestCase):
-    def ran(self, then: str, is_ignored: bool = False) -> "subprocess.CompletedProcess[str]":
+    def ran(self, then: str, is_ignored: bool = False) -> subprocess.CompletedProcess[str]:
         words = [sys.executable, "-u", "-c", TEXT.format(then=then)]
         # Those of this process, which the program has first, may be ignored too.
         before = {it: signal.signal(it, signal.SIG_DFL) for it in (signal.SIGINT, signal.SIGTERM, signal.SIGHUP)}
@@ -61,7 +65,3 @@ class SignalsTest(unittest.TestCase):
         """One that was ignored when the program was started isn't seen to."""
         ended = self.ran("signals.check()", True)
         self.assertEqual((ended.stdout, ended.returncode), ("held\nraised 2\n", -signal.SIGINT))
-
-
-if __name__ == "__main__":
-    unittest.main()

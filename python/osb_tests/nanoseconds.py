@@ -9,11 +9,11 @@ from __future__ import annotations
 
 import timeit
 from dataclasses import replace
-from typing import Any, Callable, List, Tuple
+from typing import Any, Callable
 
 from osb import Answer, Body, Holding, Id, Kind, Mode, Outcome, PlatformRow, Record, State, tables, wire, work_of
 
-Step = Tuple[str, Callable[[], Any]]
+Step = tuple[str, Callable[[], Any]]
 
 ONE, SERVICE, PLAN = Id(0, 1), Id(0, 0xA0), Id(0, 0xB1)
 PATH = f"/v2/service_instances/{ONE}".encode()
@@ -22,7 +22,7 @@ CATALOGUE = f'{{"services":[{{"id":"{SERVICE}","plans":[{{"id":"{PLAN}"}}]}}]}}'
 FAILED, ACCEPTED, BUSY = (Answer(500, Body.OTHER_ERROR), Answer(202, Body.EMPTY), Answer(422, Body.CONCURRENCY_ERROR))
 
 
-def of_records() -> List[Step]:
+def of_records() -> list[Step]:
     wanted, _ = Record.create(ONE, SERVICE, PLAN, True)
     cleaning, polling = wanted.answer(1, FAILED), wanted.answer(1, ACCEPTED)
     out, _ = cleaning.send(ONE)
@@ -48,7 +48,7 @@ def of_records() -> List[Step]:
     ]
 
 
-def of_holdings() -> List[Step]:
+def of_holdings() -> list[Step]:
     _, provision = Record.create(ONE, SERVICE, PLAN, True)
     making, _ = Holding.NONE.begin(Mode.ASYNC, provision)
     running, _ = making.end(Mode.ASYNC, Outcome.DONE)
@@ -65,7 +65,7 @@ def of_holdings() -> List[Step]:
     ]
 
 
-def of_the_wire() -> List[Step]:
+def of_the_wire() -> list[Step]:
     _, provision = Record.create(ONE, SERVICE, PLAN, True)
     poll, target = replace(provision, kind=Kind.POLL), PATH + b"?accepts_incomplete=true"
     asked = wire.read_request("PUT", target, PROVISION, 9999)
@@ -86,7 +86,7 @@ def of_the_wire() -> List[Step]:
     ]
 
 
-def tell(name: str, steps: List[Step]) -> None:
+def tell(name: str, steps: list[Step]) -> None:
     print(name)
     for called, call in steps:
         timer = timeit.Timer(call)

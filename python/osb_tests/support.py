@@ -7,7 +7,7 @@ import io
 import json
 import threading
 from socketserver import ThreadingMixIn
-from typing import Any, Callable, Dict, Iterator, List, NamedTuple, Optional, Set
+from typing import Any, Callable, Iterator, NamedTuple
 from wsgiref.simple_server import WSGIRequestHandler, WSGIServer, make_server
 
 from osb import Id, Kind, Outcome, Request, Work
@@ -34,9 +34,9 @@ def request(kind: Kind, plan: Id = SYNC, accepts: bool = True, id: Id = ONE) -> 
 class Things:
     """A worker. `things` are those that are there; `before` is called before any work is done."""
 
-    def __init__(self, before: Optional[Callable[[Task], None]] = None, outcome: Outcome = Outcome.DONE) -> None:
-        self.things: Set[Id] = set()
-        self.done: List[Work] = []
+    def __init__(self, before: Callable[[Task], None] | None = None, outcome: Outcome = Outcome.DONE) -> None:
+        self.things: set[Id] = set()
+        self.done: list[Work] = []
         self.before, self.outcome = before, outcome
 
     def work(self, task: Task) -> Outcome:
@@ -52,7 +52,7 @@ class Things:
 
 class Reply(NamedTuple):
     status: int
-    headers: Dict[str, str]
+    headers: dict[str, str]
     body: bytes
 
     @property
@@ -75,7 +75,7 @@ def provision_body(plan: Id = SYNC) -> bytes:
     ).encode()
 
 
-def target(id: Id = ONE, plan: Optional[Id] = SYNC, end: str = "") -> str:
+def target(id: Id = ONE, plan: Id | None = SYNC, end: str = "") -> str:
     query = "" if plan is None else f"?service_id={SERVICE}&plan_id={plan}&accepts_incomplete=true"
     return f"/v2/service_instances/{id}{end}{query}"
 
@@ -83,7 +83,7 @@ def target(id: Id = ONE, plan: Optional[Id] = SYNC, end: str = "") -> str:
 def call(application: BrokerApplication, method: str, target: str, body: bytes = b"", **environ: Any) -> Reply:
     """What the application answers. What is given besides stands in the environment, or doesn't where it is None."""
     path, _, query = target.partition("?")
-    given: Dict[str, Any] = {
+    given: dict[str, Any] = {
         "REQUEST_METHOD": method,
         "PATH_INFO": path,
         "QUERY_STRING": query,
@@ -93,7 +93,7 @@ def call(application: BrokerApplication, method: str, target: str, body: bytes =
         "CONTENT_LENGTH": str(len(body)),
         **environ,
     }
-    said: List[Any] = []
+    said: list[Any] = []
     whole = b"".join(
         application({name: it for name, it in given.items() if it is not None}, lambda *line: said.extend(line))
     )
@@ -109,7 +109,7 @@ def deprovision(application: BrokerApplication, id: Id = ONE, plan: Id = SYNC) -
     return call(application, "DELETE", target(id, plan))
 
 
-def poll(application: BrokerApplication, id: Id = ONE, plan: Optional[Id] = SYNC) -> Reply:
+def poll(application: BrokerApplication, id: Id = ONE, plan: Id | None = SYNC) -> Reply:
     return call(application, "GET", target(id, plan, "/last_operation"))
 
 

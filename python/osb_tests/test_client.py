@@ -8,7 +8,7 @@ import socket
 import threading
 import time
 import unittest
-from typing import Any, Callable, Dict, Iterator, List, Optional, Tuple
+from typing import Any, Callable, Iterator
 from unittest import mock
 
 from osb import Answer, Body, Id, Kind, OsbError, Record, State, Status
@@ -35,7 +35,7 @@ def request_on(connection: socket.socket) -> bytes:
 
 
 @contextlib.contextmanager
-def far_end(came: List[bytes], *answers: Callable[[socket.socket], None]) -> Iterator[str]:
+def far_end(came: list[bytes], *answers: Callable[[socket.socket], None]) -> Iterator[str]:
     """A server that takes as many connections as there are answers, one after the other; its URL."""
     with socket.create_server(("127.0.0.1", 0)) as server:
         server.settimeout(60)
@@ -65,7 +65,7 @@ def slowly(said: bytes) -> Callable[[socket.socket], None]:
     return answer
 
 
-def client(url: str, records: Optional[MemoryRecords] = None, seconds: float = 60.0) -> Client:
+def client(url: str, records: MemoryRecords | None = None, seconds: float = 60.0) -> Client:
     return Client(
         url,
         USER,
@@ -78,13 +78,13 @@ def client(url: str, records: Optional[MemoryRecords] = None, seconds: float = 6
     )
 
 
-def kept_as(state: State, operation: Optional[str] = None, out: Optional[Kind] = None) -> MemoryRecords:
+def kept_as(state: State, operation: str | None = None, out: Kind | None = None) -> MemoryRecords:
     records = MemoryRecords()
     records.insert(ONE, Kept(Record(SERVICE, SYNC, 1, state, out), operation))
     return records
 
 
-def exchanged(state: State, answer: Optional[Answer], attempt: int = 1, retry: Optional[int] = None) -> Exchanged:
+def exchanged(state: State, answer: Answer | None, attempt: int = 1, retry: int | None = None) -> Exchanged:
     return Exchanged(Record(SERVICE, SYNC, attempt, state, None), answer, retry)
 
 
@@ -96,7 +96,7 @@ class Quiet(unittest.TestCase):
 
 class Sent(Quiet):
     def test_provision(self) -> None:
-        came: List[bytes] = []
+        came: list[bytes] = []
         with far_end(came, saying(response(201))) as url:
             said = client(url + "/a/").create(ONE, SERVICE, SYNC, True, '{"parameters":{"size":3}}')
         self.assertEqual(said, exchanged(State.READY, Answer(201, Body.EMPTY)))
@@ -122,7 +122,7 @@ class Sent(Quiet):
 
     def test_operation(self) -> None:
         """What a 202 names is sent back in Polls, and a deletion's takes its place."""
-        came: List[bytes] = []
+        came: list[bytes] = []
         said = [
             response(202, b'{"operation":"making 1"}'),
             response(200, b'{"state":"in progress"}', "Retry-After: 7"),
@@ -162,7 +162,7 @@ class Sent(Quiet):
     def test_nothing_is_sent(self) -> None:
         """What is refused is refused before a connection comes about; the port is nobody's."""
         ready, nowhere = client("http://127.0.0.1:9", kept_as(State.READY)), client("http://127.0.0.1:9")
-        calls: List[Tuple[Callable[[], object], Status]] = [
+        calls: list[tuple[Callable[[], object], Status]] = [
             (lambda: ready.step(ONE), Status.NOTHING_DUE),
             (lambda: ready.expire(ONE), Status.NOT_POLLING),
             (lambda: nowhere.create(TWO, SERVICE, SYNC, True, "["), Status.NOT_JSON),
@@ -177,7 +177,7 @@ class Sent(Quiet):
 
     def test_catalogue(self) -> None:
         """The document as it came, with its status; none where it didn't come whole."""
-        document, came = b'{"services":[]}', []  # type: bytes, List[bytes]
+        document, came = b'{"services":[]}', []  # type: bytes, list[bytes]
         with far_end(
             came, saying(response(200, document)), saying(response(500, document)), saying(response(200, document)[:-1])
         ) as url:
@@ -203,9 +203,9 @@ class Sent(Quiet):
             self.assertRaises(ValueError, client, url)
 
     def test_what_can_not_do_at_the_start(self) -> None:
-        good: Dict[str, Any] = {"user": USER, "password": PASSWORD, "organization": "o", "space": "s"}
+        good: dict[str, Any] = {"user": USER, "password": PASSWORD, "organization": "o", "space": "s"}
         Client("http://a", records=MemoryRecords(), **good)
-        no_texts: List[Dict[str, Any]] = [{name: it} for name in good for it in ("", "\ud800")]
+        no_texts: list[dict[str, Any]] = [{name: it} for name in good for it in ("", "\ud800")]
         for bad in [*no_texts, {"user": "a:b"}, {"longest_body": 0}]:
             with self.assertRaises(ValueError, msg=bad) as raised:
                 Client("http://a", records=MemoryRecords(), **{**good, **bad})
@@ -242,7 +242,7 @@ class NoAnswer(Quiet):
                 super().insert(id, kept)
                 time.sleep(0.3)
 
-        came: List[bytes] = []
+        came: list[bytes] = []
         with far_end(came, saying(response(201))) as url:
             late = client(url, Slow(), seconds=0.2).create(ONE, SERVICE, SYNC)
             self.assertEqual(late, exchanged(State.CLEANING, None))
@@ -338,7 +338,7 @@ class GivenUp(Quiet):
         class Failing(MemoryRecords):
             left = 1
 
-            def update(self, id: Id, change: Callable[[Kept], Tuple[Kept, Any]]) -> Any:
+            def update(self, id: Id, change: Callable[[Kept], tuple[Kept, Any]]) -> Any:
                 if self.left == 0:
                     raise OSError("the disk is full")
                 self.left -= 1
@@ -356,7 +356,3 @@ class GivenUp(Quiet):
     def test_expire(self) -> None:
         made = client("http://127.0.0.1:9", kept_as(State.POLLING))
         self.assertEqual((made.expire(ONE).state, made.record(ONE).state), (State.CLEANING, State.CLEANING))
-
-
-if __name__ == "__main__":
-    unittest.main()

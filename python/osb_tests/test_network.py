@@ -7,7 +7,7 @@ import tempfile
 import unittest
 from http.client import HTTPConnection
 from pathlib import Path
-from typing import Any, Callable, Dict, Iterable, List, Tuple
+from typing import Any, Callable, Iterable
 from urllib.parse import urlsplit
 
 from osb import BrokerRow, Holding, Id, Phase, Record, State
@@ -36,10 +36,10 @@ class Lossy:
 
     def __init__(self, broker: BrokerApplication) -> None:
         self.broker = broker
-        self.lose: List[str] = []
+        self.lose: list[str] = []
 
-    def __call__(self, environ: Dict[str, Any], start_response: Callable[..., Any]) -> Iterable[bytes]:
-        said: List[Any] = []
+    def __call__(self, environ: dict[str, Any], start_response: Callable[..., Any]) -> Iterable[bytes]:
+        said: list[Any] = []
         body = b"".join(self.broker(environ, lambda *line: said.extend(line)))
         if environ["REQUEST_METHOD"] in self.lose:
             self.lose.remove(environ["REQUEST_METHOD"])
@@ -142,7 +142,7 @@ class BothSides(unittest.TestCase):
             self.assertEqual(again.give_up(ONE), Record(SERVICE, SYNC, 2, State.CLEANING, None))
             self.assertEqual(again.step(ONE).record, Record(SERVICE, SYNC, 3, State.GONE, None))
 
-    def late_provision(self, url: str) -> Tuple[int, str]:
+    def late_provision(self, url: str) -> tuple[int, str]:
         connection = HTTPConnection(urlsplit(url).netloc)
         connection.request(
             "PUT",
@@ -154,7 +154,3 @@ class BothSides(unittest.TestCase):
         said = response.status, str(json.loads(response.read())["error"])
         connection.close()
         return said
-
-
-if __name__ == "__main__":
-    unittest.main()

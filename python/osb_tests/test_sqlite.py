@@ -11,7 +11,6 @@ import time
 import unittest
 from contextlib import closing
 from pathlib import Path
-from typing import List
 from unittest import mock
 
 from osb import Holding
@@ -42,9 +41,9 @@ class Opened(unittest.TestCase):
         with closing(opened(self.file, 1.0)) as first:
             first.execute("CREATE TABLE x (y)")
 
-    def synced(self, database: List[sqlite3.Connection], is_first: bool = True) -> List[str]:
+    def synced(self, database: list[sqlite3.Connection], is_first: bool = True) -> list[str]:
         """Opens the file, and gives what this process has had put on disk by itself meanwhile."""
-        names: List[str] = []
+        names: list[str] = []
         whole = os.fsync
 
         def fsync(descriptor: int) -> None:
@@ -64,7 +63,7 @@ class Opened(unittest.TestCase):
     def test_what_was_not_synced(self) -> None:
         """The log is put on disk, and its name, and it is the one that is read from then on."""
         subprocess.run([sys.executable, "-c", DIES, str(self.file)])
-        database: List[sqlite3.Connection] = []
+        database: list[sqlite3.Connection] = []
         self.assertEqual(self.synced(database), [f"{self.file}-wal", str(self.folder)])
         self.assertEqual(database[0].execute("SELECT y FROM x").fetchall(), [(1,)])
         self.assertEqual(self.synced(database, is_first=False), [])
@@ -143,7 +142,3 @@ class Refusing:
 
     def close(self) -> None:
         pass
-
-
-if __name__ == "__main__":
-    unittest.main()

@@ -5,7 +5,7 @@ import tempfile
 import threading
 import unittest
 from pathlib import Path
-from typing import Callable, List, Tuple
+from typing import Callable
 
 from osb import BrokerRow, Holding, Id, Kind, OsbError, Phase, Record, State
 from osb.locks import FileLocks
@@ -41,7 +41,7 @@ def at_once(count: int, call: Callable[[], object]) -> None:
 
 
 class Stores(InFolder):
-    def both(self) -> List[Store]:
+    def both(self) -> list[Store]:
         return [MemoryStore(), SqliteStore(self.folder / "holdings")]
 
     def test_update(self) -> None:
@@ -51,7 +51,7 @@ class Stores(InFolder):
             self.assertEqual((held(store), held(store, TWO)), (MAKING, Holding.NONE))
 
     def test_nothing_is_written_where_it_raises(self) -> None:
-        def broken(holding: Holding) -> Tuple[Holding, None]:
+        def broken(holding: Holding) -> tuple[Holding, None]:
             raise KeyError("x")
 
         for store in self.both():
@@ -85,9 +85,9 @@ class Stores(InFolder):
     def test_threads(self) -> None:
         """Where all at once begin with a Provision, one of them has the work to do."""
         for store in self.both():
-            said: List[bool] = []
+            said: list[bool] = []
 
-            def take(store: Store = store, said: List[bool] = said) -> None:
+            def take(store: Store = store, said: list[bool] = said) -> None:
                 said.append(
                     store.update(ONE, lambda holding: (Holding(work=request(Kind.PROVISION)), holding == Holding.NONE))
                 )
@@ -97,7 +97,7 @@ class Stores(InFolder):
 
 
 class Records(InFolder):
-    def both(self) -> List[RecordStore]:
+    def both(self) -> list[RecordStore]:
         return [MemoryRecords(), SqliteRecords(self.folder / "records")]
 
     def test_insert_and_update(self) -> None:
@@ -130,8 +130,8 @@ class Records(InFolder):
 
 class Locks(InFolder):
     def test_one_at_a_time(self) -> None:
-        inside: List[int] = []
-        most: List[int] = []
+        inside: list[int] = []
+        most: list[int] = []
 
         def work() -> None:
             with FileLocks(self.folder)(ONE):
@@ -155,7 +155,3 @@ class Locks(InFolder):
         locks = FileLocks(self.folder / "new")
         with locks(ONE), locks(TWO):
             self.assertEqual(sorted(it.name for it in (self.folder / "new").iterdir()), [str(ONE), str(TWO)])
-
-
-if __name__ == "__main__":
-    unittest.main()

@@ -2,7 +2,7 @@
 from __future__ import annotations
 
 import unittest
-from typing import Callable, Optional, Tuple
+from typing import Callable
 
 from osb import (
     Answer,
@@ -27,7 +27,7 @@ from osb_tests.support import ASYNC, ONE, SERVICE, SYNC, TWO, request
 PROVISION, POLL, DEPROVISION = Kind.PROVISION, Kind.POLL, Kind.DEPROVISION
 
 
-def status_of(call: Callable[[], object]) -> Optional[Status]:
+def status_of(call: Callable[[], object]) -> Status | None:
     try:
         call()
     except OsbError as error:
@@ -35,7 +35,7 @@ def status_of(call: Callable[[], object]) -> Optional[Status]:
     return None
 
 
-def record(state: State, out: Optional[Kind] = None, attempt: int = 1) -> Record:
+def record(state: State, out: Kind | None = None, attempt: int = 1) -> Record:
     return Record(SERVICE, SYNC, attempt, state, out)
 
 
@@ -214,9 +214,7 @@ def holding_with_work(kind: Kind, plan: Id = SYNC) -> Holding:
 
 
 class Holdings(unittest.TestCase):
-    def begins(
-        self, holding: Holding, mode: Optional[Mode], kind: Kind, plan: Id, said: object, after: Holding
-    ) -> None:
+    def begins(self, holding: Holding, mode: Mode | None, kind: Kind, plan: Id, said: object, after: Holding) -> None:
         self.assertEqual(holding.begin(mode, request(kind, plan)), (after, said), (holding, kind))
 
     def test_busy(self) -> None:
@@ -260,7 +258,7 @@ class Holdings(unittest.TestCase):
     def test_end(self) -> None:
         done, before, after = Outcome.DONE, Outcome.BEFORE, Outcome.AFTER
         failed, marked = Answer(500, Body.OTHER_ERROR), Holding(is_marked=True)
-        table: Tuple[Tuple[Mode, Kind, Outcome, Answer, Holding], ...] = (
+        table: tuple[tuple[Mode, Kind, Outcome, Answer, Holding], ...] = (
             (Mode.SYNC, PROVISION, done, Answer(201, Body.EMPTY), Holding(row(Phase.READY, SYNC))),
             (Mode.ASYNC, PROVISION, done, Answer(202, Body.EMPTY), Holding(row(Phase.MAKING))),
             (Mode.SYNC, PROVISION, after, failed, Holding(row(Phase.READY, SYNC))),
@@ -323,7 +321,3 @@ class Holdings(unittest.TestCase):
             (holding_with_work(DEPROVISION), True),
         ):
             self.assertEqual(held.is_unfinished, is_it, held)
-
-
-if __name__ == "__main__":
-    unittest.main()

@@ -3,7 +3,7 @@ from __future__ import annotations
 
 import json
 import unittest
-from typing import Callable, Optional
+from typing import Callable
 
 from osb import Answer, Body, Id, Kind, OsbError, Plan, Refusal, Request, Status
 from osb.wire import (
@@ -38,7 +38,7 @@ PROVISION, POLL, DEPROVISION = Kind.PROVISION, Kind.POLL, Kind.DEPROVISION
 OF_THE_WAY = (401, 403, 404, 405, 407, 408, 412, 413, 414, 415, 429, 431)
 
 
-def refusal_of(call: Callable[[], object]) -> Optional[Refusal]:
+def refusal_of(call: Callable[[], object]) -> Refusal | None:
     try:
         call()
     except Refusal as refusal:
@@ -252,7 +252,3 @@ class Headers(unittest.TestCase):
         with self.assertRaises(OsbError) as raised:
             Refusal(Status.BUSY)
         self.assertEqual(raised.exception.status, Status.NOT_REFUSED)
-
-
-if __name__ == "__main__":
-    unittest.main()

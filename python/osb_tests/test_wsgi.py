@@ -6,7 +6,7 @@ import io
 import json
 import logging
 import unittest
-from typing import Any, Callable, ContextManager, Dict, Iterator, List, Optional, Tuple
+from typing import Any, Callable, ContextManager, Iterator
 
 from osb import Answer, Body, BrokerRow, Holding, Id, Kind, OsbError, Outcome, Phase, Refusal, Status, Work
 from osb.service import StillRecorded, Task
@@ -46,9 +46,7 @@ def put(store: MemoryStore, holding: Holding, id: Id = ONE) -> None:
     store.update(id, lambda _: (holding, None))
 
 
-def application(
-    store: Optional[MemoryStore] = None, worker: Optional[Things] = None, **given: Any
-) -> BrokerApplication:
+def application(store: MemoryStore | None = None, worker: Things | None = None, **given: Any) -> BrokerApplication:
     return BrokerApplication(CATALOGUE, store or MemoryStore(), worker or Things(), USER, PASSWORD, **given)
 
 
@@ -62,7 +60,7 @@ class Requests(Quiet):
     def test_life_of_a_synchronous_plan(self) -> None:
         store, worker = MemoryStore(), Things()
         made = application(store, worker)
-        table: List[Tuple[Callable[[BrokerApplication], Reply], int, Dict[str, str]]] = [
+        table: list[tuple[Callable[[BrokerApplication], Reply], int, dict[str, str]]] = [
             (provision, 201, {}),
             (provision, 200, {}),
             (poll, 200, {"state": "succeeded"}),
@@ -113,7 +111,7 @@ class Requests(Quiet):
 
     def test_work_is_recorded_first(self) -> None:
         store = MemoryStore()
-        seen: List[Tuple[Holding, Tuple[int, str], Tuple[int, str], int]] = []
+        seen: list[tuple[Holding, tuple[int, str], tuple[int, str], int]] = []
 
         def look(task: Task) -> None:
             both = [(it.status, it.error) for it in (provision(made), deprovision(made))]
@@ -127,7 +125,7 @@ class Requests(Quiet):
 
     def test_tasks(self) -> None:
         """The worker is given the body as it was read, whole and byte for byte; taken up again, work has none."""
-        given: List[Task] = []
+        given: list[Task] = []
 
         def broken(task: Task) -> None:
             given.append(task)
@@ -152,8 +150,8 @@ class Requests(Quiet):
         )
 
     def test_tasks_in_chunks(self) -> None:
-        given: List[Task] = []
-        chunked: Dict[str, Any] = {
+        given: list[Task] = []
+        chunked: dict[str, Any] = {
             "CONTENT_LENGTH": None,
             "HTTP_TRANSFER_ENCODING": "chunked",
             "wsgi.input_terminated": True,
@@ -165,7 +163,7 @@ class Requests(Quiet):
 
     def test_operation_that_ends_before_its_start_is_written(self) -> None:
         """Until then `finish` is to be called again; where no operation runs, it isn't."""
-        raised: List[type] = []
+        raised: list[type] = []
 
         def quick(task: Task) -> None:
             try:
@@ -266,7 +264,7 @@ class Refused(Quiet):
 
         whole, worker = provision_body(), Things()
         made = application(worker=worker)
-        cut: List[Dict[str, Any]] = [
+        cut: list[dict[str, Any]] = [
             {"CONTENT_LENGTH": str(len(whole) + 1)},
             {"CONTENT_LENGTH": "x"},
             {"CONTENT_LENGTH": "-1"},
@@ -277,7 +275,7 @@ class Refused(Quiet):
             reply = call(made, "PUT", target(plan=None), whole, **given)
             self.assertEqual((reply.status, reply.error), (408, "Refused"), given)
         self.assertEqual(worker.done, [])
-        chunked: Dict[str, Any] = {
+        chunked: dict[str, Any] = {
             "CONTENT_LENGTH": None,
             "HTTP_TRANSFER_ENCODING": "chunked",
             "wsgi.input_terminated": True,
@@ -286,7 +284,7 @@ class Refused(Quiet):
 
     def test_pieces(self) -> None:
         class Slow(io.BytesIO):
-            def read(self, size: Optional[int] = -1) -> bytes:
+            def read(self, size: int | None = -1) -> bytes:
                 return super().read(1)
 
         stream = Slow(provision_body())
@@ -304,7 +302,7 @@ class Refused(Quiet):
         self.assertEqual(reply.status, 201)
 
     def test_what_can_not_do_at_the_start(self) -> None:
-        given: List[Tuple[str, str, Dict[str, Any]]] = [
+        given: list[tuple[str, str, dict[str, Any]]] = [
             ("a:b", PASSWORD, {}),
             ("", PASSWORD, {}),
             (USER, "", {}),
@@ -354,7 +352,7 @@ class Faults(Quiet):
             class Refusing(MemoryStore):
                 left = 0
 
-                def update(self, id: Id, change: Callable[[Holding], Tuple[Holding, Any]]) -> Any:
+                def update(self, id: Id, change: Callable[[Holding], tuple[Holding, Any]]) -> Any:
                     self.left -= 1
                     return refuse() if self.left == -1 else super().update(id, change)
 
@@ -416,7 +414,7 @@ class Faults(Quiet):
         class Broken(MemoryStore):
             left = 0
 
-            def update(self, id: Id, change: Callable[[Holding], Tuple[Holding, Any]]) -> Any:
+            def update(self, id: Id, change: Callable[[Holding], tuple[Holding, Any]]) -> Any:
                 if self.left == 0:
                     raise OSError("the disk is full")
                 self.left -= 1
@@ -438,7 +436,7 @@ class Faults(Quiet):
 
     def test_lock(self) -> None:
         """The lock is taken once the work is recorded, and what is recorded is read again under it."""
-        said: List[str] = []
+        said: list[str] = []
         store = MemoryStore()
 
         @contextlib.contextmanager
@@ -495,12 +493,8 @@ class Faults(Quiet):
 class Memory(Quiet):
     def test_want_of_memory(self) -> None:
         class Wanting(MemoryStore):
-            def update(self, id: Id, change: Callable[[Holding], Tuple[Holding, Any]]) -> Any:
+            def update(self, id: Id, change: Callable[[Holding], tuple[Holding, Any]]) -> Any:
                 raise OsbError(Status.MEMORY)
 
         reply = provision(application(Wanting()))
         self.assertEqual((reply.status, reply.error), (503, "ServiceUnavailable"))
-
-
-if __name__ == "__main__":
-    unittest.main()

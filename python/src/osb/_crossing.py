@@ -1,8 +1,6 @@
 """Values as the structs that cross to the library, and back."""
 from __future__ import annotations
 
-from typing import Optional
-
 from osb._structs import KIND_NONE, MODE_NONE, CAnswer, CBrokerRow, CId, CPlan, CPlatformRow, CRequest
 from osb.enums import Body, Kind, Mode, Phase, State
 from osb.ids import Id
@@ -17,15 +15,15 @@ def id_from(id: CId) -> Id:
     return Id(id.high, id.low)
 
 
-def kind_to(kind: Optional[Kind]) -> int:
+def kind_to(kind: Kind | None) -> int:
     return KIND_NONE if kind is None else Kind(kind).value
 
 
-def kind_from(kind: int) -> Optional[Kind]:
+def kind_from(kind: int) -> Kind | None:
     return None if kind == KIND_NONE else Kind(kind)
 
 
-def mode_to(mode: Optional[Mode]) -> int:
+def mode_to(mode: Mode | None) -> int:
     return MODE_NONE if mode is None else Mode(mode).value
 
 

@@ -10,7 +10,7 @@ import socket
 import ssl
 import time
 from dataclasses import dataclass
-from typing import Any, Dict, Iterator, NamedTuple, Optional, cast
+from typing import Any, Iterator, NamedTuple, cast
 from urllib.parse import urlsplit
 
 _log = logging.getLogger("osb.client")
@@ -26,7 +26,7 @@ class Response(NamedTuple):
 
     status: int
     body: bytes
-    retry_after: Optional[str]
+    retry_after: str | None
     """The value of the header Retry-After, or None."""
 
 
@@ -68,7 +68,7 @@ class Deadline:
 
 
 class _Reader(io.RawIOBase):
-    """What comes on a connection. Each read may take the time that is left, and no more, and all of them so many bytes."""
+    """What comes on a connection. All reads together may take the time that is left, and give so many bytes."""
 
     def __init__(self, connection: socket.socket, deadline: Deadline, most: int) -> None:
         self._connection, self._deadline, self._left = connection, deadline, most
@@ -88,7 +88,7 @@ class _Reader(io.RawIOBase):
 class _Lines(io.BufferedReader):
     """What comes, with lines that are whole: http.client takes a head that was cut for one that has ended."""
 
-    def readline(self, size: Optional[int] = -1) -> bytes:
+    def readline(self, size: int | None = -1) -> bytes:
         line = super().readline(size)
         if not line.endswith(b"\n"):
             raise ConnectionError("the response was cut")
@@ -131,8 +131,8 @@ class FarEnd:
         return Deadline(self.seconds)
 
     def exchange(
-        self, deadline: Deadline, method: str, target: str, body: bytes, headers: Dict[str, str]
-    ) -> Optional[Response]:
+        self, deadline: Deadline, method: str, target: str, body: bytes, headers: dict[str, str]
+    ) -> Response | None:
         """Sends a request on a connection of its own, and takes its response, of which no redirect is followed. None
         where no whole response came within the limits, or a connection didn't come about; the log has why. Only the
         look-up of the host's name has a limit of its own, which is the system's.

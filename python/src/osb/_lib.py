@@ -6,7 +6,7 @@ from __future__ import annotations
 
 import ctypes as c
 import os
-from typing import Any, List, Tuple
+from typing import Any
 
 from osb._structs import CAnswer, CAsked, CBegun, CHolding, CId, CPlan, CPlatformRow, CRecord, CRequest
 
@@ -36,7 +36,7 @@ _PLATFORM_ROW = c.POINTER(CPlatformRow)
 _READ, _WRITTEN = [_TEXT, _SIZE], [_TEXT, _SIZE, _NEEDED]
 
 # Each export, with what it gives and what it takes.
-EXPORTS: List[Tuple[str, Any, List[Any]]] = [
+EXPORTS: list[tuple[str, Any, list[Any]]] = [
     ("osb_version", _INT, []),
     ("osb_id_from_text", _INT, [*_READ, _ID]),
     ("osb_id_to_text", None, [CId, _TEXT]),

@@ -14,7 +14,7 @@ import base64
 import logging
 import ssl
 from dataclasses import dataclass
-from typing import Callable, Optional, Tuple, TypeVar
+from typing import Callable, TypeVar
 
 from osb._checks import check_login, check_longest, check_texts
 from osb._exchange import Address, Deadline, FarEnd, Response
@@ -47,9 +47,9 @@ class Exchanged:
 
     record: Record
     """The record as it is written now."""
-    answer: Optional[Answer]
+    answer: Answer | None
     """The answer that was taken, or None: none came that is surely the broker's, or the request was given up before."""
-    retry_after: Optional[int]
+    retry_after: int | None
     """The seconds that the broker asks to be left alone for, or None."""
 
 
@@ -58,13 +58,13 @@ class _Sent:
     request: Request
     attempt: int
     """The number of the request: it stays with the connection."""
-    operation: Optional[str]
+    operation: str | None
 
 
 @dataclass(frozen=True)
 class _Heard:
     answer: Answer
-    operation: Optional[str]
+    operation: str | None
     """What the Polls from now on are about."""
 
 
@@ -82,7 +82,7 @@ class Client:
         space: str,
         seconds: float = 60.0,
         longest_body: int = 1 << 20,
-        tls: Optional[ssl.SSLContext] = None,
+        tls: ssl.SSLContext | None = None,
     ) -> None:
         """`url` is the broker's, without /v2. `seconds` is the limit on the time of each exchange, `longest_body` that
         on the bytes of a response's body. Raises ValueError where the URL is no broker's, the user has a colon, one of
@@ -119,7 +119,7 @@ class Client:
         ATTEMPTS_USED_UP: nothing is then sent.
         """
 
-        def sent(kept: Kept) -> Tuple[Kept, _Sent]:
+        def sent(kept: Kept) -> tuple[Kept, _Sent]:
             record, request = kept.record.send(id)
             operation = kept.operation if request.kind == Kind.POLL else None
             return Kept(record, kept.operation), _Sent(request, record.attempt, operation)
@@ -146,7 +146,7 @@ class Client:
         """
         return self._changed(id, lambda record: record if record.out is None else record.timeout(record.attempt))
 
-    def catalogue(self) -> Optional[Tuple[int, bytes]]:
+    def catalogue(self) -> tuple[int, bytes] | None:
         """Asks the broker for its catalogue: the status of its answer, and the body, which with 200 is the document; or
         None where none came whole. Nothing is recorded.
         """
@@ -159,7 +159,7 @@ class Client:
         return self._changed(id, lambda record: record)
 
     def _changed(self, id: Id, call: Callable[[Record], Record]) -> Record:
-        def changed(kept: Kept) -> Tuple[Kept, Record]:
+        def changed(kept: Kept) -> tuple[Kept, Record]:
             record = call(kept.record)
             return Kept(record, kept.operation), record
 
@@ -173,9 +173,7 @@ class Client:
         named = None if response is None else response.retry_after
         return Exchanged(record, answer, None if named is None else retry_after(named))
 
-    def _response(
-        self, deadline: Deadline, request: Request, operation: Optional[str], body: bytes
-    ) -> Optional[Response]:
+    def _response(self, deadline: Deadline, request: Request, operation: str | None, body: bytes) -> Response | None:
         headers = {**self._headers, "Content-Type": CONTENT_TYPE} if body else self._headers
         target = _unless_memory(lambda: write_target(request, operation, self._far_end.address.prefix))
         if target is None:
@@ -183,7 +181,7 @@ class Client:
         return self._far_end.exchange(deadline, write_method(request.kind), target, body, headers)
 
 
-def _unless_memory(call: Callable[[], T]) -> Optional[T]:
+def _unless_memory(call: Callable[[], T]) -> T | None:
     """What a call gives. An out-of-memory error is as if no answer came, since a timeout is always right."""
     try:
         return call()
@@ -193,10 +191,10 @@ def _unless_memory(call: Callable[[], T]) -> Optional[T]:
         return None
 
 
-def _heard(kind: Kind, response: Response) -> Optional[_Heard]:
+def _heard(kind: Kind, response: Response) -> _Heard | None:
     """What a response says, or None where it isn't surely the broker's."""
 
-    def read() -> Optional[_Heard]:
+    def read() -> _Heard | None:
         answer = read_answer(kind, response.status, response.body)
         if answer is None:
             _log.warning("an answer of %d to a %s isn't surely the broker's", response.status, kind.name.lower())
@@ -206,7 +204,7 @@ def _heard(kind: Kind, response: Response) -> Optional[_Heard]:
     return _unless_memory(read)
 
 
-def _taken(kept: Kept, sent: _Sent, heard: Optional[_Heard]) -> Tuple[Kept, Tuple[Record, Optional[Answer]]]:
+def _taken(kept: Kept, sent: _Sent, heard: _Heard | None) -> tuple[Kept, tuple[Record, Answer | None]]:
     """What is kept after the answer or the timeout, and the answer that was taken. Where the request was given up
     meanwhile, what is kept is as before, and no answer is taken.
     """

@@ -1,14 +1,14 @@
 """What isn't done is raised, with its status and what that means."""
 from __future__ import annotations
 
-from typing import Any, Callable, Dict
+from typing import Any, Callable
 
 from osb._lib import lib
 from osb._texts import written
 from osb.enums import Status
 
 # The meaning of each status, in the words of include/osb.h.
-MEANINGS: Dict[Status, str] = {
+MEANINGS: dict[Status, str] = {
     Status.DONE: "it was done",
     Status.MEMORY: "out of memory: an allocation failed",
     Status.BUSY: "a request is in flight",

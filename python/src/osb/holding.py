@@ -2,7 +2,7 @@
 from __future__ import annotations
 
 from dataclasses import dataclass
-from typing import ClassVar, Optional, Tuple, Union
+from typing import ClassVar
 
 from osb._crossing import answer_from, broker_row_from, broker_row_to, kind_to, mode_to, request_from, request_to
 from osb._lib import lib
@@ -21,8 +21,8 @@ class Holding:
     on sale. A holding that no call gives is refused with BAD_HOLDING.
     """
 
-    row: Optional[BrokerRow] = None
-    work: Optional[Request] = None
+    row: BrokerRow | None = None
+    work: Request | None = None
     """The request whose work is recorded and hasn't ended, or None."""
     is_marked: bool = False
     """Whether the instance has ended: none with this id is ever made again."""
@@ -36,23 +36,23 @@ class Holding:
         running = self.row is not None and self.row.phase in (Phase.MAKING, Phase.DELETING)
         return running or self.work is not None
 
-    def fits(self, mode: Optional[Mode]) -> bool:
+    def fits(self, mode: Mode | None) -> bool:
         """Whether the holding can come about at a plan of the mode. Asked of each that comes from a database, with the
         mode of the row's plan, or of the recorded request's where there is no row.
         """
         return bool(lib.osb_holding_fits(_to(self), mode_to(mode)))
 
-    def begin(self, mode: Optional[Mode], request: Request) -> Tuple[Holding, Union[Answer, Work]]:
+    def begin(self, mode: Mode | None, request: Request) -> tuple[Holding, Answer | Work]:
         """Begins with a request to this instance: gives the answer to send, or the work that is due and is recorded.
 
         The holding is written to the database where it differs, before the work begins or the answer is sent.
         """
         holding, begun = _to(self), CBegun()
         check(lib.osb_holding_begin(holding, mode_to(mode), request_to(request), begun))
-        due: Union[Answer, Work] = answer_from(begun.answer) if begun.work == WORK_NONE else Work(begun.work)
+        due: Answer | Work = answer_from(begun.answer) if begun.work == WORK_NONE else Work(begun.work)
         return _from(holding), due
 
-    def end(self, mode: Optional[Mode], outcome: Outcome) -> Tuple[Holding, Answer]:
+    def end(self, mode: Mode | None, outcome: Outcome) -> tuple[Holding, Answer]:
         """Ends the recorded work with this outcome, and gives the answer to its request. The mode has to fit. The
         holding is written to the database before the answer is sent. Raises NOTHING_BEGUN.
         """
@@ -66,7 +66,7 @@ class Holding:
         check(lib.osb_holding_finish(holding, ok))
         return _from(holding)
 
-    def handle(self, mode: Optional[Mode], request: Request, outcome: Outcome) -> Tuple[Holding, Answer]:
+    def handle(self, mode: Mode | None, request: Request, outcome: Outcome) -> tuple[Holding, Answer]:
         """`begin`, and where work is due `end` with this outcome, with nothing between: for tests, and for brokers
         whose work can't be interrupted.
         """
@@ -94,7 +94,7 @@ class Holding:
 Holding.NONE = Holding()
 
 
-def work_of(kind: Kind, mode: Optional[Mode]) -> Optional[Work]:
+def work_of(kind: Kind, mode: Mode | None) -> Work | None:
     """The work that a request of the kind means at a plan of the mode: what a broker that starts again asks of recorded
     work. None of a Poll, and where the plan isn't on sale.
     """

@@ -2,7 +2,6 @@
 from __future__ import annotations
 
 from dataclasses import dataclass
-from typing import Optional
 
 from osb.enums import Body, Kind, Phase, State
 from osb.ids import Id
@@ -39,7 +38,7 @@ class PlatformRow:
     service: Id
     plan: Id
     state: State
-    out: Optional[Kind]
+    out: Kind | None
     """The kind of the request in flight, or None."""
 
 

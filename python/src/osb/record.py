@@ -2,7 +2,6 @@
 from __future__ import annotations
 
 from dataclasses import dataclass
-from typing import Optional, Tuple
 
 from osb._crossing import answer_to, id_from, id_to, kind_from, kind_to, platform_row_to, request_from
 from osb._lib import lib
@@ -26,14 +25,14 @@ class Record:
     attempt: int
     """The number of the latest request, and 0 before the first."""
     state: State
-    out: Optional[Kind]
+    out: Kind | None
     """The kind of the request in flight, or None."""
 
     def __post_init__(self) -> None:
         _in_range(self.attempt)
 
     @classmethod
-    def create(cls, id: Id, service: Id, plan: Id, accepts_incomplete: bool) -> Tuple[Record, Request]:
+    def create(cls, id: Id, service: Id, plan: Id, accepts_incomplete: bool) -> tuple[Record, Request]:
         """A new instance, wanted, and its Provision, which is then in flight with the number 1.
 
         The record is written to the database under the id before the request is sent, and never deleted; the database
@@ -52,7 +51,7 @@ class Record:
         check(lib.osb_record_from_row(platform_row_to(row), record))
         return _from(record)
 
-    def send(self, id: Id) -> Tuple[Record, Request]:
+    def send(self, id: Id) -> tuple[Record, Request]:
         """The request that is due, which is then in flight with the next number. `id` is the key of the record's row.
         Raises BUSY, NOTHING_DUE, ATTEMPTS_USED_UP.
         """

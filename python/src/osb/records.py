@@ -4,7 +4,7 @@ from __future__ import annotations
 import sqlite3
 import threading
 from dataclasses import dataclass
-from typing import Callable, Dict, List, Optional, Protocol, Tuple, TypeVar
+from typing import Callable, Protocol, TypeVar
 
 from osb.enums import State
 from osb.ids import Id
@@ -21,7 +21,7 @@ class Kept:
     """What a platform keeps of an instance: its record, and the operation that its Polls are about, or None."""
 
     record: Record
-    operation: Optional[str] = None
+    operation: str | None = None
 
     @property
     def is_pending(self) -> bool:
@@ -54,7 +54,7 @@ class RecordStore(Protocol):
         """
         ...
 
-    def update(self, id: Id, change: Callable[[Kept], Tuple[Kept, T]]) -> T:
+    def update(self, id: Id, change: Callable[[Kept], tuple[Kept, T]]) -> T:
         """Changes what is kept of an instance, in one transaction that locks its row.
 
         Hands what is kept to `change`, writes what it gives where it differs, and commits; returns the rest of what it
@@ -63,7 +63,7 @@ class RecordStore(Protocol):
         """
         ...
 
-    def pending(self) -> List[Id]:
+    def pending(self) -> list[Id]:
         """The instances whose row `is_pending`."""
         ...
 
@@ -73,7 +73,7 @@ class MemoryRecords:
 
     def __init__(self) -> None:
         self._lock = threading.Lock()
-        self._kept: Dict[Id, Kept] = {}
+        self._kept: dict[Id, Kept] = {}
 
     def insert(self, id: Id, kept: Kept) -> None:
         """As `RecordStore` says."""
@@ -82,7 +82,7 @@ class MemoryRecords:
                 raise IdUsed(id)
             self._kept[id] = kept
 
-    def update(self, id: Id, change: Callable[[Kept], Tuple[Kept, T]]) -> T:
+    def update(self, id: Id, change: Callable[[Kept], tuple[Kept, T]]) -> T:
         """As `RecordStore` says."""
         with self._lock:
             if id not in self._kept:
@@ -90,7 +90,7 @@ class MemoryRecords:
             self._kept[id], given = change(self._kept[id])
             return given
 
-    def pending(self) -> List[Id]:
+    def pending(self) -> list[Id]:
         """As `RecordStore` says."""
         with self._lock:
             return [id for id, kept in self._kept.items() if kept.is_pending]
@@ -117,10 +117,10 @@ class SqliteRecords:
             except sqlite3.IntegrityError as error:
                 raise IdUsed(id) from error
 
-    def update(self, id: Id, change: Callable[[Kept], Tuple[Kept, T]]) -> T:
+    def update(self, id: Id, change: Callable[[Kept], tuple[Kept, T]]) -> T:
         """As `RecordStore` says."""
         with transaction(self._path, self._seconds) as database:
-            found: Optional[Tuple[str, Optional[str]]] = database.execute(
+            found: tuple[str, str | None] | None = database.execute(
                 "SELECT record, operation FROM records WHERE id = ?", [str(id)]
             ).fetchone()
             if found is None:
@@ -134,11 +134,11 @@ class SqliteRecords:
                 )
             return given
 
-    def pending(self) -> List[Id]:
+    def pending(self) -> list[Id]:
         """As `RecordStore` says."""
         with transaction(self._path, self._seconds) as database:
             return [Id.of(text) for (text,) in database.execute("SELECT id FROM records WHERE pending ORDER BY id")]
 
 
-def _columns(kept: Kept) -> Tuple[str, Optional[str], bool]:
+def _columns(kept: Kept) -> tuple[str, str | None, bool]:
     return kept.record.to_text(), kept.operation, kept.is_pending

@@ -7,7 +7,6 @@ from __future__ import annotations
 
 import ctypes as c
 from dataclasses import dataclass
-from typing import List, Optional, Tuple
 
 from osb._crossing import answer_from, answer_to, id_from, id_to, plan_from, request_from, request_to
 from osb._lib import lib
@@ -43,7 +42,7 @@ __all__ = [
 # ---- The platform's side.
 
 
-def read_answer(kind: Kind, status: int, body: bytes) -> Optional[Answer]:
+def read_answer(kind: Kind, status: int, body: bytes) -> Answer | None:
     """What a platform takes from a response to a request of the kind, from its status and all of its body. None where
     it isn't surely the broker's: a timeout is taken in its place.
     """
@@ -55,7 +54,7 @@ def read_answer(kind: Kind, status: int, body: bytes) -> Optional[Answer]:
     return answer_from(answer)
 
 
-def read_operation(body: bytes) -> Optional[str]:
+def read_operation(body: bytes) -> str | None:
     """The operation that a broker names in the body of an accepted request, which a platform sends back in its Polls.
     None where it names none.
     """
@@ -72,7 +71,7 @@ def write_method(kind: Kind) -> str:
     ).decode()
 
 
-def write_target(request: Request, operation: Optional[str] = None, prefix: str = "") -> str:
+def write_target(request: Request, operation: str | None = None, prefix: str = "") -> str:
     """The target of a request: the path, which begins with the prefix (what the broker's URL has before /v2, with no
     `?`), and the query. The operation is the broker's; give one to a Poll alone. Raises NOT_UTF8.
     """
@@ -96,7 +95,7 @@ def write_body(request: Request, organization: str, space: str, further: str = "
     return text_of(lambda buffer, length, needed: int(lib.osb_write_body(given, *lengths, buffer, length, needed)))
 
 
-def retry_after(value: str) -> Optional[int]:
+def retry_after(value: str) -> int | None:
     """The seconds that a broker names in the header Retry-After, or None."""
     given, seconds = utf8(value), c.c_uint64(0)
     status = lib.osb_retry_after(given, len(given), seconds)
@@ -116,10 +115,10 @@ class Asked:
     kind: Kind
     accepts_incomplete: bool
     id: Id
-    service: Optional[Id]
-    plan: Optional[Id]
+    service: Id | None
+    plan: Id | None
 
-    def request(self, held: Optional[Tuple[Id, Id]]) -> Request:
+    def request(self, held: tuple[Id, Id] | None) -> Request:
         """The request for a broker, with the service and the plan that are held, or None: they stand in the place of
         those that a Poll lacks. Raises BAD_ASKED where this is nothing that `read_request` gives.
         """
@@ -159,7 +158,7 @@ def read_request(method: str, target: bytes, body: bytes, longest_body: int, pre
     )
 
 
-def asked_operation(target: bytes) -> Optional[str]:
+def asked_operation(target: bytes) -> str | None:
     """The operation that the target of a Poll names, or None. Raises `Refusal`: it stands twice."""
     status, text = written(
         lambda buffer, length, needed: int(lib.osb_asked_operation(target, len(target), buffer, length, needed))
@@ -167,7 +166,7 @@ def asked_operation(target: bytes) -> Optional[str]:
     return _operation(status, text)
 
 
-def write_answer(answer: Answer, operation: Optional[str] = None) -> bytes:
+def write_answer(answer: Answer, operation: str | None = None) -> bytes:
     """The body of an answer. The operation is written in a 202 alone. Raises NOT_UTF8."""
     given, named = answer_to(answer), utf8(operation or "")
     return text_of(
@@ -177,7 +176,7 @@ def write_answer(answer: Answer, operation: Optional[str] = None) -> bytes:
     )
 
 
-def api_version(value: Optional[str]) -> None:
+def api_version(value: str | None) -> None:
     """Judges the version that a platform names in the header X-Broker-API-Version, None where a request has no such
     header: 2.x, whichever. Raises `Refusal` of every other.
     """
@@ -185,7 +184,7 @@ def api_version(value: Optional[str]) -> None:
     check(lib.osb_api_version(value is not None, given, len(given)))
 
 
-def basic_auth(value: Optional[str], user: str, password: str) -> bool:
+def basic_auth(value: str | None, user: str, password: str) -> bool:
     """Whether the header Authorization, None where a request has no such header, names this user and this password, by
     HTTP's Basic scheme. Raises NOT_UTF8.
     """
@@ -199,7 +198,7 @@ def basic_auth(value: Optional[str], user: str, password: str) -> bool:
     return True
 
 
-def catalogue_plans(document: bytes) -> List[Plan]:
+def catalogue_plans(document: bytes) -> list[Plan]:
     """The plans that a catalogue's document names, as a broker answers it to GET /v2/catalog, in ascending order of
     service and plan; a plan is asynchronous where its member `asynchronous` is true. Raises NOT_JSON, NO_SERVICES,
     BAD_SERVICE, NO_PLANS, BAD_PLAN, BAD_PLAN_MODE, PLAN_TWICE.
@@ -219,12 +218,12 @@ def _status(status: int) -> int:
     return status
 
 
-def _operation(status: int, text: bytes) -> Optional[str]:
+def _operation(status: int, text: bytes) -> str | None:
     if status == Status.NO_OPERATION:
         return None
     check(status)
     return text.decode()
 
 
-def _id_if(is_there: bool, id: CId) -> Optional[Id]:
+def _id_if(is_there: bool, id: CId) -> Id | None:
     return id_from(id) if is_there else None

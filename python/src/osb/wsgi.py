@@ -5,7 +5,7 @@ from __future__ import annotations
 
 import http
 import logging
-from typing import Any, Callable, Dict, Iterable, List, NamedTuple, Optional, Tuple
+from typing import Any, Callable, Iterable, NamedTuple
 from urllib.parse import quote
 
 from osb._checks import check_login, check_longest, check_prefix
@@ -19,8 +19,8 @@ from osb.wire import CONTENT_TYPE, api_version, basic_auth, catalogue_plans, rea
 
 _log = logging.getLogger("osb.wsgi")
 
-Environ = Dict[str, Any]
-Headers = List[Tuple[str, str]]
+Environ = dict[str, Any]
+Headers = list[tuple[str, str]]
 
 
 class _Reply(NamedTuple):
@@ -45,7 +45,7 @@ class BrokerApplication:
         *,
         prefix: str = "",
         longest_body: int = 1 << 20,
-        lock: Optional[Lock] = None,
+        lock: Lock | None = None,
     ) -> None:
         """`catalogue` is the document that GET /v2/catalog answers; it raises as `catalogue_plans` does. `prefix` is
         what the target of a request has before /v2, as /postgres, or nothing; `longest_body` the bytes that a body may
@@ -76,7 +76,7 @@ class BrokerApplication:
         """Ends the operation that runs on the instance, as `BrokerService.finish` does. Raises `StillRecorded`."""
         self._service.finish(id, ok)
 
-    def resume(self) -> List[Id]:
+    def resume(self) -> list[Id]:
         """Does the recorded work that nobody works at any more, as `BrokerService.resume` does."""
         return self._service.resume()
 
@@ -84,7 +84,7 @@ class BrokerApplication:
         """Does the recorded work of one instance, whose lock the caller holds, as `BrokerService.take_up` does."""
         self._service.take_up(id)
 
-    def running(self) -> Dict[Id, BrokerRow]:
+    def running(self) -> dict[Id, BrokerRow]:
         """The instances on which an operation runs, as `BrokerService.running` gives them."""
         return self._service.running()
 
@@ -126,7 +126,7 @@ def _target(environ: Environ) -> bytes:
     return (f"{path}?{query}" if query else path).encode("latin-1")
 
 
-def _body(environ: Environ, longest: int) -> Optional[bytes]:
+def _body(environ: Environ, longest: int) -> bytes | None:
     """The body, of which at most one byte more is read than it may have; or None where it didn't arrive whole, or where
     its end can't be told: then the platform may send the same request again and be heard.
     """
@@ -154,11 +154,11 @@ def _read(stream: Any, wanted: int) -> bytes:
     return b"".join(pieces)
 
 
-def _error(status: int, *headers: Tuple[str, str]) -> _Reply:
+def _error(status: int, *headers: tuple[str, str]) -> _Reply:
     return _Reply(status, write_answer(Answer(status, Body.OTHER_ERROR)), list(headers))
 
 
-def _refused(refusal: Refusal, *headers: Tuple[str, str]) -> _Reply:
+def _refused(refusal: Refusal, *headers: tuple[str, str]) -> _Reply:
     return _Reply(refusal.http_status, refusal.body, list(headers))
 
 
