@@ -65,12 +65,13 @@ type story struct {
 	holding osb.Holding
 }
 
-// A httpRequest is a request as HTTP has it, and a httpAnswer an answer.
+// An httpRequest is a request as HTTP has it.
 type httpRequest struct {
 	method, target string
 	body           []byte
 }
 
+// An httpAnswer is an answer as HTTP has it.
 type httpAnswer struct {
 	status uint16
 	body   []byte
@@ -116,9 +117,11 @@ func (s *story) send(request osb.Request) (out httpRequest, err error) {
 	if out.target, err = osb.WriteTarget("", request, nil); err != nil {
 		return out, err
 	}
-	out.body, err = osb.WriteBody(request, "an organization", "a space", []byte("{}"))
+	if out.body, err = osb.WriteBody(request, "an organization", "a space", []byte("{}")); err != nil {
+		return out, err
+	}
 	s.print("platform", "sends "+out.method)
-	return out, err
+	return out, nil
 }
 
 // handle is the broker: the work that is due is stored before it begins, and its end before the answer is sent.
