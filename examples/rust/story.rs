@@ -105,18 +105,8 @@ mod osb {
         fn osb_record_send(record: *mut Record, id: Id, request: *mut Request) -> u32;
         fn osb_record_answer(record: *mut Record, attempt: u64, answer: Answer) -> u32;
         fn osb_record_timeout(record: *mut Record, attempt: u64) -> u32;
-        fn osb_holding_begin(
-            holding: *mut Holding,
-            mode: u8,
-            request: *const Request,
-            begun: *mut Begun,
-        ) -> u32;
-        fn osb_holding_end(
-            holding: *mut Holding,
-            mode: u8,
-            outcome: u8,
-            answer: *mut Answer,
-        ) -> u32;
+        fn osb_holding_begin(holding: *mut Holding, mode: u8, request: *const Request, begun: *mut Begun) -> u32;
+        fn osb_holding_end(holding: *mut Holding, mode: u8, outcome: u8, answer: *mut Answer) -> u32;
         fn osb_write_method(kind: u8, buffer: *mut u8, bytes: usize, needed: *mut usize) -> u32;
         fn osb_write_target(
             prefix: *const u8,
@@ -153,13 +143,7 @@ mod osb {
             body_length: usize,
             asked: *mut Asked,
         ) -> u32;
-        fn osb_asked_request(
-            asked: *const Asked,
-            has_held: bool,
-            service: Id,
-            plan: Id,
-            request: *mut Request,
-        ) -> u32;
+        fn osb_asked_request(asked: *const Asked, has_held: bool, service: Id, plan: Id, request: *mut Request) -> u32;
         fn osb_write_answer(
             answer: Answer,
             has_operation: bool,
@@ -169,13 +153,7 @@ mod osb {
             bytes: usize,
             needed: *mut usize,
         ) -> u32;
-        fn osb_read_answer(
-            kind: u8,
-            status: u16,
-            body: *const u8,
-            length: usize,
-            answer: *mut Answer,
-        ) -> u32;
+        fn osb_read_answer(kind: u8, status: u16, body: *const u8, length: usize, answer: *mut Answer) -> u32;
     }
 
     fn done<T>(status: u32, value: T) -> Result<T, Status> {
@@ -250,25 +228,11 @@ mod osb {
     pub fn write_target(request: &Request) -> Result<Vec<u8>, Status> {
         let none = b"";
         written(|buffer, bytes, needed| unsafe {
-            osb_write_target(
-                none.as_ptr(),
-                0,
-                request,
-                false,
-                none.as_ptr(),
-                0,
-                buffer,
-                bytes,
-                needed,
-            )
+            osb_write_target(none.as_ptr(), 0, request, false, none.as_ptr(), 0, buffer, bytes, needed)
         })
     }
 
-    pub fn write_body(
-        request: &Request,
-        organization: &str,
-        space: &str,
-    ) -> Result<Vec<u8>, Status> {
+    pub fn write_body(request: &Request, organization: &str, space: &str) -> Result<Vec<u8>, Status> {
         let further = "{}";
         written(|buffer, bytes, needed| unsafe {
             osb_write_body(
@@ -286,12 +250,7 @@ mod osb {
         })
     }
 
-    pub fn read_request(
-        method: &[u8],
-        target: &[u8],
-        body: &[u8],
-        longest_body: usize,
-    ) -> Result<Asked, Status> {
+    pub fn read_request(method: &[u8], target: &[u8], body: &[u8], longest_body: usize) -> Result<Asked, Status> {
         let (prefix, mut asked) = (b"", Asked::default());
         let status = unsafe {
             osb_read_request(
@@ -314,8 +273,7 @@ mod osb {
         pub fn request(&self, held: &Holding) -> Result<Request, Status> {
             let mut request = Request::default();
             let (row, has_row) = (held.row, held.has_row);
-            let status =
-                unsafe { osb_asked_request(self, has_row, row.service, row.plan, &mut request) };
+            let status = unsafe { osb_asked_request(self, has_row, row.service, row.plan, &mut request) };
             done(status, request)
         }
     }
@@ -336,15 +294,7 @@ mod osb {
 
 use osb::{Holding, Id, Record, Request, Status};
 
-const STATES: [&str; 7] = [
-    "wanted",
-    "polling",
-    "ready",
-    "cleaning",
-    "cleaning-polling",
-    "gone",
-    "unsettled",
-];
+const STATES: [&str; 7] = ["wanted", "polling", "ready", "cleaning", "cleaning-polling", "gone", "unsettled"];
 const PHASES: [&str; 5] = ["making", "ready", "failed", "deleting", "delete-failed"];
 
 /// How the plan works, as the broker's catalogue has it.
@@ -374,23 +324,13 @@ impl Story {
         let (record, request) = Record::create(id, service, plan);
         println!("instance {text}");
         let holding = Holding::default();
-        Ok((
-            Story {
-                id,
-                record,
-                holding,
-            },
-            request,
-        ))
+        Ok((Story { id, record, holding }, request))
     }
 
     /// Prints a step, and what both sides keep after it.
     fn step(&self, who: &str, what: &str) {
         let state = STATES[self.record.state as usize];
-        println!(
-            "{who:9} {what:21} record {state:9} holding {}",
-            held(&self.holding)
-        );
+        println!("{who:9} {what:21} record {state:9} holding {}", held(&self.holding));
     }
 
     /// Writes a request. Its record is stored before the request is sent.
@@ -400,11 +340,7 @@ impl Story {
         let body = osb::write_body(request, "an organization", "a space")?;
         let what = format!("sends {}", String::from_utf8_lossy(&method));
         self.step("platform", &what);
-        Ok(Sent {
-            method,
-            target,
-            body,
-        })
+        Ok(Sent { method, target, body })
     }
 
     /// The broker: the work that is due is stored before it begins, and its end before the answer is sent. Returns the
