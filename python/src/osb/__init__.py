@@ -10,13 +10,16 @@ done raises `OsbError`. docs/python.md has a first program.
 """
 from __future__ import annotations
 
-from osb._lib import version
+from osb._lib import VERSION, version
 from osb.enums import Body, Kind, Mode, Outcome, Phase, State, Status, Work
 from osb.errors import OsbError, Refusal
 from osb.holding import Holding, work_of
 from osb.ids import Id
 from osb.messages import Answer, BrokerRow, Plan, PlatformRow, Request
 from osb.record import Record
+
+__version__ = f"{VERSION // 10000}.{VERSION // 100 % 100}.{VERSION % 100}"
+"""The version of this package, and of the header that it is written for."""
 
 __all__ = [
     "Answer",
@@ -37,6 +40,7 @@ __all__ = [
     "State",
     "Status",
     "Work",
+    "__version__",
     "version",
     "work_of",
 ]
