@@ -5,7 +5,7 @@ import json
 import sys
 import threading
 import time
-from typing import Dict, List, Optional, TextIO, Tuple
+from typing import TextIO
 
 from osb_platform.instances import Instance
 
@@ -13,7 +13,7 @@ _HEAD = ("id", "state", "since", "service", "plan")
 _ASKED = "removal is asked for"
 
 
-def lines(rows: List[Instance], is_terminal: bool) -> List[str]:
+def lines(rows: list[Instance], is_terminal: bool) -> list[str]:
     """A line for each row: with columns and a head on a terminal, else parted by tabs."""
     cells = [(str(row.id), row.state, moment(row.since), str(row.service), str(row.plan)) for row in rows]
     if not is_terminal:
@@ -23,7 +23,7 @@ def lines(rows: List[Instance], is_terminal: bool) -> List[str]:
     ]
 
 
-def waiting(rows: List[Instance]) -> Optional[str]:
+def waiting(rows: list[Instance]) -> str | None:
     """What waits for an operator, since when, and what to do; None where nothing does."""
     unsettled = [row for row in rows if row.state == "unsettled"]
     if not unsettled:
@@ -35,7 +35,7 @@ def waiting(rows: List[Instance]) -> Optional[str]:
     )
 
 
-def members(row: Instance) -> List[Tuple[str, str]]:
+def members(row: Instance) -> list[tuple[str, str]]:
     """What is known of an instance, each with its name."""
     known = [
         ("id", str(row.id)),
@@ -86,7 +86,7 @@ class Progress:
         """Whether the counts are to be shown again."""
         return self.is_terminal and time.monotonic() >= self._at
 
-    def counts(self, counts: Dict[str, int]) -> None:
+    def counts(self, counts: dict[str, int]) -> None:
         """How many there are in each state."""
         self._at = time.monotonic() + 1.0
         text = ", ".join(f"{counts[state]} {state}" for state in sorted(counts)) or "nothing yet"

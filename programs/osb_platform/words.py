@@ -6,7 +6,6 @@ import os
 import re
 import socket
 from pathlib import Path
-from typing import List
 
 from osb_program.addresses import address_of
 from osb_program.words import count_up_to, id_of, refusal, seconds_up_to
@@ -37,7 +36,7 @@ run that doesn't reach its broker; words and files that can't be used with 2.
 docs/platform-guide.md tells how to run it."""
 
 
-def read(words: List[str]) -> argparse.Namespace:
+def read(words: list[str]) -> argparse.Namespace:
     """Reads the words. Help is printed and ends the program with 0; what can't be read ends it with 2."""
     return _parser().parse_args(words)
 
