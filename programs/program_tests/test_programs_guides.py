@@ -14,6 +14,7 @@ from pathlib import Path
 from urllib.parse import quote, urlencode
 
 import pytest
+from osb_platform.tell import COLUMNS
 from osb_program.pg import Sessions
 from program_tests.broker_support import ONE, POSTGRESQL, TOP, InFolder, has_waitress
 
@@ -114,7 +115,9 @@ class Guides(Shell):
         out = self.ran(f"{begun}{look}; echo\n{end}\nwait %1; wait %2\n")
         lines = [line.split("\t") for line in out.splitlines()]
         self.assertIn(['{"state":"succeeded"}'], lines)
-        self.assertEqual([line[1] for line in lines if len(line) == 5], ["ready", "gone"], out)
+        state = [it.name for it in COLUMNS].index("state")
+        shown = [line[state] for line in lines if len(line) == len(COLUMNS)]
+        self.assertEqual(shown, ["ready", "gone"], out)
 
     def test_a_page(self) -> None:
         (run,) = blocks(PLATFORM, "The page")

@@ -11,6 +11,7 @@ import unittest
 from typing import Any, Callable, Iterator
 from unittest import mock
 
+import pytest
 from osb import Answer, Body, Id, Kind, OsbError, Record, State, Status
 from osb.client import Client, Exchanged
 from osb.records import IdUsed, Kept, MemoryRecords, UnknownId
@@ -270,6 +271,7 @@ CHUNKED = b"HTTP/1.1 201 Said\r\nTransfer-Encoding: chunked\r\n\r\n"
 
 
 class NoAnswer(Quiet):
+    @pytest.mark.slow
     def test_to_a_provision(self) -> None:
         whole = response(201)
         for what, said in (
@@ -340,6 +342,7 @@ class NoAnswer(Quiet):
             client(url).create(ONE, SERVICE, SYNC), exchanged(State.CLEANING, None)
         )
 
+    @pytest.mark.slow
     def test_time_of_the_whole(self) -> None:
         """Each piece comes in time, and the whole doesn't; 100 Continue for ever; and nothing at all."""
         again = slowly(b"HTTP/1.1 100 Continue\r\n\r\n" * 50)
