@@ -10,7 +10,7 @@ from typing import List, NamedTuple, Optional
 from listing import commands, diagrams, programs, values  # noqa: F401 - their stories
 from listing.pages import INDENTED, TOP, Block, Documents, Fault, Taken
 from listing.stories import STORIES, Missing, Story
-from tests.test_programs_guides import RUN
+from program_tests.test_programs_guides import RUN
 
 
 class Told(NamedTuple):
@@ -68,7 +68,7 @@ def elsewhere(documents: Documents, block: Block) -> Optional[str]:
     if block.kind == INDENTED and section in RUN:
         there = [it for it in documents.blocks if it.kind == INDENTED and (TOP / it.page, it.section) == section]
         where = ", where OSB_TEST_POSTGRESQL names a database" if "PostgreSQL" in block.section else ""
-        return f"programs/tests/test_programs_guides.py{where}" if len(there) == RUN[section] else None
+        return f"programs/program_tests/test_programs_guides.py{where}" if len(there) == RUN[section] else None
     return None
 
 

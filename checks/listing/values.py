@@ -2,10 +2,11 @@
 from __future__ import annotations
 
 import re
+import subprocess
 
 from listing.pages import TOP, Fault, Taken
 from listing.stories import same, story
-from osb import Answer, Body, Holding, Id, Kind, Mode, Outcome, Platform, Record, Request, State
+from osb import Holding, Id, Kind, Mode, Outcome, Record, Request
 
 ONE = Id.of("00000000-0000-0000-0000-000000000001")
 SERVICE = Id.of("00000000-0000-0000-0000-0000000000a0")
@@ -16,17 +17,14 @@ def asked(kind: Kind) -> Request:
     return Request(kind, True, ONE, SERVICE, PLAN)
 
 
-@story("what the library saves of a platform with one instance, which is ready; and what it loads")
+@story("what osb-replay saves of a platform with one instance, which is ready")
 def saved_record(taken: Taken) -> None:
     now, before = (taken.take("docs/saved-record.md", it) for it in ('{"instances"', '{"0000'))
-    with Platform() as platform:
-        platform.create(ONE, SERVICE, PLAN, True)
-        platform.answer(ONE, Answer(201, Body.EMPTY))
-        text = platform.save()
-    same(now, text.decode() + "\n")
-    with Platform(before.rstrip("\n").encode()) as platform:
-        same((platform.row(ONE).state, platform.save()), (State.READY, text))
-    same(f'{{"instances":{before.rstrip()},"version":2}}', text.decode())
+    with open(TOP / "examples" / "first.schedule", encoding="ascii") as schedule:
+        line = [str(TOP / "osb-replay"), "replay", "--saved"]
+        text = subprocess.run(line, stdin=schedule, capture_output=True, text=True, check=True).stdout.splitlines()[-1]
+    same(now, text + "\n")
+    same(f'{{"instances":{before.rstrip()},"version":2}}', text)
     page = (TOP / "docs" / "saved-record.md").read_text(encoding="utf-8")
     same(re.findall(r"it has (\d+) bytes|in (\d+) bytes", page), [(str(len(text)), ""), ("", str(len(before) - 1))])
 

@@ -29,7 +29,7 @@ _TOP = str(Path(__file__).resolve().parents[2])
 _LATE = 7.0  # by then what was late has arrived
 
 # What `--without` names that is no part of the design, but a whole side of it.
-_OTHER_BROKERS = {"values": "handles", "broker": "usual", "both": "usual"}
+_OTHER_BROKERS = ("broker", "both")
 _OTHER_PLATFORMS = ("platform", "both")
 
 
@@ -175,7 +175,7 @@ class Storm:
         if self._asked.without in ("marks", "work", "busy", "locks"):
             start = [sys.executable, "-m", "storming.without_broker", self._asked.without]
         elif self._asked.without in _OTHER_BROKERS:
-            start = [sys.executable, "-m", "storming.instead_broker", _OTHER_BROKERS[self._asked.without]]
+            start = [sys.executable, "-m", "storming.instead_broker"]
         return Program(f"broker {number}", start + words, self._environment, self._folder / f"broker-{number}.log")
 
     def _platform(self) -> Program:
@@ -343,9 +343,8 @@ def words(given: List[str]) -> argparse.Namespace:
     parser.add_argument(
         "--without",
         choices=("marks", "work", "busy", "attempts", "locks", *_OTHER_BROKERS, "platform"),
-        help="a part of the design is taken out (marks, work, busy, attempts, locks); the broker's "
-        "library is a handle that stands, and not a value (values); or the broker, the platform, or "
-        "both are as they are usually written: then it passes where the storm finds that",
+        help="take a part of the design out (marks, work, busy, attempts, locks), or run the broker, the platform, or "
+        "both as they are usually written: the check passes if the storm finds that",
     )
     parser.add_argument(
         "--kills",
@@ -362,9 +361,8 @@ def words(given: List[str]) -> argparse.Namespace:
         help="what happens, a line of JSON each; python -m storming.picture draws it",
     )
     asked = parser.parse_args(given)
-    for part, places in (("locks", asked.backend), ("values", asked.store)):
-        if asked.without == part and places == "postgresql":
-            parser.error(f"--without {part} isn't made for PostgreSQL")
+    if asked.without == "locks" and asked.backend == "postgresql":
+        parser.error("--without locks isn't available for PostgreSQL")
     asked.kills = asked.kills or ("brokers" if asked.without == "attempts" else "both")
     return asked
 

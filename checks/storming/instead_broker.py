@@ -1,16 +1,13 @@
-"""A broker of another make in the place of the product's, to see what the storm leaves behind of it:
-`python -m storming.instead_broker MAKE serve ..`. MAKE is `handles`, the library behind one handle that stands in the
-process, or `usual`, as brokers are usually written. HTTP, the store, the backend and the words are the product's.
+"""A broker as brokers are usually written, to see what the storm leaves behind with it:
+`python -m storming.instead_broker serve ..`. HTTP, the store, the backend and the options are the product's.
 """
 from __future__ import annotations
 
 import sys
-import threading
-from collections import defaultdict
 from dataclasses import replace
-from typing import Any, DefaultDict, Dict, Optional
+from typing import Any, Optional
 
-from osb import Answer, Body, Broker, BrokerRow, Holding, Id, Kind, Mode, Outcome, Phase, Plan, Request, Work
+from osb import Answer, Body, BrokerRow, Holding, Id, Kind, Mode, Outcome, Phase, Request, Work
 from osb.service import BrokerService, Task
 from osb.wire import Asked
 from osb_broker.__main__ import main
@@ -39,73 +36,8 @@ def _worked(service: Any, request: Request, mode: Optional[Mode], body: bytes) -
     return outcome
 
 
-class _Handles:
-    """The library of 0.1 in the obvious way: a handle that stands, the work, `handle`, and then the row."""
-
-    def __init__(self) -> None:
-        self._made: Dict[Any, Broker] = {}
-        self._locks: DefaultDict[Id, threading.Lock] = defaultdict(threading.Lock)
-        self._guard = threading.Lock()
-
-    def handle(self, service: Any, asked: Asked, body: bytes) -> Answer:
-        """The probe that fails tells whether work is due; then it is done, and told to the handle."""
-        broker = self._broker(service)
-        with self._locks[asked.id]:
-            request = _request(service, asked, broker.row(asked.id))
-            if request.kind == Kind.POLL:
-                return broker.handle(request, Outcome.DONE)
-            answer = broker.handle(request, Outcome.BEFORE)
-            is_held = broker.row(asked.id) is not None
-            if answer.status == 500 and is_held == (request.kind == Kind.DEPROVISION):
-                mode = service.mode(request.service, request.plan)
-                answer = broker.handle(request, _worked(service, request, mode, body))
-                _keep(service, asked.id, broker.row(asked.id))
-            return answer
-
-    def finish(self, service: Any, id: Id, ok: bool) -> None:
-        """As `BrokerService.finish`."""
-        broker = self._broker(service)
-        with self._locks[id]:
-            broker.finish(id, ok)
-            _keep(service, id, broker.row(id))
-
-    def _broker(self, service: Any) -> Broker:
-        """The handle, which holds at the start what the rows say."""
-        with self._guard:
-            if service not in self._made:
-                plans = [Plan(of, plan, mode == Mode.ASYNC) for (of, plan), mode in service._modes.items()]
-                self._made[service] = broker = Broker(plans)
-                for id in _all(service._store):
-                    _restore(broker, id, _row(service, id))
-            return self._made[service]
-
-
-def _all(store: Any) -> "list[Id]":
-    found = store._reader().execute("SELECT id FROM holdings").fetchall()
-    return [Id.of(text) for (text,) in found]
-
-
-def _restore(broker: Broker, id: Id, row: Optional[BrokerRow]) -> None:
-    """Has the handle hold the row, by requests that lead to it."""
-    if row is None:
-        return
-    request = Request(Kind.PROVISION, True, id, row.service, row.plan)
-    broker.handle(request, Outcome.DONE)
-    if _phase(broker, id) == Phase.MAKING and row.phase != Phase.MAKING:
-        broker.finish(id, row.phase != Phase.FAILED)
-    if row.phase in (Phase.DELETING, Phase.DELETE_FAILED):
-        broker.handle(replace(request, kind=Kind.DEPROVISION), Outcome.DONE)
-    if row.phase == Phase.DELETE_FAILED:
-        broker.finish(id, False)
-
-
-def _phase(broker: Broker, id: Id) -> Optional[Phase]:
-    row = broker.row(id)
-    return None if row is None else row.phase
-
-
 class _Usual:
-    """As brokers are usually written: the work, and then its row; nothing is kept of work that goes on, or has ended."""
+    """As brokers are usually written: the work, and then its row. Nothing is kept of work that goes on or has ended."""
 
     def handle(self, service: Any, asked: Asked, body: bytes) -> Answer:
         """By the row alone."""
@@ -171,15 +103,14 @@ def _ends_what_was_running(self: Any, _: float) -> None:
         self._ends.finish(id, False)
 
 
-def _put(make: Any, name: str) -> None:
-    """Puts this make's methods in the place of the broker's."""
-    setattr(BrokerService, "handle", lambda service, asked, body: make.handle(service, asked, body))
-    setattr(BrokerService, "finish", lambda service, id, ok: make.finish(service, id, ok))
+def _put(usual: _Usual) -> None:
+    """Puts this broker's methods in the place of the product's."""
+    setattr(BrokerService, "handle", lambda service, asked, body: usual.handle(service, asked, body))
+    setattr(BrokerService, "finish", lambda service, id, ok: usual.finish(service, id, ok))
     setattr(BrokerService, "take_up", lambda service, id: None)  # no work is ever recorded
-    if name == "usual":
-        setattr(Upkeep, "_sweep", _ends_what_was_running)
+    setattr(Upkeep, "_sweep", _ends_what_was_running)
 
 
 if __name__ == "__main__":
-    _put({"handles": _Handles, "usual": _Usual}[sys.argv[1]](), sys.argv[1])
-    sys.exit(main(sys.argv[2:]))
+    _put(_Usual())
+    sys.exit(main(sys.argv[1:]))

@@ -5,7 +5,6 @@ import logging
 import os
 import sys
 import time
-from typing import List
 
 from osb.wsgi import BrokerApplication
 from osb_broker import logs, parts, words
@@ -24,7 +23,7 @@ from osb_program.secret import NoSecret, secret
 _log = logging.getLogger("osb_broker")
 
 
-def main(given: List[str]) -> int:
+def main(given: list[str]) -> int:
     """Serves by these words, and gives the exit status."""
     settings = words.read(given)
     if isinstance(settings, words.PasswordOf):

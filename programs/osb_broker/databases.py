@@ -6,7 +6,7 @@ import contextlib
 import hashlib
 import hmac
 import threading
-from typing import Any, ContextManager, Dict, Iterator, Optional
+from typing import Any, ContextManager, Iterator
 
 from osb import Id, Request
 from osb_broker.backend import There
@@ -100,7 +100,7 @@ class Databases:
     def sync(self, id: Id) -> None:
         """As `Synced` says: a server shows nothing that isn't on its disk."""
 
-    def owner(self) -> Optional[str]:
+    def owner(self) -> str | None:
         """As `Tied` says: a row in the database of the locks."""
         with self._sessions.session() as session, session.cursor() as cursor:
             cursor.execute("SELECT store::text FROM osb_owner")
@@ -119,8 +119,8 @@ class Databases:
         """The session that holds the lock of the instance, in this thread."""
         return self._all_held()[id]
 
-    def _all_held(self) -> Dict[Id, Any]:
-        held: Dict[Id, Any] = self._held.__dict__.setdefault("sessions", {})
+    def _all_held(self) -> dict[Id, Any]:
+        held: dict[Id, Any] = self._held.__dict__.setdefault("sessions", {})
         return held
 
     @contextlib.contextmanager

@@ -9,7 +9,7 @@ from __future__ import annotations
 import contextlib
 import secrets
 import threading
-from typing import Callable, ContextManager, Dict, Iterator, List, Optional, Protocol, Tuple, TypeVar
+from typing import Callable, ContextManager, Iterator, Protocol, TypeVar
 
 from osb import Holding, Id
 from osb.stores import Store
@@ -33,14 +33,14 @@ class WorkersStore(NamedStore, Protocol):
         """
         ...
 
-    def update_as(self, id: Id, worker: Optional[int], change: Callable[[Holding], Tuple[Holding, T]]) -> T:
+    def update_as(self, id: Id, worker: int | None, change: Callable[[Holding], tuple[Holding, T]]) -> T:
         """As `Store.update`. With a worker, and unless nothing changes, it raises `LostLock` where another one is
         written down.
         """
         ...
 
 
-def fenced(store: WorkersStore, locks: Locks) -> Tuple[Store, Locks]:
+def fenced(store: WorkersStore, locks: Locks) -> tuple[Store, Locks]:
     """This store and these locks, such that who has lost a lock can't write under it any more. Locks that live as long
     as their process can't be lost.
     """
@@ -57,11 +57,11 @@ class _Fenced:
         self._store, self._locks = store, locks
         self._had = threading.local()
 
-    def update(self, id: Id, change: Callable[[Holding], Tuple[Holding, T]]) -> T:
+    def update(self, id: Id, change: Callable[[Holding], tuple[Holding, T]]) -> T:
         """As `Store` says. What changes is written under the lock that this thread has of the instance, if any."""
         return self._store.update_as(id, self._workers().get(id), change)
 
-    def unfinished(self) -> List[Id]:
+    def unfinished(self) -> list[Id]:
         """As `Store` says."""
         return self._store.unfinished()
 
@@ -92,6 +92,6 @@ class _Fenced:
             finally:
                 del self._workers()[id]
 
-    def _workers(self) -> Dict[Id, int]:
-        found: Dict[Id, int] = self._had.__dict__.setdefault("workers", {})
+    def _workers(self) -> dict[Id, int]:
+        found: dict[Id, int] = self._had.__dict__.setdefault("workers", {})
         return found

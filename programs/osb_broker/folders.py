@@ -8,7 +8,6 @@ import re
 import shutil
 import uuid
 from pathlib import Path
-from typing import Optional
 
 from osb import Id, Request
 from osb_broker.backend import There, is_there
@@ -70,7 +69,7 @@ class Folders:
         """As `Synced` says."""
         _written(self._top)
 
-    def owner(self) -> Optional[str]:
+    def owner(self) -> str | None:
         """As `Tied` says: the line of a file among the folders."""
         try:
             return self._owner.read_text(encoding="utf-8").rstrip("\n")

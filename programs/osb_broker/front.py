@@ -5,7 +5,7 @@ import logging
 import re
 import secrets
 import time
-from typing import Any, Callable, Dict, Iterable, List, Optional, Tuple
+from typing import Any, Callable, Iterable
 
 from osb import Id, OsbError
 from osb.wsgi import Environ, Headers
@@ -43,7 +43,7 @@ class Front:
             return self._health(environ, start_response)
         began, instance = time.monotonic(), _instance(environ)
         request = _request_id(environ)
-        about: Dict[str, str] = {"request": request}
+        about: dict[str, str] = {"request": request}
         if instance is not None:
             about["instance"] = str(instance)
         token = REQUEST.set(about)
@@ -63,8 +63,8 @@ class Front:
         finally:
             REQUEST.reset(token)
 
-    def _answered(self, environ: Environ, start_response: Callable[..., Any], request: str) -> Tuple[int, List[bytes]]:
-        said: List[int] = []
+    def _answered(self, environ: Environ, start_response: Callable[..., Any], request: str) -> tuple[int, list[bytes]]:
+        said: list[int] = []
 
         def started(line: str, headers: Headers, *rest: Any) -> Any:
             said.append(int(line.split()[0]))
@@ -82,7 +82,7 @@ class Front:
         return _said(start_response, "200 OK", b'{"status":"ok"}')
 
 
-def _is_unfinished(method: str, status: int, body: List[bytes]) -> bool:
+def _is_unfinished(method: str, status: int, body: list[bytes]) -> bool:
     """Whether the answer says that somebody has to go on with the instance."""
     return (method, status) in _TENDED or method == "GET" and status == 200 and b"in progress" in body[0]
 
@@ -95,12 +95,12 @@ def _stopping(environ: Environ, start_response: Callable[..., Any]) -> Iterable[
     )
 
 
-def _said(start_response: Callable[..., Any], line: str, body: bytes, *headers: Tuple[str, str]) -> Iterable[bytes]:
+def _said(start_response: Callable[..., Any], line: str, body: bytes, *headers: tuple[str, str]) -> Iterable[bytes]:
     start_response(line, [("Content-Type", "application/json"), ("Content-Length", str(len(body))), *headers])
     return [body]
 
 
-def _instance(environ: Environ) -> Optional[Id]:
+def _instance(environ: Environ) -> Id | None:
     """The instance that the path names, or None."""
     named = _INSTANCE.match(str(environ.get("PATH_INFO", "")))
     try:

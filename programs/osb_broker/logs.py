@@ -7,9 +7,9 @@ import logging
 import sys
 import time
 from types import MappingProxyType
-from typing import Any, Dict, Mapping
+from typing import Any, Mapping
 
-REQUEST: "contextvars.ContextVar[Mapping[str, str]]" = contextvars.ContextVar("request", default=MappingProxyType({}))
+REQUEST: contextvars.ContextVar[Mapping[str, str]] = contextvars.ContextVar("request", default=MappingProxyType({}))
 """What every line that is logged while a request is handled has: the request's id, and the instance where one is named.
 """
 
@@ -23,7 +23,7 @@ class Lines(logging.Formatter):
     def format(self, record: logging.LogRecord) -> str:
         """As `logging` has it."""
         seconds = time.strftime("%Y-%m-%dT%H:%M:%S", time.gmtime(record.created))
-        line: Dict[str, Any] = {
+        line: dict[str, Any] = {
             "time": f"{seconds}.{int(record.msecs):03}Z",
             "level": record.levelname.lower(),
             "event": record.getMessage(),

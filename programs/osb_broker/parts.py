@@ -4,7 +4,7 @@ from __future__ import annotations
 import importlib.util
 import sqlite3
 from pathlib import Path
-from typing import Any, Optional, Tuple
+from typing import Any
 
 from osb import OsbError
 from osb.wire import catalogue_plans
@@ -70,7 +70,7 @@ def _store_of(settings: Settings) -> WorkersStore:
         raise NoPart(f"the store {path} can't be used: {error}") from error
 
 
-def backend_of(settings: Settings) -> Tuple[Backend, Locks]:
+def backend_of(settings: Settings) -> tuple[Backend, Locks]:
     """What makes and deletes, with its locks."""
     named = settings.backend
     try:
@@ -84,7 +84,7 @@ def backend_of(settings: Settings) -> Tuple[Backend, Locks]:
         raise NoPart(f"the backend can't be used: {error}") from error
 
 
-def _databases(settings: Settings, url: str) -> Tuple[Backend, Locks]:
+def _databases(settings: Settings, url: str) -> tuple[Backend, Locks]:
     key = key_of(settings.key_file)
     try:
         made = Databases(url, key, settings.threads + settings.workers)
@@ -93,7 +93,7 @@ def _databases(settings: Settings, url: str) -> Tuple[Backend, Locks]:
     return made, made.locks
 
 
-def key_of(file: Optional[Path]) -> bytes:
+def key_of(file: Path | None) -> bytes:
     """What the passwords of the databases are made from."""
     try:
         return secret("OSB_BACKEND_KEY", "--backend-key-file", file).encode()
@@ -101,7 +101,7 @@ def key_of(file: Optional[Path]) -> bytes:
         raise NoPart(f"the key of the databases' passwords: {error}") from error
 
 
-def _of_file(file: Path, state: Path) -> Tuple[Backend, Locks]:
+def _of_file(file: Path, state: Path) -> tuple[Backend, Locks]:
     """A backend of somebody's own: the file's class `Backend`, which is given the state folder."""
     try:
         spec = importlib.util.spec_from_file_location("own_backend", file)

@@ -2,7 +2,7 @@
 from __future__ import annotations
 
 import contextlib
-from typing import Any, Callable, Iterator, List, Optional, Tuple, TypeVar
+from typing import Any, Callable, Iterator, TypeVar
 
 from osb import Holding, Id
 from osb_broker.fence import LostLock
@@ -34,11 +34,11 @@ class PgStore:
         with self._sessions.session() as session, session.cursor() as cursor:
             make_tables(cursor, _LAST_TABLE, _TABLES, _TABLES_LOCK)
 
-    def update(self, id: Id, change: Callable[[Holding], Tuple[Holding, T]]) -> T:
+    def update(self, id: Id, change: Callable[[Holding], tuple[Holding, T]]) -> T:
         """As `Store` says."""
         return self.update_as(id, None, change)
 
-    def update_as(self, id: Id, worker: Optional[int], change: Callable[[Holding], Tuple[Holding, T]]) -> T:
+    def update_as(self, id: Id, worker: int | None, change: Callable[[Holding], tuple[Holding, T]]) -> T:
         """As `WorkersStore` says. What changes nothing is read, and locks nothing. A row that was made to be locked is
         there for others only where something is held in it.
         """
@@ -74,7 +74,7 @@ class PgStore:
                 raise RuntimeError(f"the change of {id} was rolled back")
             return given
 
-    def unfinished(self) -> List[Id]:
+    def unfinished(self) -> list[Id]:
         """As `Store` says."""
         with self._sessions.session() as session, session.cursor() as cursor:
             cursor.execute("SELECT id::text FROM osb_holdings WHERE unfinished ORDER BY id")
@@ -88,7 +88,7 @@ class PgStore:
                 [str(id), worker],
             )
 
-    def name(self) -> Optional[str]:
+    def name(self) -> str | None:
         """As `NamedStore` says."""
         with self._sessions.session() as session, session.cursor() as cursor:
             cursor.execute("SELECT name FROM osb_store")
@@ -126,12 +126,12 @@ class PgStore:
             return bool(cursor.fetchone()[0])
 
 
-def _locked(cursor: Any, id: Id) -> Optional[Holding]:
+def _locked(cursor: Any, id: Id) -> Holding | None:
     """The instance's row, which is locked until the transaction ends, or None where there is none."""
     return _read(cursor, id, " FOR UPDATE")
 
 
-def _read(cursor: Any, id: Id, how: str) -> Optional[Holding]:
+def _read(cursor: Any, id: Id, how: str) -> Holding | None:
     cursor.execute(f"SELECT holding FROM osb_holdings WHERE id = %s{how}", [str(id)])
     found = cursor.fetchone()
     return None if found is None else Holding.from_text(found[0])

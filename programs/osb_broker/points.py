@@ -1,7 +1,7 @@
 """The broker's crash points, and a store with those of its commits: for the checks."""
 from __future__ import annotations
 
-from typing import Callable, List, Optional, Tuple, TypeVar
+from typing import Callable, TypeVar
 
 from osb import Holding, Id
 from osb.stores import Store
@@ -33,11 +33,11 @@ class PointedStore:
     def __init__(self, store: Store) -> None:
         self._store = store
 
-    def update(self, id: Id, change: Callable[[Holding], Tuple[Holding, T]]) -> T:
+    def update(self, id: Id, change: Callable[[Holding], tuple[Holding, T]]) -> T:
         """As `Store` says."""
-        steps: List[Optional[str]] = []
+        steps: list[str | None] = []
 
-        def pointed(holding: Holding) -> Tuple[Holding, T]:
+        def pointed(holding: Holding) -> tuple[Holding, T]:
             after, given = change(holding)
             step = _step(holding, after)
             steps.append(step)
@@ -50,12 +50,12 @@ class PointedStore:
             crash(f"{steps[-1]}-written")
         return given
 
-    def unfinished(self) -> List[Id]:
+    def unfinished(self) -> list[Id]:
         """As `Store` says."""
         return self._store.unfinished()
 
 
-def _step(before: Holding, after: Holding) -> Optional[str]:
+def _step(before: Holding, after: Holding) -> str | None:
     """Which call has changed what is held, by what it has changed."""
     if before == after:
         return None

@@ -7,7 +7,7 @@ import socket
 import threading
 import time
 from concurrent.futures import ThreadPoolExecutor
-from typing import Any, NamedTuple, Tuple
+from typing import Any, NamedTuple
 
 from osb_broker.front import HEALTH, Front
 from osb_program.addresses import written
@@ -181,7 +181,7 @@ class Server:
     def _turn(self, seconds: float) -> None:
         wasyncore.loop(timeout=seconds, use_poll=True, map=self._server._map, count=1)
 
-    def _channels(self) -> Tuple[_Channel, ...]:
+    def _channels(self) -> tuple[_Channel, ...]:
         return tuple(self._server.active_channels.values())
 
     def _give_up(self) -> None:

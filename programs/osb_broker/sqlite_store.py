@@ -6,7 +6,7 @@ import functools
 import os
 import sqlite3
 import threading
-from typing import Any, Callable, Iterator, List, Optional, Tuple, TypeVar, Union
+from typing import Any, Callable, Iterator, TypeVar
 
 from osb import Holding, Id
 from osb.sqlite import begin, opened
@@ -19,11 +19,11 @@ T = TypeVar("T")
 class _Asked:
     """A change that waits to be written, and then what came of it."""
 
-    def __init__(self, id: Id, worker: Optional[int], change: Change[Any]) -> None:
+    def __init__(self, id: Id, worker: int | None, change: Change[Any]) -> None:
         self.id, self.worker, self.change = id, worker, change
         self.is_done = False
         self.given: Any = None
-        self.error: Optional[BaseException] = None
+        self.error: BaseException | None = None
 
 
 class SqliteStore:
@@ -34,13 +34,13 @@ class SqliteStore:
     that commit has returned.
     """
 
-    def __init__(self, path: Union[str, "os.PathLike[str]"], seconds: float = 30.0) -> None:
+    def __init__(self, path: str | os.PathLike[str], seconds: float = 30.0) -> None:
         """`seconds`: how long a transaction waits for those of other processes, before it raises
         sqlite3.OperationalError.
         """
         self._path, self._seconds = path, seconds
         self._guard, self._writing = threading.Lock(), threading.Lock()
-        self._waiting: List[_Asked] = []
+        self._waiting: list[_Asked] = []
         self._threads = threading.local()
         self._writer = opened(path, seconds)
         self._writer.execute(
@@ -56,11 +56,11 @@ class SqliteStore:
             "name TEXT NOT NULL, is_tied INTEGER NOT NULL DEFAULT 0)"
         )
 
-    def update(self, id: Id, change: Callable[[Holding], Tuple[Holding, T]]) -> T:
+    def update(self, id: Id, change: Callable[[Holding], tuple[Holding, T]]) -> T:
         """As `Store` says."""
         return self.update_as(id, None, change)
 
-    def update_as(self, id: Id, worker: Optional[int], change: Callable[[Holding], Tuple[Holding, T]]) -> T:
+    def update_as(self, id: Id, worker: int | None, change: Callable[[Holding], tuple[Holding, T]]) -> T:
         """As `WorkersStore` says."""
         held = _held(self._reader(), id)
         after, given = change(held)
@@ -79,7 +79,7 @@ class SqliteStore:
         written: T = asked.given
         return written
 
-    def unfinished(self) -> List[Id]:
+    def unfinished(self) -> list[Id]:
         """As `Store` says."""
         found = self._reader().execute("SELECT id FROM holdings WHERE unfinished ORDER BY id").fetchall()
         return [Id.of(text) for (text,) in found]
@@ -91,9 +91,9 @@ class SqliteStore:
             [str(id), worker],
         )
 
-    def name(self) -> Optional[str]:
+    def name(self) -> str | None:
         """As `NamedStore` says."""
-        found: Optional[Tuple[str]] = self._reader().execute("SELECT name FROM store").fetchone()
+        found: tuple[str] | None = self._reader().execute("SELECT name FROM store").fetchone()
         return None if found is None else found[0]
 
     def begin(self, name: str) -> str:
@@ -125,7 +125,7 @@ class SqliteStore:
         """As `NamedStore` says."""
         return self._reader().execute("SELECT 1 FROM holdings LIMIT 1").fetchone() is None
 
-    def _write(self, together: List[_Asked]) -> None:
+    def _write(self, together: list[_Asked]) -> None:
         """Writes these changes in one transaction. A change that raises is left out of it; where the transaction
         itself fails, none is written.
         """
@@ -163,7 +163,7 @@ class SqliteStore:
 
     def _reader(self) -> sqlite3.Connection:
         """The connection of this thread, which reads what is committed."""
-        found: Optional[sqlite3.Connection] = getattr(self._threads, "reader", None)
+        found: sqlite3.Connection | None = getattr(self._threads, "reader", None)
         if found is None:
             found = self._threads.reader = opened(self._path, self._seconds, is_first=False)
         return found
@@ -174,11 +174,11 @@ _read = functools.lru_cache(1024)(Holding.from_text)
 
 
 def _held(database: sqlite3.Connection, id: Id) -> Holding:
-    found: Optional[Tuple[str]] = database.execute("SELECT holding FROM holdings WHERE id = ?", [str(id)]).fetchone()
+    found: tuple[str] | None = database.execute("SELECT holding FROM holdings WHERE id = ?", [str(id)]).fetchone()
     return Holding.NONE if found is None else _read(found[0])
 
 
-def _worker(database: sqlite3.Connection, id: Id) -> Optional[int]:
+def _worker(database: sqlite3.Connection, id: Id) -> int | None:
     """Who works at the instance, or did last."""
-    found: Optional[Tuple[int]] = database.execute("SELECT worker FROM workers WHERE id = ?", [str(id)]).fetchone()
+    found: tuple[int] | None = database.execute("SELECT worker FROM workers WHERE id = ?", [str(id)]).fetchone()
     return None if found is None else found[0]

@@ -2,7 +2,7 @@
 from __future__ import annotations
 
 import uuid
-from typing import ContextManager, Optional, Protocol, runtime_checkable
+from typing import ContextManager, Protocol, runtime_checkable
 
 from osb.stores import Store
 from osb_broker.backend import Backend
@@ -11,7 +11,7 @@ from osb_broker.backend import Backend
 class NamedStore(Store, Protocol):
     """A store that has a name of its own from its first use on."""
 
-    def name(self) -> Optional[str]:
+    def name(self) -> str | None:
         """Its name, or None before its first use."""
         ...
 
@@ -40,7 +40,7 @@ class NamedStore(Store, Protocol):
 class Tied(Protocol):
     """A backend that keeps the name of the store whose things it has, where the things are."""
 
-    def owner(self) -> Optional[str]:
+    def owner(self) -> str | None:
         """The name of the store that has begun here, or None."""
         ...
 

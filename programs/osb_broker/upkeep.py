@@ -10,7 +10,7 @@ import logging
 import threading
 import time
 from concurrent.futures import ThreadPoolExecutor
-from typing import Dict, Optional, Protocol, Set
+from typing import Protocol
 
 from osb import Id, Phase
 from osb.stores import Store
@@ -39,9 +39,9 @@ class Upkeep:
         self._store, self._locks, self._worker, self._ends = store, locks, worker, ends
         self._pool = ThreadPoolExecutor(threads, "upkeep")
         self._changed = threading.Condition()
-        self._tended: Set[Id] = set()  # those that wait for a thread, or have one
-        self._again: Set[Id] = set()  # those of them that were touched meanwhile
-        self._failed: Dict[Id, str] = {}  # why they weren't ended, so that it is told once
+        self._tended: set[Id] = set()  # those that wait for a thread, or have one
+        self._again: set[Id] = set()  # those of them that were touched meanwhile
+        self._failed: dict[Id, str] = {}  # why they weren't ended, so that it is told once
         self._is_stopped = threading.Event()
         self._sweeper = threading.Thread(target=lambda: None, daemon=True)
 
@@ -77,7 +77,7 @@ class Upkeep:
 
     def _sweep(self, every: float) -> None:
         """At first all that is unfinished; later what was so a sweep ago: what is newer has a worker, most likely."""
-        before: Optional[Set[Id]] = None
+        before: set[Id] | None = None
         while not self._is_stopped.is_set():
             try:
                 found = set(self._store.unfinished())

@@ -4,7 +4,7 @@ from __future__ import annotations
 import argparse
 import os
 from pathlib import Path
-from typing import List, NamedTuple, Optional, Tuple, Union
+from typing import NamedTuple
 
 from osb import Id
 from osb_program.addresses import address_of
@@ -41,16 +41,16 @@ docs/broker-guide.md tells how to run it, and how to sell something of one's own
 class Settings(NamedTuple):
     """What was asked for."""
 
-    listen: Tuple[str, int]
+    listen: tuple[str, int]
     share_port: bool
     state: Path
     existing: bool
-    catalogue: Optional[Path]
-    store: Optional[str]
-    backend: Optional[str]
+    catalogue: Path | None
+    store: str | None
+    backend: str | None
     user: str
-    password_file: Optional[Path]
-    key_file: Optional[Path]
+    password_file: Path | None
+    key_file: Path | None
     threads: int
     workers: int
     longest_body: int
@@ -63,10 +63,10 @@ class PasswordOf(NamedTuple):
     """The password of an instance's database was asked for."""
 
     instance: Id
-    key_file: Optional[Path]
+    key_file: Path | None
 
 
-def read(words: List[str]) -> Union[Settings, PasswordOf]:
+def read(words: list[str]) -> Settings | PasswordOf:
     """Reads the words. Help is printed and ends the program with 0; what can't be read ends it with 2."""
     given = _parser().parse_args(words)
     if given.command == "password":

@@ -3,7 +3,7 @@ from __future__ import annotations
 
 import logging
 import os
-from typing import Callable, Optional, Tuple
+from typing import Callable
 
 from osb import BrokerRow, Id, Kind, Outcome, Phase, Request, Work
 from osb.service import Task
@@ -70,7 +70,7 @@ class BackendWorker:
             raise NobodyKnows(f"a part of {id} is there still, and can't be taken away") from error
         return _told(id, "delete", error, Outcome.DONE if there == There.NONE else Outcome.BEFORE)
 
-    def _tried(self, id: Id, call: Callable[[], None]) -> Tuple[There, Optional[Exception]]:
+    def _tried(self, id: Id, call: Callable[[], None]) -> tuple[There, Exception | None]:
         """Does it, and gives what is there then, and what it raised: a call that raised may have been done."""
         crash_soon("work-running")
         try:
@@ -88,7 +88,7 @@ class BackendWorker:
             os.sync()
 
 
-def _told(id: Id, what: str, error: Optional[Exception], outcome: Outcome) -> Outcome:
+def _told(id: Id, what: str, error: Exception | None, outcome: Outcome) -> Outcome:
     """The outcome, of which the log has what the backend raised."""
     if error is not None or outcome != Outcome.DONE:
         _log.error(

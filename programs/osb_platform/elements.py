@@ -2,7 +2,7 @@
 from __future__ import annotations
 
 import html
-from typing import Iterable, List, Union
+from typing import Iterable, Union
 
 Inside = Union[str, Iterable[str]]
 """What stands in an element: `Html` as it is, any other text escaped, and one after another where there are several."""
@@ -14,7 +14,7 @@ class Html(str):
     """Text that is HTML. Only this module makes it, and who hands in a constant of the program."""
 
 
-def element(name: str, /, *inside: Inside, **attributes: Union[str, int, None]) -> Html:
+def element(name: str, /, *inside: Inside, **attributes: str | int | None) -> Html:
     """An element with these attributes. `class_` stands for class and `aria_label` for aria-label; an attribute that is
     None is left out, and one that is empty has its name alone.
     """
@@ -26,7 +26,7 @@ def element(name: str, /, *inside: Inside, **attributes: Union[str, int, None]) 
 
 def joined(*inside: Inside) -> Html:
     """One after another."""
-    found: List[str] = []
+    found: list[str] = []
     for it in inside:
         if isinstance(it, str):
             found.append(it if isinstance(it, Html) else html.escape(it))
@@ -35,6 +35,6 @@ def joined(*inside: Inside) -> Html:
     return Html("".join(found))
 
 
-def _attribute(name: str, value: Union[str, int]) -> str:
+def _attribute(name: str, value: str | int) -> str:
     written = name.rstrip("_").replace("_", "-")
     return f" {written}" if value == "" else f' {written}="{html.escape(str(value))}"'

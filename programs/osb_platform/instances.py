@@ -11,15 +11,15 @@ the transaction that ends it, so an instance's life is those, and then the state
 from __future__ import annotations
 
 from dataclasses import dataclass
-from typing import Any, Callable, ContextManager, Dict, List, Optional, Protocol, Sequence, Tuple, TypeVar
+from typing import Any, Callable, ContextManager, Protocol, Sequence, TypeVar
 
-from osb import Id, Kind, OsbError, Record, State, Status
-from osb.records import Kept
+from osb import Id, Kind, Record, State
+from osb.records import IdUsed, Kept, UnknownId
 from osb_program.crash import crash, crash_soon
 
 T = TypeVar("T")
 
-Execute = Callable[[str, Sequence[Any]], List[Tuple[Any, ...]]]
+Execute = Callable[[str, Sequence[Any]], list[tuple[Any, ...]]]
 """Runs a statement with `?` for each value, and gives its rows."""
 
 ORDERED, WITHDRAWN = "ordered", "withdrawn"
@@ -50,7 +50,7 @@ class Database(Protocol):
     """The same, where rows that others have locked are left out."""
 
     def transaction(self) -> ContextManager[Execute]:
-        """A transaction, which is committed at the end of the block, and then on disk, or rolled back where it raises."""
+        """A transaction. The end of the block commits it to the disk. If the block raises, it is rolled back."""
         ...
 
     def is_taken(self, error: Exception) -> bool:
@@ -75,19 +75,19 @@ class Instance:
     plan: Id
     further: str
     """The text of an object with what else stands in the Provision's body."""
-    kept: Optional[Kept]
+    kept: Kept | None
     """What is recorded, or None of an order that wasn't sent yet."""
     state: str
     """`ordered`, `withdrawn`, or the record's."""
     since: float
     """When it came to that state."""
-    sent_until: Optional[float]
+    sent_until: float | None
     """When the last of the Provision had left at the latest."""
-    polled_since: Optional[float]
+    polled_since: float | None
     """When the polling that goes on now, or the latest, began."""
     removal: bool
     """Whether an operator asks for its removal, and it hasn't begun."""
-    due: Optional[float]
+    due: float | None
     """When the next step is due, or None where it rests."""
     tries: int
     """How many requests in turn have changed nothing."""
@@ -119,7 +119,7 @@ class Instances:
         return str(kept)
 
     def order(self, id: Id, service: Id, plan: Id, further: str) -> None:
-        """Writes a new order, which is due. Raises ID_USED where the id has a row, which stays as it was."""
+        """Writes a new order, which is due. Raises `IdUsed` if the id has a row, which stays as it was."""
         now = self.now()
         crash("order-next")
         try:
@@ -132,12 +132,12 @@ class Instances:
         except Exception as error:
             if not self._database.is_taken(error):
                 raise
-            raise OsbError(Status.ID_USED, str(id)) from error
+            raise IdUsed(id) from error
         crash("order-written")
 
     def ask_removal(self, id: Id) -> str:
         """Writes down that an instance is to be removed, and gives its state. A worker sees to it as soon as no request
-        of it is in flight. Raises UNKNOWN.
+        of it is in flight. Raises `UnknownId`.
         """
         now = self.now()
         with self._database.transaction() as execute:
@@ -146,7 +146,7 @@ class Instances:
                 execute("UPDATE osb_instances SET removal = 1, due = ? WHERE id = ?", [now, str(id)])
         return row.state
 
-    def claim(self, worker: str, most: int, seconds: float) -> List[Id]:
+    def claim(self, worker: str, most: int, seconds: float) -> list[Id]:
         """Leases at most so many instances that are due, for so many seconds."""
         now = self.now()
         crash("claim-next")
@@ -164,7 +164,7 @@ class Instances:
             crash("claim-written")
         return [Id.of(id) for (id,) in found]
 
-    def release(self, id: Id, worker: str, next: Callable[[Instance, float], Tuple[Optional[float], int]]) -> Instance:
+    def release(self, id: Id, worker: str, next: Callable[[Instance, float], tuple[float | None, int]]) -> Instance:
         """Ends the lease; `next` gives, for the time that it is now, when the next step is due, and the tries until
         then. Nothing changes where another worker has taken it over.
         """
@@ -189,7 +189,7 @@ class Instances:
             execute("UPDATE osb_instances SET worker = NULL, leased_until = NULL WHERE worker = ?", [worker])
 
     def withdraw(self, id: Id) -> None:
-        """An order that wasn't sent yet is never sent. Every other row stays as it is. Raises UNKNOWN."""
+        """An order that wasn't sent yet is never sent. Every other row stays as it is. Raises `UnknownId`."""
         now = self.now()
         with self._database.transaction() as execute:
             row = self._locked(execute, id)
@@ -204,24 +204,24 @@ class Instances:
         return self._database.only(worker)
 
     def row(self, id: Id) -> Instance:
-        """The row. Raises UNKNOWN."""
+        """The row. Raises `UnknownId`."""
         with self._database.transaction() as execute:
             found = execute(f"SELECT {_COLUMNS} FROM osb_instances WHERE id = ?", [str(id)])
         return _one(found, id)
 
-    def rows(self, state: Optional[str] = None) -> List[Instance]:
+    def rows(self, state: str | None = None) -> list[Instance]:
         """All rows, or those in a state, the longest there first."""
         where, values = ("", []) if state is None else (" WHERE state = ?", [state])
         with self._database.transaction() as execute:
             found = execute(f"SELECT {_COLUMNS} FROM osb_instances{where} ORDER BY since, id", values)
         return [_instance(it) for it in found]
 
-    def states(self) -> List[Tuple[str, str]]:
+    def states(self) -> list[tuple[str, str]]:
         """Each instance's id and state."""
         with self._database.transaction() as execute:
             return [(id, state) for id, state in execute("SELECT id, state FROM osb_instances", [])]
 
-    def counts(self) -> Dict[str, int]:
+    def counts(self) -> dict[str, int]:
         """How many instances are in each state."""
         with self._database.transaction() as execute:
             return dict(
@@ -229,7 +229,7 @@ class Instances:
                 for state, count in execute("SELECT state, count(*) FROM osb_instances GROUP BY state", [])
             )
 
-    def next_due(self) -> Optional[float]:
+    def next_due(self) -> float | None:
         """When the next instance is due that nobody has leased, or None."""
         with self._database.transaction() as execute:
             ((due,),) = execute("SELECT min(due) FROM osb_instances WHERE due IS NOT NULL AND worker IS NULL", [])
@@ -243,7 +243,7 @@ class Instances:
         with self._database.transaction() as execute:
             row = self._locked(execute, id)
             if row.kept is not None or row.state != ORDERED:
-                raise OsbError(Status.ID_USED, str(id))
+                raise IdUsed(id)
             _leave(execute, row)
             execute(
                 "UPDATE osb_instances SET record = ?, operation = ?, state = ?, since = ?, sent_until = ? "
@@ -253,13 +253,13 @@ class Instances:
             crash("send-next")
         _sent()
 
-    def update(self, id: Id, change: Callable[[Kept], Tuple[Kept, T]]) -> T:
-        """As `RecordStore` says. Raises UNKNOWN of an order too."""
+    def update(self, id: Id, change: Callable[[Kept], tuple[Kept, T]]) -> T:
+        """As `RecordStore` says. Raises `UnknownId` of an order too."""
         now = self.now()
         with self._database.transaction() as execute:
             row = self._locked(execute, id)
             if row.kept is None:
-                raise OsbError(Status.UNKNOWN, str(id))
+                raise UnknownId(id)
             before = row.kept
             after, given = change(before)
             if after != before:
@@ -271,7 +271,7 @@ class Instances:
         crash(f"{step}-written")
         return given
 
-    def pending(self) -> List[Id]:
+    def pending(self) -> list[Id]:
         """As `RecordStore` says."""
         return [it.id for it in self.rows() if it.kept is not None and it.kept.is_pending]
 
@@ -280,13 +280,13 @@ class Instances:
         return _one(found, id)
 
 
-def _one(found: List[Tuple[Any, ...]], id: Id) -> Instance:
+def _one(found: list[tuple[Any, ...]], id: Id) -> Instance:
     if not found:
-        raise OsbError(Status.UNKNOWN, str(id))
+        raise UnknownId(id)
     return _instance(found[0])
 
 
-def _instance(row: Tuple[Any, ...]) -> Instance:
+def _instance(row: tuple[Any, ...]) -> Instance:
     id, service, plan, further, record, operation, *rest = row
     state, since, sent_until, polled_since, removal, due, tries = rest
     kept = None if record is None else Kept(Record.from_text(record), operation)
@@ -345,7 +345,7 @@ def _still_asked(row: Instance) -> bool:
     )
 
 
-def _step(before: Optional[Kind], after: Optional[Kind]) -> str:
+def _step(before: Kind | None, after: Kind | None) -> str:
     """Which step of an exchange has changed the record, by what is in flight: the name of its crash points."""
     if before is None and after is not None:
         return "send"

@@ -1,7 +1,7 @@
 """When the next step of an instance is due: decided from values, without a clock and without a database."""
 from __future__ import annotations
 
-from typing import NamedTuple, Optional
+from typing import NamedTuple
 
 from osb import State
 
@@ -20,7 +20,7 @@ class Pace(NamedTuple):
     """How long after it was sent a Provision may still arrive, where the broker keeps no marks; else 0."""
 
 
-def wait(pace: Pace, tries: int, named: Optional[int], share: float) -> float:
+def wait(pace: Pace, tries: int, named: int | None, share: float) -> float:
     """The seconds until the next request: those of the back-off, or those that the broker has named where they are
     more, up to `LONGEST_NAMED`. `tries`: how many requests in turn have changed nothing. `share`, from 0 to 1, is
     chance: up to a half of it is added, so that many instances don't come all at once.
@@ -29,7 +29,7 @@ def wait(pace: Pace, tries: int, named: Optional[int], share: float) -> float:
     return max(backed_off, min(named or 0, LONGEST_NAMED)) * (1 + share / 2)
 
 
-def held_until(pace: Pace, state: State, sent_until: Optional[float]) -> float:
+def held_until(pace: Pace, state: State, sent_until: float | None) -> float:
     """The moment before which no request may be sent, or 0: no Deprovision, while a copy of the Provision may come.
     `sent_until`: when the last of the Provision had left at the latest.
     """

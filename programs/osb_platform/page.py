@@ -19,7 +19,7 @@ from http import HTTPStatus
 from http.server import BaseHTTPRequestHandler, ThreadingHTTPServer
 from pathlib import Path
 from socketserver import TCPServer
-from typing import Any, Iterator, NamedTuple, Optional, Set, Tuple
+from typing import Any, Iterator, NamedTuple
 
 from osb_platform import page_html, readings
 from osb_platform.page_asked import One, read
@@ -176,7 +176,7 @@ class _Handler(BaseHTTPRequestHandler):
 
     do_HEAD = do_GET
 
-    def send_error(self, code: int, message: Optional[str] = None, explain: Optional[str] = None) -> None:
+    def send_error(self, code: int, message: str | None = None, explain: str | None = None) -> None:
         # A method without a `do_` comes here with 501.
         is_method = code == HTTPStatus.NOT_IMPLEMENTED
         self._send(self.server.page.refusal(HTTPStatus.METHOD_NOT_ALLOWED if is_method else HTTPStatus(code)))
@@ -214,7 +214,7 @@ class _Handler(BaseHTTPRequestHandler):
         hosts = self.headers.get_all("Host") or []
         return len(hosts) == 1 and hosts[0].lower() in self._names()
 
-    def _names(self) -> Set[str]:
+    def _names(self) -> set[str]:
         own, port = self.connection.getsockname()[:2]
         address = ipaddress.ip_address(own.partition("%")[0])
         address = getattr(address, "ipv4_mapped", None) or address

@@ -2,7 +2,7 @@
 from __future__ import annotations
 
 import math
-from typing import Dict, List, NamedTuple, Optional, Union
+from typing import NamedTuple
 from urllib.parse import parse_qs, urlencode, urlsplit
 
 from osb import Id, OsbError
@@ -20,7 +20,7 @@ class One(NamedTuple):
     is_still: bool = False
 
 
-def read(target: str) -> Union[Asked, One, None]:
+def read(target: str) -> Asked | One | None:
     """What the target asks for, or None where there is no such page."""
     try:
         parts = urlsplit(target)
@@ -34,7 +34,7 @@ def read(target: str) -> Union[Asked, One, None]:
 
 def target(asked: Asked) -> str:
     """The target that asks for this."""
-    words: Dict[str, str] = {}
+    words: dict[str, str] = {}
     if asked.state is not None:
         words["state"] = asked.state
     if asked.find:
@@ -56,7 +56,7 @@ def target_of(id: str, is_still: bool = False) -> str:
     return f"{_INSTANCE}{id}?still=1" if is_still else f"{_INSTANCE}{id}"
 
 
-def _asked(given: Dict[str, List[str]]) -> Asked:
+def _asked(given: dict[str, list[str]]) -> Asked:
     """Raises ValueError or OsbError where a word is none."""
     state, find = _one(given, "state"), (_one(given, "find") or "").strip()
     if state not in (None, IN_FLIGHT, *STATES) or len(find) > _LONGEST_FIND:
@@ -72,7 +72,7 @@ def _asked(given: Dict[str, List[str]]) -> Asked:
     )
 
 
-def _one(given: Dict[str, List[str]], name: str) -> Optional[str]:
+def _one(given: dict[str, list[str]], name: str) -> str | None:
     """The word that is given by this name, or None. Raises ValueError where there are several."""
     words = given.get(name, [])
     if len(words) > 1:
@@ -80,7 +80,7 @@ def _one(given: Dict[str, List[str]], name: str) -> Optional[str]:
     return words[0] if words else None
 
 
-def _place(text: Optional[str]) -> Optional[Place]:
+def _place(text: str | None) -> Place | None:
     if text is None:
         return None
     since, _, id = text.partition("_")

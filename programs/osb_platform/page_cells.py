@@ -1,7 +1,7 @@
 """What stands in the page's tables: states, requests, times and lives."""
 from __future__ import annotations
 
-from typing import Iterator, List, Sequence
+from typing import Iterator, Sequence
 
 from osb_platform.elements import Html, Inside, element, joined
 from osb_platform.page_asked import target_of
@@ -9,7 +9,7 @@ from osb_platform.readings import Seen, Span
 from osb_platform.tell import moment
 
 
-def table(caption: str, names: Sequence[str], rows: List[Html], kind: str = "") -> Html:
+def table(caption: str, names: Sequence[str], rows: list[Html], kind: str = "") -> Html:
     """A table. The roles keep it one where the style has its rows as blocks, as on a phone."""
     head = element("tr", [element("th", it, scope="col", role="columnheader") for it in names], role="row")
     return element(
@@ -48,7 +48,7 @@ def state(word: str, kind: str = "") -> Html:
     return element("span", word, class_=f"state {kind or word}")
 
 
-def request(seen: Seen, now: float) -> List[str]:
+def request(seen: Seen, now: float) -> list[str]:
     """The request in flight, and at which worker; or nothing."""
     if seen.is_broken:
         return ["its record can't be read"]
@@ -67,7 +67,7 @@ def worker(seen: Seen, now: float) -> str:
     return seen.worker if seen.leased_until >= now else f"{seen.worker}, lease ran out {ago(now - seen.leased_until)}"
 
 
-def line(life: List[Span]) -> Html:
+def line(life: list[Span]) -> Html:
     """The states of a life in a line, each with its time; and with the day, where that isn't the one before."""
     earlier, day, items = life[0].number - 1, "", []
     if earlier:
@@ -80,7 +80,7 @@ def line(life: List[Span]) -> Html:
     return element("ol", items, class_="life", role="list")  # a list for those browsers too that go by its style
 
 
-def whole(life: List[Span], now: float) -> Html:
+def whole(life: list[Span], now: float) -> Html:
     """A life as a table: a row for each state, with how long it lasted."""
     rows = []
     for span, until in zip(life, [*(it.since for it in life[1:]), None]):
@@ -104,7 +104,7 @@ def at(seconds: float) -> Html:
     return element("time", f"{text[:10]} {text[11:19]}", datetime=text)
 
 
-def when(seconds: float, now: float) -> List[str]:
+def when(seconds: float, now: float) -> list[str]:
     """A time, with how long ago that was."""
     return [at(seconds), " ", element("span", f"({ago(now - seconds)})", class_="ago")]
 
@@ -126,9 +126,9 @@ def lasting(seconds: float) -> str:
     return " ".join(_units(seconds)[:2])
 
 
-def _units(seconds: float) -> List[str]:
+def _units(seconds: float) -> list[str]:
     rest = max(0, int(seconds))
-    found: List[str] = []
+    found: list[str] = []
     for unit, word in ((86400, "day"), (3600, "h"), (60, "min"), (1, "s")):
         count, rest = divmod(rest, unit)
         if count or unit == 1 and not found:
@@ -141,7 +141,7 @@ def counted(count: int, word: str) -> str:
     return f"{count:,} {word}" if count == 1 else f"{count:,} {word}s"
 
 
-def known(seen: Seen, now: float) -> Iterator["tuple[str, Inside]"]:
+def known(seen: Seen, now: float) -> Iterator[tuple[str, Inside]]:
     """What is known of an instance, each with its name. What it was ordered with may be secret, and isn't told."""
     yield "State", [state(seen.state), " since ", *when(seen.since, now)]
     yield "In flight", ", ".join(request(seen, now)) or "no request"

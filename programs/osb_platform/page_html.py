@@ -4,7 +4,7 @@ Links have ids, so that the one that has the focus keeps it when page.js refresh
 """
 from __future__ import annotations
 
-from typing import List, NamedTuple, Optional
+from typing import NamedTuple
 
 from osb_platform import page_cells as cells
 from osb_platform.elements import Html, Inside, element
@@ -93,7 +93,7 @@ def message(frame: Frame, title: str, text: str) -> str:
 # What stands around every page.
 
 
-def _page(frame: Frame, title: str, as_of: Optional[_AsOf], find: str, states: Inside, *inside: Inside) -> str:
+def _page(frame: Frame, title: str, as_of: _AsOf | None, find: str, states: Inside, *inside: Inside) -> str:
     is_refreshed = as_of is not None and not as_of.is_still
     meta = element("meta", http_equiv="refresh", content=_WITHOUT_SCRIPT)
     head = element(
@@ -123,7 +123,7 @@ def _name(broker: str) -> Html:
     )
 
 
-def _search(find: str, as_of: Optional[_AsOf]) -> Html:
+def _search(find: str, as_of: _AsOf | None) -> Html:
     is_still = as_of is not None and as_of.is_still
     box = element(
         "input",
@@ -175,7 +175,7 @@ def _states(seen: Overview, asked: Asked) -> Html:
     return element("nav", element("ul", items, aria_live="polite"), aria_label="Instances by state", class_="states")
 
 
-def _filter(state: Optional[str], word: str, count: str, asked: Asked) -> Html:
+def _filter(state: str | None, word: str, count: str, asked: Asked) -> Html:
     to = target(Asked(state, is_longest=state == "unsettled", is_still=asked.is_still))
     is_here = asked.state == state and not asked.find
     name = state or "all"
@@ -294,7 +294,7 @@ def _title(asked: Asked) -> str:
     return "Instances in flight" if asked.state == IN_FLIGHT else f"Instances that are {asked.state}"
 
 
-def _nothing(asked: Asked, are_any: bool) -> List[str]:
+def _nothing(asked: Asked, are_any: bool) -> list[str]:
     if asked.find:
         return ["No instance has such an id. An id has 32 hexadecimal digits; its hyphens don't count."]
     if are_any:
@@ -302,7 +302,7 @@ def _nothing(asked: Asked, are_any: bool) -> List[str]:
     return ["There are none yet. ", element("code", "./osb-platform create --service ID --plan ID"), " orders one."]
 
 
-def _now(row: Seen, now: float) -> List[str]:
+def _now(row: Seen, now: float) -> list[str]:
     told = [*cells.request(row, now), *(["removal is asked for"] if row.is_removal_asked else [])]
     return [element("span", it) for it in told]
 
@@ -342,5 +342,5 @@ def _pages(listed: Listed, asked: Asked) -> Html:
     return element("nav", element("ul", [element("li", it) for it in links]), aria_label="Pages", class_="pages")
 
 
-def _link(text: str, to: Optional[Asked]) -> Html:
+def _link(text: str, to: Asked | None) -> Html:
     return element("span", text) if to is None else element("a", text, href=target(to), id=f"page-{text.lower()}")

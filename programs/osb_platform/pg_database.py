@@ -3,7 +3,7 @@ from __future__ import annotations
 
 import contextlib
 import zlib
-from typing import Any, Iterator, List, Sequence, Tuple
+from typing import Any, Iterator, Sequence
 
 from osb_platform.instances import Execute
 from osb_platform.readings import Reading
@@ -30,7 +30,7 @@ class PgDatabase:
         """As `Database` says."""
         with self._sessions.session() as session, session.cursor() as cursor:
 
-            def execute(statement: str, values: Sequence[Any]) -> List[Tuple[Any, ...]]:
+            def execute(statement: str, values: Sequence[Any]) -> list[tuple[Any, ...]]:
                 if statement.startswith("CREATE TABLE"):
                     cursor.execute("SELECT pg_advisory_xact_lock(%s)", [_TABLE_LOCK])
                 cursor.execute(statement.replace("?", "%s"), values)
@@ -75,7 +75,7 @@ class PgReader:
         """As `Reader` says."""
         with self._sessions.session() as session, session.cursor() as cursor:
 
-            def execute(statement: str, values: Sequence[Any]) -> List[Tuple[Any, ...]]:
+            def execute(statement: str, values: Sequence[Any]) -> list[tuple[Any, ...]]:
                 cursor.execute(statement.replace("?", "%s"), values)
                 return list(cursor.fetchall())
 

@@ -2,7 +2,7 @@
 from __future__ import annotations
 
 import json
-from typing import Any, Dict, List, NamedTuple, Optional, Tuple
+from typing import Any, NamedTuple
 
 from osb import Id, OsbError
 
@@ -11,7 +11,7 @@ _MOST = 10**9  # seconds: some thirty years
 USUAL = 7 * 86400.0
 """The seconds where neither the plan nor the operator names any."""
 
-Durations = Dict[Tuple[Id, Id], float]
+Durations = dict[tuple[Id, Id], float]
 
 
 def durations(document: bytes) -> Durations:
@@ -32,7 +32,7 @@ def durations(document: bytes) -> Durations:
 class Longest(NamedTuple):
     """How long an instance of a plan may be polled."""
 
-    given: Optional[float]
+    given: float | None
     """The operator's seconds, which count for every plan; or None."""
     known: Durations
     """Those of the catalogue."""
@@ -42,7 +42,7 @@ class Longest(NamedTuple):
         return self.known.get((service, plan), USUAL) if self.given is None else self.given
 
 
-def _plans(service: Any) -> List[Any]:
+def _plans(service: Any) -> list[Any]:
     found = service.get("plans") if isinstance(service, dict) else None
     return found if isinstance(found, list) else []
 

@@ -5,7 +5,7 @@ So orders wait while the broker is down, and a wrong password or address is told
 from __future__ import annotations
 
 import time
-from typing import Callable, Optional, Tuple, Union
+from typing import Callable, Optional
 
 from osb_platform.plans import Durations, durations
 
@@ -13,7 +13,7 @@ _FIRST, _LONGEST = 0.1, 5.0
 
 _REFUSALS = {401: "it refuses the user or the password (401)", 412: "it doesn't take the version 2.17 (412)"}
 
-Ask = Callable[[], Optional[Tuple[int, bytes]]]
+Ask = Callable[[], Optional[tuple[int, bytes]]]
 
 
 class Unreached(Exception):
@@ -21,8 +21,8 @@ class Unreached(Exception):
 
 
 def reached(
-    ask: Ask, seconds: Optional[float], rest: Callable[[float], bool], tell: Callable[[str], None]
-) -> Optional[Durations]:
+    ask: Ask, seconds: float | None, rest: Callable[[float], bool], tell: Callable[[str], None]
+) -> Durations | None:
     """Asks for the catalogue until it comes, for about so many seconds at most where any are named, and gives the
     durations that its plans name. `ask` is `osb.client.Client.catalogue`. `rest` waits for so many seconds, and says
     whether it is to stop: then there is None. `tell` is told why it hasn't come, once for each reason. Raises
@@ -44,7 +44,7 @@ def reached(
         wait = min(_LONGEST, wait * 2)
 
 
-def _asked(ask: Ask) -> Union[Durations, str]:
+def _asked(ask: Ask) -> Durations | str:
     """The durations, or why there are none yet."""
     answer = ask()
     if answer is None:

@@ -6,7 +6,7 @@ from __future__ import annotations
 
 import re
 from collections import defaultdict
-from typing import Any, ContextManager, DefaultDict, Dict, List, NamedTuple, Optional, Protocol, Sequence, Tuple
+from typing import Any, ContextManager, DefaultDict, NamedTuple, Protocol, Sequence
 
 from osb import Kind, OsbError, Record
 from osb_platform.instances import Execute
@@ -59,14 +59,14 @@ class Place(NamedTuple):
 class Asked(NamedTuple):
     """Which instances are asked for, and which page of them."""
 
-    state: Optional[str] = None
+    state: str | None = None
     """Those in this state, or `in-flight`, or None for all."""
     find: str = ""
     """What their ids begin with; where it isn't empty, they go by id, and no state counts."""
     is_longest: bool = False
     """Whether the longest in their state come first, and not the shortest."""
-    after: Optional[Place] = None
-    before: Optional[Place] = None
+    after: Place | None = None
+    before: Place | None = None
     """The page that begins after this place, or that ends before it; the first where there is neither."""
     is_last: bool = False
     """The last page."""
@@ -90,19 +90,19 @@ class Seen(NamedTuple):
     plan: str
     state: str
     since: float
-    record: Optional[Record]
+    record: Record | None
     is_broken: bool
     """Whether there is a record, and it can't be read."""
-    operation: Optional[str]
-    polled_since: Optional[float]
+    operation: str | None
+    polled_since: float | None
     is_removal_asked: bool
-    due: Optional[float]
+    due: float | None
     tries: int
-    worker: Optional[str]
-    leased_until: Optional[float]
+    worker: str | None
+    leased_until: float | None
 
     @property
-    def out(self) -> Optional[Kind]:
+    def out(self) -> Kind | None:
         """The kind of the request in flight, or None."""
         return None if self.record is None else self.record.out
 
@@ -110,7 +110,7 @@ class Seen(NamedTuple):
 class Listed(NamedTuple):
     """A page of instances."""
 
-    rows: List[Seen]
+    rows: list[Seen]
     total: int
     """How many there are of what was asked for."""
     skipped: int
@@ -121,16 +121,16 @@ class Overview(NamedTuple):
     """What the page of the list shows."""
 
     now: float
-    counts: Dict[str, int]
+    counts: dict[str, int]
     """How many there are in each state in which there are any."""
-    waiting: List[Seen]
+    waiting: list[Seen]
     """The first of those that wait for an operator, the longest there first."""
-    flights: List[Seen]
+    flights: list[Seen]
     """Those that have a request in flight, leased by a worker."""
     are_more: bool
     """Whether there may be more in flight than were looked at."""
     listed: Listed
-    lives: Dict[str, List[Span]]
+    lives: dict[str, list[Span]]
     """The life of each instance that is listed: the last states that it has left, and then the one in which it is."""
 
 
@@ -139,7 +139,7 @@ class Whole(NamedTuple):
 
     now: float
     row: Seen
-    life: List[Span]
+    life: list[Span]
 
 
 def overview(reader: Reader, asked: Asked) -> Overview:
@@ -154,7 +154,7 @@ def overview(reader: Reader, asked: Asked) -> Overview:
         return Overview(now, counts, waiting, flights, are_more, listed, _lives(execute, listed.rows, SPANS))
 
 
-def instance(reader: Reader, id: str) -> Optional[Whole]:
+def instance(reader: Reader, id: str) -> Whole | None:
     """The instance of this id, or None."""
     with reader.reading() as (execute, now):
         found = [_seen(it) for it in execute(f"SELECT {_COLUMNS} FROM osb_instances WHERE id = ?", [id])]
@@ -163,7 +163,7 @@ def instance(reader: Reader, id: str) -> Optional[Whole]:
         return Whole(now, found[0], _lives(execute, found, LONGEST)[id])
 
 
-def bounds(find: str) -> Optional[Tuple[str, str]]:
+def bounds(find: str) -> tuple[str, str] | None:
     """The first and the last id that begins so, hyphens or not; None where none does."""
     digits = find.strip().replace("-", "").lower()
     if not re.fullmatch("[0-9a-f]{1,32}", digits):
@@ -175,8 +175,8 @@ class _Sought(NamedTuple):
     """Rows that are sought, and how they go."""
 
     where: str
-    values: List[Any]
-    keys: Tuple[str, ...]
+    values: list[Any]
+    keys: tuple[str, ...]
     """The columns by which they go."""
     is_down: bool
     """Whether the greatest come first."""
@@ -187,7 +187,7 @@ class _Sought(NamedTuple):
 _BY_TIME, _BY_ID = ("since", "id"), ("id",)
 
 
-def _page(execute: Execute, asked: Asked, counts: Dict[str, int]) -> Listed:
+def _page(execute: Execute, asked: Asked, counts: dict[str, int]) -> Listed:
     """A page of what is asked for, but of what is in flight."""
     if asked.find:
         ends = bounds(asked.find)
@@ -216,12 +216,12 @@ def _listed(execute: Execute, asked: Asked, sought: _Sought, total: int) -> List
     return Listed(rows, total, _counted(execute, sought, *before))
 
 
-def _rows(execute: Execute, sought: _Sought, at: Optional[Place], is_back: bool, most: int) -> List[Seen]:
+def _rows(execute: Execute, sought: _Sought, at: Place | None, is_back: bool, most: int) -> list[Seen]:
     """The first so many rows after the place, or the last before it; where there is none, the first or the last."""
     is_down = sought.is_down != is_back
     order = ", ".join(f"{key} DESC" if is_down else key for key in sought.keys)
     beyond, place = ("", []) if at is None else _beyond(sought.keys, at, is_down)
-    parts: List[Tuple[str, List[Any]]] = [(f" AND state = ?{beyond}", [it]) for it in sought.states] or [(beyond, [])]
+    parts: list[tuple[str, list[Any]]] = [(f" AND state = ?{beyond}", [it]) for it in sought.states] or [(beyond, [])]
     statement = " UNION ALL ".join(
         f"SELECT * FROM (SELECT {_COLUMNS} FROM osb_instances WHERE {sought.where}{further} ORDER BY {order} LIMIT "
         f"{most}) AS part"
@@ -232,13 +232,13 @@ def _rows(execute: Execute, sought: _Sought, at: Optional[Place], is_back: bool,
     return found[::-1] if is_back else found
 
 
-def _beyond(keys: Tuple[str, ...], at: Place, is_down: bool) -> Tuple[str, List[Any]]:
+def _beyond(keys: tuple[str, ...], at: Place, is_down: bool) -> tuple[str, list[Any]]:
     """The condition that a row comes after the place."""
     sign, values = "<" if is_down else ">", list(at)[-len(keys) :]
     return f" AND ({', '.join(keys)}) {sign} ({', '.join('?' for _ in keys)})", values
 
 
-def _counted(execute: Execute, sought: _Sought, further: str, values: List[Any]) -> int:
+def _counted(execute: Execute, sought: _Sought, further: str, values: list[Any]) -> int:
     """How many there are, of those of which the further condition holds."""
     ((count,),) = execute(
         f"SELECT count(*) FROM osb_instances WHERE {sought.where}{further}", [*sought.values, *values]
@@ -246,7 +246,7 @@ def _counted(execute: Execute, sought: _Sought, further: str, values: List[Any])
     return int(count)
 
 
-def _flights(execute: Execute) -> Tuple[List[Seen], bool]:
+def _flights(execute: Execute) -> tuple[list[Seen], bool]:
     """Those in flight, and whether there may be more. A lease that has run out may be that of a slow worker, or of one
     that is dead: the request is in flight until it is given up.
     """
@@ -258,7 +258,7 @@ def _flights(execute: Execute) -> Tuple[List[Seen], bool]:
     return [it for it in map(_seen, found) if it.out is not None], len(found) == MOST_LEASED
 
 
-def _slice(rows: List[Seen], asked: Asked) -> Listed:
+def _slice(rows: list[Seen], asked: Asked) -> Listed:
     """A page of rows that are all at hand."""
     ids = [it.id for it in rows]
     if asked.is_last:
@@ -270,9 +270,9 @@ def _slice(rows: List[Seen], asked: Asked) -> Listed:
     return Listed(rows[first : first + SIZE], len(rows), first)
 
 
-def _lives(execute: Execute, rows: List[Seen], most: int) -> Dict[str, List[Span]]:
+def _lives(execute: Execute, rows: list[Seen], most: int) -> dict[str, list[Span]]:
     """The life of each: at most so many states that it has left, the last ones, and then the one in which it is."""
-    lives: DefaultDict[str, List[Span]] = defaultdict(list)
+    lives: DefaultDict[str, list[Span]] = defaultdict(list)
     part = (
         "SELECT * FROM (SELECT id, number, state, since FROM osb_lives WHERE id = ? ORDER BY number DESC LIMIT "
         f"{most}) AS part"
@@ -287,13 +287,13 @@ def _lives(execute: Execute, rows: List[Seen], most: int) -> Dict[str, List[Span
     return lives
 
 
-def _seen(row: Tuple[Any, ...]) -> Seen:
+def _seen(row: tuple[Any, ...]) -> Seen:
     id, service, plan, state, since, text, operation, polled_since, removal, *rest = row
     record, is_broken = _record(text)
     return Seen(id, service, plan, state, since, record, is_broken, operation, polled_since, bool(removal), *rest)
 
 
-def _record(text: Optional[str]) -> Tuple[Optional[Record], bool]:
+def _record(text: str | None) -> tuple[Record | None, bool]:
     if text is None:
         return None, False
     try:

@@ -7,7 +7,7 @@ import sqlite3
 import threading
 import time
 from pathlib import Path
-from typing import Any, Iterator, List, Sequence, Tuple
+from typing import Any, Iterator, Sequence
 
 from osb.sqlite import begin, opened
 from osb_platform.instances import Execute
@@ -58,7 +58,7 @@ class SqliteDatabase:
                 is_free = False
             yield is_free
 
-    def _execute(self, statement: str, values: Sequence[Any]) -> List[Tuple[Any, ...]]:
+    def _execute(self, statement: str, values: Sequence[Any]) -> list[tuple[Any, ...]]:
         return self._connection.execute(statement, values).fetchall()
 
 

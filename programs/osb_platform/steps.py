@@ -7,7 +7,7 @@ from __future__ import annotations
 
 import logging
 import random
-from typing import Callable, NamedTuple, Optional, Tuple
+from typing import Callable, NamedTuple
 
 from osb import Id, Record, State
 from osb.client import Client
@@ -41,7 +41,7 @@ def step(parts: Parts, id: Id) -> None:
     """
     try:
         before = parts.instances.row(id)
-        named: Optional[int] = None
+        named: int | None = None
         try:
             named = _go_on(parts, before)
         except Exception:
@@ -57,7 +57,7 @@ def step(parts: Parts, id: Id) -> None:
             _log.exception("instance %s: that it is %s can't be told", id, row.state)
 
 
-def _go_on(parts: Parts, row: Instance) -> Optional[int]:
+def _go_on(parts: Parts, row: Instance) -> int | None:
     """Does what is due; the seconds that the broker asks to be left alone for, if any."""
     if row.state == WITHDRAWN:  # by a worker that crashed then
         return None
@@ -92,9 +92,7 @@ def _before_sending(parts: Parts, row: Instance, record: Record) -> Record:
     return record
 
 
-def _next(
-    parts: Parts, before: Instance, row: Instance, named: Optional[int], now: float
-) -> Tuple[Optional[float], int]:
+def _next(parts: Parts, before: Instance, row: Instance, named: int | None, now: float) -> tuple[float | None, int]:
     """When the next step of the row is due, and how many requests in turn have changed nothing until then."""
     if row.state == WITHDRAWN or row.kept is not None and not row.kept.is_pending and not row.removal:
         return None, 0
@@ -115,7 +113,7 @@ def _has_come_on(before: Instance, row: Instance) -> bool:
     return row.state != before.state and {before.state, row.state} != _DELETING
 
 
-def _polled_until(parts: Parts, row: Instance) -> Optional[float]:
+def _polled_until(parts: Parts, row: Instance) -> float | None:
     """When its polling has taken too long, or None where it isn't polled."""
     if row.polled_since is None or row.state != "polling":
         return None

@@ -5,25 +5,42 @@ import json
 import sys
 import threading
 import time
-from typing import Dict, List, Optional, TextIO, Tuple
+from typing import Callable, NamedTuple, TextIO
 
 from osb_platform.instances import Instance
 
-_HEAD = ("id", "state", "since", "service", "plan")
 _ASKED = "removal is asked for"
 
 
-def lines(rows: List[Instance], is_terminal: bool) -> List[str]:
-    """A line for each row: with columns and a head on a terminal, else parted by tabs."""
-    cells = [(str(row.id), row.state, moment(row.since), str(row.service), str(row.plan)) for row in rows]
+class Column(NamedTuple):
+    """A column of `osb-platform list`."""
+
+    name: str
+    width: int
+    """Its least width on a terminal."""
+    cell: Callable[[Instance], str]
+
+
+COLUMNS = (
+    Column("id", 36, lambda row: str(row.id)),
+    Column("state", 16, lambda row: row.state),
+    Column("since", 20, lambda row: moment(row.since)),
+    Column("service", 36, lambda row: str(row.service)),
+    Column("plan", 36, lambda row: str(row.plan)),
+)
+"""The columns of `osb-platform list`, in their order. docs/platform-guide.md names them too; a test compares them."""
+
+
+def lines(rows: list[Instance], is_terminal: bool) -> list[str]:
+    """A line for each row: on a terminal below a head and in columns, else with tabs between the cells."""
+    cells = [[it.cell(row) for it in COLUMNS] for row in rows]
     if not is_terminal:
         return ["\t".join(it) for it in cells]
-    return [
-        " ".join(cell.ljust(width) for cell, width in zip(it, (36, 16, 20, 36, 36))).rstrip() for it in [_HEAD, *cells]
-    ]
+    head = [it.name for it in COLUMNS]
+    return [" ".join(cell.ljust(it.width) for cell, it in zip(line, COLUMNS)).rstrip() for line in [head, *cells]]
 
 
-def waiting(rows: List[Instance]) -> Optional[str]:
+def waiting(rows: list[Instance]) -> str | None:
     """What waits for an operator, since when, and what to do; None where nothing does."""
     unsettled = [row for row in rows if row.state == "unsettled"]
     if not unsettled:
@@ -35,7 +52,7 @@ def waiting(rows: List[Instance]) -> Optional[str]:
     )
 
 
-def members(row: Instance) -> List[Tuple[str, str]]:
+def members(row: Instance) -> list[tuple[str, str]]:
     """What is known of an instance, each with its name."""
     known = [
         ("id", str(row.id)),
@@ -86,7 +103,7 @@ class Progress:
         """Whether the counts are to be shown again."""
         return self.is_terminal and time.monotonic() >= self._at
 
-    def counts(self, counts: Dict[str, int]) -> None:
+    def counts(self, counts: dict[str, int]) -> None:
         """How many there are in each state."""
         self._at = time.monotonic() + 1.0
         text = ", ".join(f"{counts[state]} {state}" for state in sorted(counts)) or "nothing yet"

@@ -6,8 +6,8 @@ import os
 import re
 import socket
 from pathlib import Path
-from typing import List
 
+from osb_platform.tell import COLUMNS
 from osb_program.addresses import address_of
 from osb_program.words import count_up_to, id_of, refusal, seconds_up_to
 
@@ -37,7 +37,7 @@ run that doesn't reach its broker; words and files that can't be used with 2.
 docs/platform-guide.md tells how to run it."""
 
 
-def read(words: List[str]) -> argparse.Namespace:
+def read(words: list[str]) -> argparse.Namespace:
     """Reads the words. Help is printed and ends the program with 0; what can't be read ends it with 2."""
     return _parser().parse_args(words)
 
@@ -60,7 +60,8 @@ def _parser() -> argparse.ArgumentParser:
 
     _create(command("create", "order an instance, and print its id"))
     command("remove", "have an instance deleted").add_argument("id", type=id_of, metavar="ID")
-    listed = command("list", "list the instances, tab-parted into a pipe: id, state, since, service, plan")
+    columns = ", ".join(it.name for it in COLUMNS)
+    listed = command("list", f"list the instances, in a pipe separated by tabs: {columns}")
     listed.add_argument("--state", metavar="STATE", choices=STATES, help="those alone that are in this state")
     command("show", "show what is known of an instance").add_argument("id", type=id_of, metavar="ID")
     run = command("run", "send what is due, until SIGTERM")

@@ -4,7 +4,7 @@ from __future__ import annotations
 import logging
 import threading
 from concurrent.futures import Future, ThreadPoolExecutor
-from typing import Callable, Set
+from typing import Callable
 
 from osb_platform.instances import Instances
 from osb_platform.steps import Parts, step
@@ -20,7 +20,7 @@ class Worker:
         self._threads, self._lease, self._look = threads, lease, look
         self._wake = threading.Event()
         self._is_stopping = False
-        self._running: Set["Future[None]"] = set()
+        self._running: set[Future[None]] = set()
 
     def stop(self) -> None:
         """Has `run` return once what is in flight is answered. A signal's handler may call it."""

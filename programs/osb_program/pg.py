@@ -83,7 +83,7 @@ class Sessions:
         """`seconds`: how long one waits for a free session, before queue.Empty is raised."""
         self._module = _psycopg2()
         self._url, self._seconds = url, seconds
-        self._free: "queue.LifoQueue[Any]" = queue.LifoQueue()  # sessions, and None for one that isn't opened yet
+        self._free: queue.LifoQueue[Any] = queue.LifoQueue()  # sessions, and None for one that isn't opened yet
         for _ in range(most):
             self._free.put(None)
 

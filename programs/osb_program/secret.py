@@ -3,14 +3,13 @@ from __future__ import annotations
 
 import os
 from pathlib import Path
-from typing import Optional
 
 
 class NoSecret(Exception):
     """A secret isn't there, or can't be read."""
 
 
-def secret(variable: str, option: str, file: Optional[Path]) -> str:
+def secret(variable: str, option: str, file: Path | None) -> str:
     """The secret that the file has, or else the environment variable, which is taken out of the environment. `option`
     is what names the file on the command line.
     """

@@ -9,7 +9,6 @@ import tempfile
 import time
 from contextlib import ExitStack, closing
 from pathlib import Path
-from typing import List, Optional, Tuple
 
 from osb_replay_log import divided, reports, signals, words, work
 from osb_replay_log.dask_engine import Dask, Missing
@@ -24,7 +23,7 @@ _TRIES = 30
 """How often a room is tried to be removed, in three seconds."""
 
 
-def run(given: List[str]) -> int:
+def run(given: list[str]) -> int:
     """Does what these words ask for, and gives the exit status."""
     asked = words.read(given)
     try:
@@ -83,7 +82,7 @@ def _has_output() -> None:
         raise Unreplayed(UNWRITTEN, "write failed")
 
 
-def _room(stack: ExitStack, folder: Optional[str]) -> str:
+def _room(stack: ExitStack, folder: str | None) -> str:
     """A new folder in this one, or in the system's for temporary files, which is removed at the end."""
     try:
         with signals.held():
@@ -113,8 +112,8 @@ def _hush() -> None:
 
 
 def _work(
-    asked: argparse.Namespace, stack: ExitStack, options: Tuple[str, ...], room: Optional[str], is_replayed: bool
-) -> Tuple[work.Outcome, Tuple[Log, ...], str]:
+    asked: argparse.Namespace, stack: ExitStack, options: tuple[str, ...], room: str | None, is_replayed: bool
+) -> tuple[work.Outcome, tuple[Log, ...], str]:
     logs = tuple(from_paths(asked.logs))
     with signals.raised():
         program, progress = Program(built(), options), Progress()
@@ -152,7 +151,7 @@ def _engine(asked: argparse.Namespace, folder: str) -> Engine:
         return Processes(asked.workers)
 
 
-def _write(found: List[reports.Report], restarts: int, is_saved: bool, room: str) -> None:
+def _write(found: list[reports.Report], restarts: int, is_saved: bool, room: str) -> None:
     try:
         with open(sys.stdout.fileno(), "wb", closefd=False) as out:
             reports.write(found, restarts, is_saved, Path(room), out)

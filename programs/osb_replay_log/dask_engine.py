@@ -11,7 +11,7 @@ import time
 import zipfile
 from itertools import islice
 from pathlib import Path
-from typing import Any, Callable, Iterable, Iterator, Optional, Set
+from typing import Any, Callable, Iterable, Iterator
 
 from osb_replay_log import signals
 from osb_replay_log.engines import SECONDS, Given, Result
@@ -32,7 +32,7 @@ class Dask:
     they have to in the folder.
     """
 
-    def __init__(self, address: Optional[str], workers: int, folder: str, seconds: int = _SECONDS_TO_REACH) -> None:
+    def __init__(self, address: str | None, workers: int, folder: str, seconds: int = _SECONDS_TO_REACH) -> None:
         try:
             import distributed
         except ImportError as error:
@@ -98,7 +98,7 @@ class Dask:
     def each(self, task: Callable[[Given], Result], given: Iterable[Given]) -> Iterator[Result]:
         """As `Engine` has it. The scheduler has done again what a worker that died has left."""
         waiting = iter(given)
-        running: Set[Any] = set()
+        running: set[Any] = set()
         try:
             while True:
                 with signals.held():
@@ -115,8 +115,8 @@ class Dask:
         except self._distributed.KilledWorker as error:
             raise Unreplayed(UNABLE, f"workers died again and again: {error}") from None
 
-    def _first(self, running: Set[Any]) -> Set[Any]:
-        """Those that are done, once there are any, or a signal has come. That no worker is left is seen after a while."""
+    def _first(self, running: set[Any]) -> set[Any]:
+        """Those that are done, once there are any or a signal has come. A lost last worker is seen after a while."""
         until = time.monotonic() + _SECONDS
         while True:
             with contextlib.suppress(*_TIMEOUTS), self._client.as_current():

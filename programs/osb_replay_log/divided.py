@@ -5,7 +5,7 @@ import json
 import os
 import re
 from pathlib import Path
-from typing import List, NamedTuple, Optional, Tuple, Type, TypeVar
+from typing import NamedTuple, TypeVar
 
 from osb_replay_log.faults import REFUSED_WORDS, UNREAD, Unreplayed, reason
 from osb_replay_log.lines import name_in
@@ -24,10 +24,10 @@ class Divided(NamedTuple):
     """What is known of the log and its parts."""
 
     folder: str
-    logs: Tuple[Log, ...]
+    logs: tuple[Log, ...]
     plans: int
     restarts: int
-    events: Tuple[int, ...]
+    events: tuple[int, ...]
     """How many lines each part has that are neither plans nor comments: a report counts them all."""
 
     @property
@@ -50,9 +50,9 @@ def begin(folder: str) -> None:
         raise Unreplayed(REFUSED_WORDS, f"{folder}: it can't be used: {reason(error)}") from error
 
 
-def write(folder: str, logs: Tuple[Log, ...], outcome: Outcome) -> Divided:
+def write(folder: str, logs: tuple[Log, ...], outcome: Outcome) -> Divided:
     """Gives the parts their names. That all are there is told by what is written last."""
-    events: List[int] = []
+    events: list[int] = []
     for number, path in enumerate(sorted(outcome.files), 1):
         events.append(_lines(path) - outcome.plans)
         os.replace(path, Path(folder, f"part-{number:06}.schedule"))
@@ -91,7 +91,7 @@ def read(folder: str) -> Divided:
         raise Unreplayed(UNREAD, f"{path}: read failed: {reason(error)}") from error
 
 
-def _a(kind: Type[Kind], value: object) -> Kind:
+def _a(kind: type[Kind], value: object) -> Kind:
     """The value, which is of this kind."""
     if not isinstance(value, kind) or isinstance(value, bool) != (kind is bool):
         raise TypeError(f"{value!r} stands there")
@@ -111,7 +111,7 @@ def report(divided: Divided, number: int) -> Report:
     return found_
 
 
-def faults(divided: Divided) -> List[Faulty]:
+def faults(divided: Divided) -> list[Faulty]:
     """The faults that the parts' replays have told. Where there is one, the log has to be as it was."""
     told = [it for it in (_fault(divided, number) for number in range(1, divided.parts + 1)) if it is not None]
     for log in divided.logs if told else ():
@@ -120,7 +120,7 @@ def faults(divided: Divided) -> List[Faulty]:
     return told
 
 
-def _fault(divided: Divided, number: int) -> Optional[Faulty]:
+def _fault(divided: Divided, number: int) -> Faulty | None:
     said, schedule = divided.file(number, "err"), divided.file(number, "schedule")
     try:
         told = list(_TOLD.finditer(said.read_bytes())) if said.exists() else []

@@ -8,7 +8,7 @@ from concurrent.futures import FIRST_COMPLETED, Future, wait
 from concurrent.futures.process import BrokenProcessPool, ProcessPoolExecutor
 from itertools import islice
 from multiprocessing.connection import wait as wait_for_end
-from typing import Callable, Dict, Iterable, Iterator, List, Optional, Protocol, TypeVar
+from typing import Callable, Iterable, Iterator, Protocol, TypeVar
 
 from osb_replay_log import signals
 from osb_replay_log.faults import UNABLE, Unreplayed, reason
@@ -40,13 +40,13 @@ class Processes:
     def __init__(self, workers: int) -> None:
         self._workers = workers
         self._context = multiprocessing.get_context("spawn")
-        self._pool: Optional[ProcessPoolExecutor] = None
+        self._pool: ProcessPoolExecutor | None = None
 
     def each(self, task: Callable[[Given], Result], given: Iterable[Given]) -> Iterator[Result]:
         """As `Engine` has it."""
         waiting, deaths = iter(given), 0
-        again: List[Given] = []
-        running: Dict[Future[Result], Given] = {}
+        again: list[Given] = []
+        running: dict[Future[Result], Given] = {}
         while True:
             try:
                 with signals.held():
@@ -70,8 +70,8 @@ class Processes:
         self,
         task: Callable[[Given], Result],
         waiting: Iterator[Given],
-        again: List[Given],
-        running: Dict[Future[Result], Given],
+        again: list[Given],
+        running: dict[Future[Result], Given],
     ) -> None:
         """Has so many tasks run that no worker waits for one."""
         while len(running) < self._workers + 1:

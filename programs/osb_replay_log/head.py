@@ -1,7 +1,7 @@
 """The head of a log: the lines before its first event, which are plans, comments and blanks."""
 from __future__ import annotations
 
-from typing import List, NamedTuple, Sequence, Tuple
+from typing import NamedTuple, Sequence
 
 from osb_replay_log.faults import FAULTY, Unreplayed
 from osb_replay_log.lines import Kind, is_head, kind_of
@@ -11,8 +11,8 @@ from osb_replay_log.logs import Log, Place, Stretch, lines_of, stretches
 class Head(NamedTuple):
     """The plan lines, each with its place, and where the first line stands that is none of the head."""
 
-    plans: Tuple[bytes, ...]
-    places: Tuple[Place, ...]
+    plans: tuple[bytes, ...]
+    places: tuple[Place, ...]
     log: int
     offset: int
 
@@ -23,8 +23,8 @@ class Head(NamedTuple):
 
 def head_of(logs: Sequence[Log], most: int, chunk: int) -> Head:
     """Reads the head. More plans than `most` are refused."""
-    plans: List[bytes] = []
-    places: List[Place] = []
+    plans: list[bytes] = []
+    places: list[Place] = []
     for number, log in enumerate(logs):
         line = offset = 0
         for stretch in stretches(log, 0, chunk):
@@ -41,7 +41,7 @@ def head_of(logs: Sequence[Log], most: int, chunk: int) -> Head:
     return Head(tuple(plans), tuple(places), len(logs), 0)
 
 
-def body_of(logs: Sequence[Log], head: Head, chunk: int) -> List[Stretch]:
+def body_of(logs: Sequence[Log], head: Head, chunk: int) -> list[Stretch]:
     """All that stands behind the head."""
     begins = [head.offset] + [0] * len(logs)
     return [stretch for log, begin in zip(logs[head.log :], begins) for stretch in stretches(log, begin, chunk)]

@@ -2,7 +2,7 @@
 from __future__ import annotations
 
 import enum
-from typing import Iterator, List, Optional
+from typing import Iterator
 
 LONGEST = 512
 """The bytes that a line has at most, without its line feed."""
@@ -42,7 +42,7 @@ class Kind(enum.Enum):
     ODD = "none of these: after the first event, such a line has a fault, and so has one that is a plan's"
 
 
-def name_in(line: bytes) -> Optional[bytes]:
+def name_in(line: bytes) -> bytes | None:
     """Which instance an event's line names, the same for each spelling of an id; None where it isn't an event's.
 
     What a schedule takes for an event of an instance has one; and two such lines have the same exactly where the
@@ -71,7 +71,7 @@ def is_head(line: bytes) -> bool:
     return name_in(line) is None and kind_of(line) in (Kind.SILENT, Kind.PLAN)
 
 
-def split(data: bytes) -> List[bytes]:
+def split(data: bytes) -> list[bytes]:
     """The lines of the data, without their line feeds: what follows the last one is a line too, if it is anything."""
     lines = data.split(b"\n")
     if not lines[-1]:
@@ -79,7 +79,7 @@ def split(data: bytes) -> List[bytes]:
     return lines
 
 
-def blocks(data: bytes) -> Iterator[List[bytes]]:
+def blocks(data: bytes) -> Iterator[list[bytes]]:
     """The lines of the data, some at a time: so not all of them are held beside it."""
     begin = 0
     while begin < len(data):

@@ -5,7 +5,7 @@ import gzip
 import os
 import stat
 import zlib
-from typing import BinaryIO, Iterable, Iterator, List, NamedTuple, Sequence, cast
+from typing import BinaryIO, Iterable, Iterator, NamedTuple, Sequence, cast
 
 from osb_replay_log.faults import unread
 from osb_replay_log.lines import LONGEST, blocks
@@ -47,7 +47,7 @@ def found(path: str) -> Log:
         raise unread(path, error) from error
 
 
-def stretches(log: Log, begin: int, chunk: int) -> List[Stretch]:
+def stretches(log: Log, begin: int, chunk: int) -> list[Stretch]:
     """The file's, from a line's beginning on."""
     if log.is_gzip:
         return [Stretch(log, begin, -1, True)]
@@ -92,7 +92,7 @@ def _read(file: BinaryIO, begin: int, end: int) -> bytes:
     return data
 
 
-def lines_of(stretch: Stretch, chunk: int) -> Iterator[List[bytes]]:
+def lines_of(stretch: Stretch, chunk: int) -> Iterator[list[bytes]]:
     """The lines that begin in the stretch, some at a time."""
     return (lines for piece in pieces(stretch, chunk) for lines in blocks(piece))
 
@@ -139,6 +139,6 @@ def numbered(logs: Sequence[Log], chunk: int) -> Iterator[Numbered]:
                     yield Numbered(number, line, text)
 
 
-def from_paths(paths: Iterable[str]) -> List[Log]:
+def from_paths(paths: Iterable[str]) -> list[Log]:
     """The files of these names, in this order."""
     return [found(path) for path in paths]

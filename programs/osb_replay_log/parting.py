@@ -3,7 +3,7 @@ from __future__ import annotations
 
 import enum
 from itertools import chain
-from typing import Iterator, List, NamedTuple, Tuple
+from typing import Iterator, NamedTuple
 from zlib import crc32
 
 from osb_replay_log import spool
@@ -17,9 +17,7 @@ _MOST_COPIES = 1 << 20
 
 
 class Parting(NamedTuple):
-    """What a worker is given: the number of the stretch, into how many buckets it is parted, and how many restarts there
-    may be.
-    """
+    """What a worker is given: the number of the stretch, of its buckets, and of the restarts that it may have."""
 
     room: Room
     number: int
@@ -30,7 +28,7 @@ class Parting(NamedTuple):
 
 
 class Parted(NamedTuple):
-    """What came of it: how many spool files, lines of any kind, and restarts; and whether it was left at an odd line."""
+    """The counts of spool files, lines of any kind, events and restarts; and whether an odd line ended it."""
 
     pieces: int
     lines: int
@@ -56,7 +54,7 @@ def part(parting: Parting) -> Parted:
         for piece in pieces(parting.stretch, parting.chunk):
             lines, rest, end = lines + piece.count(b"\n"), chain.from_iterable(blocks(piece)), End.FULL
             while end is End.FULL and restarts <= parting.most:
-                buckets: List[List[bytes]] = [[] for _ in range(parting.buckets)]
+                buckets: list[list[bytes]] = [[] for _ in range(parting.buckets)]
                 found, end = part_lines(rest, buckets)
                 spool.write(parting.room, parting.room.piece(parting.number, count), buckets)
                 count, restarts = count + 1, restarts + found
@@ -68,7 +66,7 @@ def part(parting: Parting) -> Parted:
     return Parted(count, lines, events, restarts, False)
 
 
-def part_lines(lines: Iterator[bytes], buckets: List[List[bytes]]) -> Tuple[int, End]:
+def part_lines(lines: Iterator[bytes], buckets: list[list[bytes]]) -> tuple[int, End]:
     """Adds each line to its bucket, restarts to all. Returns how many restarts there are, and where it has stopped.
 
     It is `lines.name_in` and `kind_of`, once more for the first: so it takes about half a microsecond a line.

@@ -8,7 +8,7 @@ import tempfile
 from collections import Counter
 from itertools import islice
 from pathlib import Path
-from typing import Dict, Iterable, Iterator, List, NamedTuple, Optional, Sequence, Tuple, Union
+from typing import Iterable, Iterator, NamedTuple, Sequence
 
 from osb_replay_log.faults import unwritten
 from osb_replay_log.lines import name_in
@@ -21,14 +21,14 @@ class Bucket(NamedTuple):
 
     room: Room
     number: int
-    pieces: Tuple[int, ...]
+    pieces: tuple[int, ...]
     plans: int
     restarts: int
     most: int
     """How many lines a part has at most."""
     is_needed: bool
     """Whether there is a part of it even where no event stands in it but restarts."""
-    program: Optional[Program]
+    program: Program | None
     """None where parts are only written."""
 
 
@@ -52,9 +52,9 @@ class Done(NamedTuple):
     instance that is too large; and how many events there are, without restarts.
     """
 
-    files: Tuple[str, ...] = ()
-    faulty: Tuple[Faulty, ...] = ()
-    large: Optional[Large] = None
+    files: tuple[str, ...] = ()
+    faulty: tuple[Faulty, ...] = ()
+    large: Large | None = None
     events: int = 0
 
 
@@ -96,8 +96,8 @@ def finish(bucket: Bucket) -> Done:
 
 
 def _finish_parts(bucket: Bucket, parts: Iterable[Sequence[Share]], events: int) -> Done:
-    files: List[str] = []
-    faulty: List[Faulty] = []
+    files: list[str] = []
+    faulty: list[Faulty] = []
     for number, found in enumerate(parts):
         part = _Part(bucket.room.file("plans"), found)
         new, path = bucket.room.begin(), bucket.room.file(f"part-{bucket.number:06}-{number:06}")
@@ -121,12 +121,12 @@ def faulty_line(lines: Iterable[bytes], number: int, fault: str) -> Faulty:
     return Faulty(name, names.count(name), fault)
 
 
-def split_again(found: Iterable[Share], most: int) -> Union[Dict[bytes, int], Large]:
+def split_again(found: Iterable[Share], most: int) -> dict[bytes, int] | Large:
     """Which of the bucket's instances go to which of its parts, so that each has so many lines at most."""
     counts: Counter[bytes] = Counter()
     for share in found:
         counts.update(name for name in map(name_in, share.read().split(b"\n")) if name is not None)
-    groups: Dict[bytes, int] = {}
+    groups: dict[bytes, int] = {}
     group = full = 0
     for name, count in counts.items():
         if count > most:
@@ -137,12 +137,12 @@ def split_again(found: Iterable[Share], most: int) -> Union[Dict[bytes, int], La
     return groups
 
 
-def _written(found: Iterable[Share], groups: Dict[bytes, int], folder: Path) -> Iterator[List[Share]]:
+def _written(found: Iterable[Share], groups: dict[bytes, int], folder: Path) -> Iterator[list[Share]]:
     """The bucket's lines, parted by these groups: restarts to all."""
     many = max(groups.values()) + 1
     sizes = [0] * many
     for share in found:
-        texts: List[List[bytes]] = [[] for _ in range(many)]
+        texts: list[list[bytes]] = [[] for _ in range(many)]
         for line in share.read().split(b"\n")[:-1]:
             name = name_in(line)
             for group in range(many) if name is None else (groups[name],):

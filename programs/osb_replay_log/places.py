@@ -1,7 +1,7 @@
 """Where a fault stands in a log: a part tells it by the part's lines, so the log is read once more, for its first."""
 from __future__ import annotations
 
-from typing import Callable, Dict, Optional, Sequence, Tuple
+from typing import Callable, Optional, Sequence
 
 from osb_replay_log.faults import FAULTY, UNABLE, Unreplayed
 from osb_replay_log.lines import LONGEST, Kind, is_head, kind_of, name_in
@@ -14,13 +14,13 @@ Judge = Callable[[bytes], Optional[str]]
 
 def first_fault(logs: Sequence[Log], found: Sequence[Faulty], judge: Judge, chunk: int) -> Unreplayed:
     """The log's first fault: one of those that parts have told, or that of the first odd line."""
-    wanted: Dict[bytes, Tuple[int, str]] = {it.name: (it.nth, it.fault) for it in found}
+    wanted: dict[bytes, tuple[int, str]] = {it.name: (it.nth, it.fault) for it in found}
     counts = dict.fromkeys(wanted, 0)
     is_behind = False
     for it in numbered(logs, chunk):
         name = name_in(it.text)
         is_behind = is_behind or not is_head(it.text)
-        fault: Optional[str] = None
+        fault: str | None = None
         if name is None:
             if is_behind and kind_of(it.text) in (Kind.ODD, Kind.PLAN):
                 fault = judge(it.text[: LONGEST + 1])

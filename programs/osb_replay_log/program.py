@@ -8,7 +8,7 @@ import shutil
 import subprocess
 from functools import lru_cache
 from pathlib import Path
-from typing import IO, Iterable, List, NamedTuple, Optional, Tuple
+from typing import IO, Iterable, NamedTuple
 
 from osb_replay_log.faults import NO_MEMORY, UNABLE, UNREAD, UNWRITTEN, Unreplayed, reason
 
@@ -30,9 +30,9 @@ class Program(NamedTuple):
     """Where the program is, and the words that stand behind `replay`."""
 
     path: str
-    words: Tuple[str, ...]
+    words: tuple[str, ...]
 
-    def run(self, given: Iterable[bytes], report: Path) -> Optional[Fault]:
+    def run(self, given: Iterable[bytes], report: Path) -> Fault | None:
         """Has the schedule replayed once, and its report written. `given` is gone through from its beginning each time
         that the program is killed, so it has to be a list, or something else that can be.
         """
@@ -49,7 +49,7 @@ class Program(NamedTuple):
             raise Unreplayed(UNABLE, f"osb-replay ended with status {status}: {said.decode(errors='replace').strip()}")
         return None
 
-    def _once(self, given: Iterable[bytes], report: Path) -> Tuple[int, bytes]:
+    def _once(self, given: Iterable[bytes], report: Path) -> tuple[int, bytes]:
         with open(report, "wb") as out, self._begun(out) as ran:
             assert ran.stdin is not None and ran.stderr is not None
             try:
@@ -60,7 +60,7 @@ class Program(NamedTuple):
                 raise
         return ran.returncode, said
 
-    def _begun(self, out: IO[bytes]) -> "subprocess.Popen[bytes]":
+    def _begun(self, out: IO[bytes]) -> subprocess.Popen[bytes]:
         words = [*_with_its_caller(), self.path, "replay", *self.words]
         _can_be_run(self.path)
         try:
@@ -70,7 +70,7 @@ class Program(NamedTuple):
 
 
 @lru_cache(maxsize=None)
-def _with_its_caller() -> List[str]:
+def _with_its_caller() -> list[str]:
     """What a program is started by that is killed where the caller's thread ends: by setpriv of util-linux, where that
     is there.
     """

@@ -3,7 +3,6 @@ from __future__ import annotations
 
 import sys
 import time
-from typing import Optional
 
 _SECONDS = 0.2
 _WIDTH = 20
@@ -12,7 +11,7 @@ _WIDTH = 20
 class Progress:
     """How many lines are done of all. It ends without a trace."""
 
-    def __init__(self, is_shown: Optional[bool] = None) -> None:
+    def __init__(self, is_shown: bool | None = None) -> None:
         self._is_shown = sys.stderr.isatty() if is_shown is None else is_shown
         self._told = self._begun = time.monotonic()
 

@@ -4,7 +4,7 @@ from __future__ import annotations
 import os
 from bisect import bisect_right
 from pathlib import Path
-from typing import BinaryIO, Iterator, List, NamedTuple, Sequence
+from typing import BinaryIO, Iterator, NamedTuple, Sequence
 
 from osb_replay_log.faults import UNREAD, Unreplayed
 
@@ -69,7 +69,7 @@ def _head(file: BinaryIO, begin: int, end: int) -> bytes:
     return file.read(min(end - begin, 128))
 
 
-def _is_whole(file: BinaryIO, counts: List[bytes], record: int, end: int) -> bool:
+def _is_whole(file: BinaryIO, counts: list[bytes], record: int, end: int) -> bool:
     """Whether both counts stand there, and the record, if there is one, is whole."""
     words = [(b"applied ", counts[0]), (b"skipped ", counts[1] if len(counts) == 3 else b"")]
     if not all(line.startswith(word) and line[len(word) :].isdigit() for word, line in words) or counts[2]:
@@ -85,7 +85,7 @@ class _Run:
         self._file = open(bytes_.path, "rb")
         self._file.seek(bytes_.begin)
         self._left, self._separator, self._rest = bytes_.end - bytes_.begin, separator, b""
-        self.items: List[bytes] = []
+        self.items: list[bytes] = []
         self.fill()
 
     def fill(self) -> None:
@@ -103,18 +103,18 @@ class _Run:
         self._file.close()
 
 
-def merged(parts: Sequence[Bytes], separator: bytes) -> Iterator[List[bytes]]:
+def merged(parts: Sequence[Bytes], separator: bytes) -> Iterator[list[bytes]]:
     """The items of all parts, each of which ascends, ascending: block by block. At most a block of each is held, so a
     long list of parts is merged in steps.
     """
-    runs: List[_Run] = []
+    runs: list[_Run] = []
     try:
         for part in parts:
             runs.append(_Run(part, separator))
         live = [run for run in runs if run.items]
         while live:
             bound = min(run.items[-1] for run in live)
-            block: List[bytes] = []
+            block: list[bytes] = []
             for run in live:
                 count = bisect_right(run.items, bound)
                 block += run.items[:count]
@@ -128,7 +128,7 @@ def merged(parts: Sequence[Bytes], separator: bytes) -> Iterator[List[bytes]]:
             run.close()
 
 
-def stepped(parts: Sequence[Bytes], separator: bytes, folder: Path) -> List[Bytes]:
+def stepped(parts: Sequence[Bytes], separator: bytes, folder: Path) -> list[Bytes]:
     """The same items in few enough files: too many are merged into some of this folder."""
     step = 0
     while len(parts) > MOST_OPEN:

@@ -7,7 +7,7 @@ import os
 import signal
 from contextlib import contextmanager
 from multiprocessing import resource_tracker
-from typing import Iterator, Optional
+from typing import Iterator
 
 _ENDING = (signal.SIGINT, signal.SIGTERM, signal.SIGHUP)
 
@@ -17,7 +17,7 @@ class Interrupted(BaseException):
 
 
 class _State:
-    come: Optional[int] = None
+    come: int | None = None
     is_raised = False
     may_raise = False
 

@@ -5,7 +5,7 @@ import os
 import tempfile
 from pathlib import Path
 from struct import Struct
-from typing import Iterator, List, NamedTuple, Sequence
+from typing import Iterator, NamedTuple, Sequence
 
 _ENTRY = Struct("<QQ")
 """Of each bucket, and of what follows the last one: where it begins, and the count of its lines."""
@@ -31,7 +31,7 @@ class Room(NamedTuple):
         return Path(path)
 
 
-def write(room: Room, path: Path, buckets: Sequence[List[bytes]]) -> None:
+def write(room: Room, path: Path, buckets: Sequence[list[bytes]]) -> None:
     """Writes the spool file of a piece."""
     texts = [b"".join((b"\n".join(lines), b"\n")) if lines else b"" for lines in buckets]
     offset, entries = _ENTRY.size * (len(buckets) + 1), []

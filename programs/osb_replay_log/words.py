@@ -3,7 +3,7 @@ from __future__ import annotations
 
 import argparse
 import os
-from typing import Callable, List
+from typing import Callable
 
 PROGRAM = "osb-replay-log"
 
@@ -44,7 +44,7 @@ Merges the reports that stand beside the parts of a log to that of the whole, or
 first fault of the log."""
 
 
-def read(words: List[str]) -> argparse.Namespace:
+def read(words: list[str]) -> argparse.Namespace:
     """Reads the words. Help is printed and ends the program with 0; what can't be read ends it with 2."""
     parser = _parser()
     asked = parser.parse_args(words)

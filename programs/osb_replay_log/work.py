@@ -3,7 +3,7 @@ from __future__ import annotations
 
 import zlib
 from pathlib import Path
-from typing import Iterator, List, NamedTuple, Optional, Sequence, Tuple
+from typing import Iterator, NamedTuple, Sequence
 
 from osb_replay_log.engines import Engine
 from osb_replay_log.faults import FAULTY, Unreplayed
@@ -36,7 +36,7 @@ class Work(NamedTuple):
 class Outcome(NamedTuple):
     """The parts' files, and what merging has to know of the log."""
 
-    files: List[str]
+    files: list[str]
     plans: int
     restarts: int
 
@@ -53,17 +53,17 @@ def do(work: Work, engine: Engine, is_replayed: bool) -> Outcome:
     return Outcome([file for it in done for file in it.files], len(head.plans), sum(it.restarts for it in parted))
 
 
-def judge(program: Program, line: bytes) -> Optional[str]:
+def judge(program: Program, line: bytes) -> str | None:
     """Which fault the line has behind an event. No plan is needed for that: a late one is late, whatever it is."""
     fault = program.run([b"restart\n", line + b"\n"], Path("/dev/null"))
     return None if fault is None else fault.name
 
 
-def estimated(body: Sequence[Stretch], most: int) -> Tuple[int, int]:
-    """Into how many buckets the log is parted, so that a bucket is about half a part, and how many lines it may have."""
+def estimated(body: Sequence[Stretch], most: int) -> tuple[int, int]:
+    """The number of buckets, so that a bucket is about half a part, and how many lines a bucket may have."""
     if not body:
         return 1, 1
-    found: List[bytes] = [line for it in _samples(body) for line in next(lines_of(it, _FEW), [])]
+    found: list[bytes] = [line for it in _samples(body) for line in next(lines_of(it, _FEW), [])]
     text = b"\n".join(found) + b"\n"
     gain, length = len(text) / len(zlib.compress(text)), len(text) / max(len(found), 1)
     size = sum(it.log.size * gain if it.log.is_gzip else it.end - it.begin for it in body)
@@ -85,11 +85,12 @@ def _judge_head(work: Work, head: Head) -> None:
         raise Unreplayed(FAULTY, f"{place.path}: line {place.line}: {fault.name}")
 
 
-def _part(work: Work, engine: Engine, plans: int, body: Sequence[Stretch], many: int, estimate: int) -> List[Parted]:
-    """What came of each stretch, in their order, up to an odd line: what follows it doesn't count. More restarts before it
-    than a part takes are refused.
+def _part(work: Work, engine: Engine, plans: int, body: Sequence[Stretch], many: int, estimate: int) -> list[Parted]:
+    """What came of each stretch, in order, up to an odd line: what follows that line doesn't count.
+
+    If there are more restarts before the line than a part takes, the log is rejected.
     """
-    found: List[Optional[Parted]] = [None] * len(body)
+    found: list[Parted | None] = [None] * len(body)
     until, lines, restarts = len(body), 0, 0
 
     def given() -> Iterator[Parting]:
@@ -107,7 +108,7 @@ def _part(work: Work, engine: Engine, plans: int, body: Sequence[Stretch], many:
     return _counted(work, plans, [it for it in found[:until] if it is not None])
 
 
-def _counted(work: Work, plans: int, parted: List[Parted]) -> List[Parted]:
+def _counted(work: Work, plans: int, parted: list[Parted]) -> list[Parted]:
     """The same, unless there are too many restarts."""
     restarts = sum(it.restarts for it in parted)
     if restarts + plans > work.most:
@@ -119,13 +120,13 @@ def _counted(work: Work, plans: int, parted: List[Parted]) -> List[Parted]:
     return parted
 
 
-def _numbered(parting: Parting) -> Tuple[int, Parted]:
+def _numbered(parting: Parting) -> tuple[int, Parted]:
     return parting.number, part(parting)
 
 
 def _finish(
     work: Work, engine: Engine, plans: int, parted: Sequence[Parted], many: int, is_replayed: bool
-) -> List[Done]:
+) -> list[Done]:
     """What came of each bucket. Where one has a fault, or an odd line was met, the log's first fault is raised."""
     events, restarts = sum(it.events for it in parted), sum(it.restarts for it in parted)
     counts = tuple(it.pieces for it in parted)
@@ -134,7 +135,7 @@ def _finish(
         Bucket(work.room, number, counts, plans, restarts, work.most, not events and not number, program)
         for number in range(many)
     )
-    done: List[Done] = []
+    done: list[Done] = []
     replayed = 0
     work.progress.begin()
     for it in engine.each(finish, given):

@@ -1,8 +1,6 @@
 """Values as the structs that cross to the library, and back."""
 from __future__ import annotations
 
-from typing import Optional
-
 from osb._structs import KIND_NONE, MODE_NONE, CAnswer, CBrokerRow, CId, CPlan, CPlatformRow, CRequest
 from osb.enums import Body, Kind, Mode, Phase, State
 from osb.ids import Id
@@ -17,15 +15,15 @@ def id_from(id: CId) -> Id:
     return Id(id.high, id.low)
 
 
-def kind_to(kind: Optional[Kind]) -> int:
+def kind_to(kind: Kind | None) -> int:
     return KIND_NONE if kind is None else Kind(kind).value
 
 
-def kind_from(kind: int) -> Optional[Kind]:
+def kind_from(kind: int) -> Kind | None:
     return None if kind == KIND_NONE else Kind(kind)
 
 
-def mode_to(mode: Optional[Mode]) -> int:
+def mode_to(mode: Mode | None) -> int:
     return MODE_NONE if mode is None else Mode(mode).value
 
 
@@ -58,15 +56,9 @@ def answer_from(answer: CAnswer) -> Answer:
 
 
 def platform_row_to(row: PlatformRow) -> CPlatformRow:
-    return CPlatformRow(id_to(row.service), id_to(row.plan), State(row.state).value, kind_to(row.out))
-
-
-def platform_row_from(row: CPlatformRow) -> PlatformRow:
-    return PlatformRow(id_from(row.service), id_from(row.plan), State(row.state), kind_from(row.out))
-
-
-def plan_to(plan: Plan) -> CPlan:
-    return CPlan(id_to(plan.service), id_to(plan.plan), bool(plan.is_asynchronous))
+    return CPlatformRow(
+        id_to(row.service), id_to(row.plan), State(row.state).value, kind_to(row.out)
+    )
 
 
 def plan_from(plan: CPlan) -> Plan:

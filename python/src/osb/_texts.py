@@ -2,7 +2,7 @@
 from __future__ import annotations
 
 import ctypes as c
-from typing import Any, Callable, Tuple
+from typing import Any, Callable
 
 from osb.enums import Status
 
@@ -10,7 +10,7 @@ from osb.enums import Status
 _FIRST = 1024
 
 
-def written(call: Callable[[Any, int, Any], int]) -> Tuple[int, bytes]:
+def written(call: Callable[[Any, int, Any], int]) -> tuple[int, bytes]:
     """The status of a call that writes a text, and that text. It is called again where the buffer was too short."""
     buffer, needed = c.create_string_buffer(_FIRST), c.c_size_t(0)
     status = call(buffer, len(buffer), needed)

@@ -14,7 +14,7 @@ import base64
 import logging
 import ssl
 from dataclasses import dataclass
-from typing import Callable, Optional, Tuple, TypeVar
+from typing import Callable, TypeVar
 
 from osb._checks import check_login, check_longest, check_texts
 from osb._exchange import Address, Deadline, FarEnd, Response
@@ -47,9 +47,9 @@ class Exchanged:
 
     record: Record
     """The record as it is written now."""
-    answer: Optional[Answer]
+    answer: Answer | None
     """The answer that was taken, or None: none came that is surely the broker's, or the request was given up before."""
-    retry_after: Optional[int]
+    retry_after: int | None
     """The seconds that the broker asks to be left alone for, or None."""
 
 
@@ -58,13 +58,13 @@ class _Sent:
     request: Request
     attempt: int
     """The number of the request: it stays with the connection."""
-    operation: Optional[str]
+    operation: str | None
 
 
 @dataclass(frozen=True)
 class _Heard:
     answer: Answer
-    operation: Optional[str]
+    operation: str | None
     """What the Polls from now on are about."""
 
 
@@ -82,7 +82,7 @@ class Client:
         space: str,
         seconds: float = 60.0,
         longest_body: int = 1 << 20,
-        tls: Optional[ssl.SSLContext] = None,
+        tls: ssl.SSLContext | None = None,
     ) -> None:
         """`url` is the broker's, without /v2. `seconds` is the limit on the time of each exchange, `longest_body` that
         on the bytes of a response's body. Raises ValueError where the URL is no broker's, the user has a colon, one of
@@ -100,12 +100,21 @@ class Client:
             "Accept": CONTENT_TYPE,
             "Connection": "close",
         }
-        self._far_end = FarEnd(Address.of(url), tls or ssl.create_default_context(), seconds, longest_body)
+        self._far_end = FarEnd(
+            Address.of(url), tls or ssl.create_default_context(), seconds, longest_body
+        )
         self._records, self._organization, self._space = records, organization, space
 
-    def create(self, id: Id, service: Id, plan: Id, accepts_incomplete: bool = True, further: str = "{}") -> Exchanged:
+    def create(
+        self,
+        id: Id,
+        service: Id,
+        plan: Id,
+        accepts_incomplete: bool = True,
+        further: str = "{}",
+    ) -> Exchanged:
         """Records a new instance, and sends its Provision. `further` is the text of an object with the members that the
-        body has besides, as parameters. Raises ID_USED, NOT_JSON, NOT_AN_OBJECT, NOT_UTF8: nothing is then recorded or
+        body has besides, as parameters. Raises `IdUsed`, NOT_JSON, NOT_AN_OBJECT, NOT_UTF8: nothing is then recorded or
         sent.
         """
         deadline = self._far_end.deadline()
@@ -115,26 +124,28 @@ class Client:
         return self._exchange(deadline, _Sent(request, record.attempt, None), body)
 
     def step(self, id: Id) -> Exchanged:
-        """Sends the request that is due: a Poll or a Deprovision. Raises UNKNOWN, BUSY, NOTHING_DUE,
+        """Sends the request that is due: a Poll or a Deprovision. Raises `UnknownId`, BUSY, NOTHING_DUE,
         ATTEMPTS_USED_UP: nothing is then sent.
         """
 
-        def sent(kept: Kept) -> Tuple[Kept, _Sent]:
+        def sent(kept: Kept) -> tuple[Kept, _Sent]:
             record, request = kept.record.send(id)
             operation = kept.operation if request.kind == Kind.POLL else None
-            return Kept(record, kept.operation), _Sent(request, record.attempt, operation)
+            return Kept(record, kept.operation), _Sent(
+                request, record.attempt, operation
+            )
 
         deadline = self._far_end.deadline()
         return self._exchange(deadline, self._records.update(id, sent), b"")
 
     def remove(self, id: Id) -> Record:
-        """Has the instance deleted, as an operator asks: its Deprovision is then due. Raises UNKNOWN, BUSY,
+        """Has the instance deleted, as an operator asks: its Deprovision is then due. Raises `UnknownId`, BUSY,
         NOT_REMOVABLE.
         """
         return self._changed(id, Record.remove)
 
     def expire(self, id: Id) -> Record:
-        """Gives up polling, as the maximum polling duration has passed: a Deprovision is then due. Raises UNKNOWN,
+        """Gives up polling, as the maximum polling duration has passed: a Deprovision is then due. Raises `UnknownId`,
         BUSY, NOT_POLLING.
         """
         return self._changed(id, Record.expire)
@@ -142,24 +153,31 @@ class Client:
     def give_up(self, id: Id) -> Record:
         """Gives up the request in flight, as what a crash left there, or a `create` or a `step` whose last transaction
         failed in the store: it may be done or not, and what is due then finds out. Where none is in flight, nothing
-        changes. Raises UNKNOWN.
+        changes. Raises `UnknownId`.
         """
-        return self._changed(id, lambda record: record if record.out is None else record.timeout(record.attempt))
+        return self._changed(
+            id,
+            lambda record: record
+            if record.out is None
+            else record.timeout(record.attempt),
+        )
 
-    def catalogue(self) -> Optional[Tuple[int, bytes]]:
+    def catalogue(self) -> tuple[int, bytes] | None:
         """Asks the broker for its catalogue: the status of its answer, and the body, which with 200 is the document; or
         None where none came whole. Nothing is recorded.
         """
         target = self._far_end.address.prefix + "/v2/catalog"
-        response = self._far_end.exchange(self._far_end.deadline(), "GET", target, b"", self._headers)
+        response = self._far_end.exchange(
+            self._far_end.deadline(), "GET", target, b"", self._headers
+        )
         return None if response is None else (response.status, response.body)
 
     def record(self, id: Id) -> Record:
-        """What is recorded of the instance. Raises UNKNOWN."""
+        """What is recorded of the instance. Raises `UnknownId`."""
         return self._changed(id, lambda record: record)
 
     def _changed(self, id: Id, call: Callable[[Record], Record]) -> Record:
-        def changed(kept: Kept) -> Tuple[Kept, Record]:
+        def changed(kept: Kept) -> tuple[Kept, Record]:
             record = call(kept.record)
             return Kept(record, kept.operation), record
 
@@ -169,21 +187,29 @@ class Client:
         """The deadline is from before the request was recorded: after it the request can't leave any more."""
         response = self._response(deadline, sent.request, sent.operation, body)
         heard = None if response is None else _heard(sent.request.kind, response)
-        record, answer = self._records.update(sent.request.id, lambda kept: _taken(kept, sent, heard))
+        record, answer = self._records.update(
+            sent.request.id, lambda kept: _taken(kept, sent, heard)
+        )
         named = None if response is None else response.retry_after
         return Exchanged(record, answer, None if named is None else retry_after(named))
 
     def _response(
-        self, deadline: Deadline, request: Request, operation: Optional[str], body: bytes
-    ) -> Optional[Response]:
-        headers = {**self._headers, "Content-Type": CONTENT_TYPE} if body else self._headers
-        target = _unless_memory(lambda: write_target(request, operation, self._far_end.address.prefix))
+        self, deadline: Deadline, request: Request, operation: str | None, body: bytes
+    ) -> Response | None:
+        headers = (
+            {**self._headers, "Content-Type": CONTENT_TYPE} if body else self._headers
+        )
+        target = _unless_memory(
+            lambda: write_target(request, operation, self._far_end.address.prefix)
+        )
         if target is None:
             return None
-        return self._far_end.exchange(deadline, write_method(request.kind), target, body, headers)
+        return self._far_end.exchange(
+            deadline, write_method(request.kind), target, body, headers
+        )
 
 
-def _unless_memory(call: Callable[[], T]) -> Optional[T]:
+def _unless_memory(call: Callable[[], T]) -> T | None:
     """What a call gives. An out-of-memory error is as if no answer came, since a timeout is always right."""
     try:
         return call()
@@ -193,20 +219,28 @@ def _unless_memory(call: Callable[[], T]) -> Optional[T]:
         return None
 
 
-def _heard(kind: Kind, response: Response) -> Optional[_Heard]:
+def _heard(kind: Kind, response: Response) -> _Heard | None:
     """What a response says, or None where it isn't surely the broker's."""
 
-    def read() -> Optional[_Heard]:
+    def read() -> _Heard | None:
         answer = read_answer(kind, response.status, response.body)
         if answer is None:
-            _log.warning("an answer of %d to a %s isn't surely the broker's", response.status, kind.name.lower())
+            _log.warning(
+                "an answer of %d to a %s isn't surely the broker's",
+                response.status,
+                kind.name.lower(),
+            )
             return None
-        return _Heard(answer, read_operation(response.body) if response.status == 202 else None)
+        return _Heard(
+            answer, read_operation(response.body) if response.status == 202 else None
+        )
 
     return _unless_memory(read)
 
 
-def _taken(kept: Kept, sent: _Sent, heard: Optional[_Heard]) -> Tuple[Kept, Tuple[Record, Optional[Answer]]]:
+def _taken(
+    kept: Kept, sent: _Sent, heard: _Heard | None
+) -> tuple[Kept, tuple[Record, Answer | None]]:
     """What is kept after the answer or the timeout, and the answer that was taken. Where the request was given up
     meanwhile, what is kept is as before, and no answer is taken.
     """

@@ -4,7 +4,7 @@ from __future__ import annotations
 import contextlib
 import fcntl
 from pathlib import Path
-from typing import ContextManager, Iterator, Union
+from typing import ContextManager, Iterator
 
 from osb.ids import Id
 
@@ -14,7 +14,7 @@ class FileLocks:
     it is for work that ends with its process too. Any number of threads and processes of one machine may use it.
     """
 
-    def __init__(self, folder: Union[str, Path]) -> None:
+    def __init__(self, folder: str | Path) -> None:
         self._folder = Path(folder)
         self._folder.mkdir(parents=True, exist_ok=True)
 

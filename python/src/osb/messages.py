@@ -2,7 +2,6 @@
 from __future__ import annotations
 
 from dataclasses import dataclass
-from typing import Optional
 
 from osb.enums import Body, Kind, Phase, State
 from osb.ids import Id
@@ -34,12 +33,12 @@ class Answer:
 
 @dataclass(frozen=True)
 class PlatformRow:
-    """What a `Platform` has recorded of an instance."""
+    """An instance as a saved record of version 0.2 or earlier names it (docs/saved-record.md)."""
 
     service: Id
     plan: Id
     state: State
-    out: Optional[Kind]
+    out: Kind | None
     """The kind of the request in flight, or None."""
 
 

@@ -4,10 +4,9 @@ from __future__ import annotations
 import sqlite3
 import threading
 from dataclasses import dataclass
-from typing import Callable, Dict, List, Optional, Protocol, Tuple, TypeVar
+from typing import Callable, Protocol, TypeVar
 
-from osb.enums import State, Status
-from osb.errors import OsbError
+from osb.enums import State
 from osb.ids import Id
 from osb.record import Record
 from osb.sqlite import Path, transaction
@@ -22,12 +21,26 @@ class Kept:
     """What a platform keeps of an instance: its record, and the operation that its Polls are about, or None."""
 
     record: Record
-    operation: Optional[str] = None
+    operation: str | None = None
 
     @property
     def is_pending(self) -> bool:
         """Whether a request is in flight or due: the state isn't ready, gone or unsettled."""
         return self.record.state not in _AT_REST
+
+
+class IdUsed(Exception):
+    """The id of a new instance is recorded already, in any state. An id is never used twice."""
+
+    def __init__(self, id: Id) -> None:
+        super().__init__(f"{id}: the id is recorded already")
+
+
+class UnknownId(Exception):
+    """The id isn't recorded."""
+
+    def __init__(self, id: Id) -> None:
+        super().__init__(f"{id}: the id isn't recorded")
 
 
 class RecordStore(Protocol):
@@ -36,21 +49,21 @@ class RecordStore(Protocol):
     """
 
     def insert(self, id: Id, kept: Kept) -> None:
-        """Writes a new row, and commits. Raises `OsbError` (ID_USED) where the id has one; it stays as it was. So the
-        id is the primary key.
+        """Writes a new row, and commits. Raises `IdUsed` if the id has one, which stays as it was. So the id is the
+        primary key.
         """
         ...
 
-    def update(self, id: Id, change: Callable[[Kept], Tuple[Kept, T]]) -> T:
+    def update(self, id: Id, change: Callable[[Kept], tuple[Kept, T]]) -> T:
         """Changes what is kept of an instance, in one transaction that locks its row.
 
         Hands what is kept to `change`, writes what it gives where it differs, and commits; returns the rest of what it
         gives. Once `update` returns, what was written stays. Where `change` raises, nothing is written, and `update`
-        raises the same. Raises `OsbError` (UNKNOWN) where the id has no row.
+        raises the same. Raises `UnknownId` if the id has no row.
         """
         ...
 
-    def pending(self) -> List[Id]:
+    def pending(self) -> list[Id]:
         """The instances whose row `is_pending`."""
         ...
 
@@ -60,24 +73,24 @@ class MemoryRecords:
 
     def __init__(self) -> None:
         self._lock = threading.Lock()
-        self._kept: Dict[Id, Kept] = {}
+        self._kept: dict[Id, Kept] = {}
 
     def insert(self, id: Id, kept: Kept) -> None:
         """As `RecordStore` says."""
         with self._lock:
             if id in self._kept:
-                raise OsbError(Status.ID_USED, str(id))
+                raise IdUsed(id)
             self._kept[id] = kept
 
-    def update(self, id: Id, change: Callable[[Kept], Tuple[Kept, T]]) -> T:
+    def update(self, id: Id, change: Callable[[Kept], tuple[Kept, T]]) -> T:
         """As `RecordStore` says."""
         with self._lock:
             if id not in self._kept:
-                raise OsbError(Status.UNKNOWN, str(id))
+                raise UnknownId(id)
             self._kept[id], given = change(self._kept[id])
             return given
 
-    def pending(self) -> List[Id]:
+    def pending(self) -> list[Id]:
         """As `RecordStore` says."""
         with self._lock:
             return [id for id, kept in self._kept.items() if kept.is_pending]
@@ -94,24 +107,29 @@ class SqliteRecords:
                 "CREATE TABLE IF NOT EXISTS records (id TEXT PRIMARY KEY, record TEXT NOT NULL, "
                 "operation TEXT, pending INTEGER NOT NULL) WITHOUT ROWID"
             )
-            database.execute("CREATE INDEX IF NOT EXISTS pending_records ON records (id) WHERE pending")
+            database.execute(
+                "CREATE INDEX IF NOT EXISTS pending_records ON records (id) WHERE pending"
+            )
 
     def insert(self, id: Id, kept: Kept) -> None:
         """As `RecordStore` says."""
         with transaction(self._path, self._seconds) as database:
             try:
-                database.execute("INSERT INTO records VALUES (?, ?, ?, ?)", [str(id), *_columns(kept)])
+                database.execute(
+                    "INSERT INTO records VALUES (?, ?, ?, ?)",
+                    [str(id), *_columns(kept)],
+                )
             except sqlite3.IntegrityError as error:
-                raise OsbError(Status.ID_USED, str(id)) from error
+                raise IdUsed(id) from error
 
-    def update(self, id: Id, change: Callable[[Kept], Tuple[Kept, T]]) -> T:
+    def update(self, id: Id, change: Callable[[Kept], tuple[Kept, T]]) -> T:
         """As `RecordStore` says."""
         with transaction(self._path, self._seconds) as database:
-            found: Optional[Tuple[str, Optional[str]]] = database.execute(
+            found: tuple[str, str | None] | None = database.execute(
                 "SELECT record, operation FROM records WHERE id = ?", [str(id)]
             ).fetchone()
             if found is None:
-                raise OsbError(Status.UNKNOWN, str(id))
+                raise UnknownId(id)
             before = Kept(Record.from_text(found[0]), found[1])
             after, given = change(before)
             if after != before:
@@ -121,11 +139,16 @@ class SqliteRecords:
                 )
             return given
 
-    def pending(self) -> List[Id]:
+    def pending(self) -> list[Id]:
         """As `RecordStore` says."""
         with transaction(self._path, self._seconds) as database:
-            return [Id.of(text) for (text,) in database.execute("SELECT id FROM records WHERE pending ORDER BY id")]
+            return [
+                Id.of(text)
+                for (text,) in database.execute(
+                    "SELECT id FROM records WHERE pending ORDER BY id"
+                )
+            ]
 
 
-def _columns(kept: Kept) -> Tuple[str, Optional[str], bool]:
+def _columns(kept: Kept) -> tuple[str, str | None, bool]:
     return kept.record.to_text(), kept.operation, kept.is_pending

@@ -14,7 +14,7 @@ from __future__ import annotations
 import contextlib
 import logging
 from dataclasses import dataclass
-from typing import Callable, ContextManager, Dict, Iterable, List, Optional, Protocol, Tuple, Union
+from typing import Callable, ContextManager, Iterable, Protocol
 
 from osb.enums import Mode, Outcome, Phase, Work
 from osb.holding import Holding, work_of
@@ -35,7 +35,7 @@ class Task:
 
     work: Work
     request: Request
-    body: Optional[bytes]
+    body: bytes | None
     """The body of the request as it was read: of a Provision, with its parameters. It isn't recorded, so it is None
     where the work is taken up again: a worker that needs some of it keeps that before it begins to make the thing.
     """
@@ -78,14 +78,23 @@ class LostWork(Exception):
 class BrokerService:
     """A broker of these plans. Any number of threads may use it, as far as the store and the worker allow it."""
 
-    def __init__(self, plans: Iterable[Plan], store: Store, worker: Worker, lock: Optional[Lock] = None) -> None:
+    def __init__(
+        self,
+        plans: Iterable[Plan],
+        store: Store,
+        worker: Worker,
+        lock: Lock | None = None,
+    ) -> None:
         """`lock`: held by who works at an instance, from before what is recorded is read until its end is written.
         Without one, nothing keeps `resume` from working where a request's work is being done.
         """
-        self._modes = {(it.service, it.plan): Mode.ASYNC if it.is_asynchronous else Mode.SYNC for it in plans}
+        self._modes = {
+            (it.service, it.plan): Mode.ASYNC if it.is_asynchronous else Mode.SYNC
+            for it in plans
+        }
         self._store, self._worker, self._lock = store, worker, lock
 
-    def mode(self, service: Id, plan: Id) -> Optional[Mode]:
+    def mode(self, service: Id, plan: Id) -> Mode | None:
         """How the plan works, or None where it isn't on sale."""
         return self._modes.get((service, plan))
 
@@ -94,14 +103,21 @@ class BrokerService:
         it was read.
         """
         while True:
-            request, begun = self._store.update(asked.id, lambda holding: self._begin(holding, asked))
+            request, begun = self._store.update(
+                asked.id, lambda holding: self._begin(holding, asked)
+            )
             if isinstance(begun, Answer):
                 return begun
             task = Task(begun, request, body, False)
             if self._lock is None:
                 return self._work(task)
             with self._lock(asked.id):
-                if self._store.update(asked.id, lambda holding: (holding, holding.work)) == request:
+                if (
+                    self._store.update(
+                        asked.id, lambda holding: (holding, holding.work)
+                    )
+                    == request
+                ):
                     return self._work(task)
             # Whoever had the lock before has done this work: then it is as if the request arrived again.
 
@@ -113,22 +129,24 @@ class BrokerService:
         end was written.
         """
 
-        def finished(holding: Holding) -> Tuple[Holding, None]:
+        def finished(holding: Holding) -> tuple[Holding, None]:
             self._check(id, holding)
             if holding.work is not None:
-                raise StillRecorded(f"the work that starts the operation on {id} is still recorded")
+                raise StillRecorded(
+                    f"the work that starts the operation on {id} is still recorded"
+                )
             return holding.finish(ok), None
 
         self._store.update(id, finished)
 
-    def resume(self) -> List[Id]:
+    def resume(self) -> list[Id]:
         """Does the recorded work that nobody works at any more, as at the start of a program. Gives the instances whose
         work is recorded still, since nobody knows how it went; why is logged.
 
         One worker at a time works at an instance. So without a lock this is called where nobody else works: before the
         first request is served, and by one process alone.
         """
-        left: List[Id] = []
+        left: list[Id] = []
         for id in self._store.unfinished():
             try:
                 with contextlib.nullcontext() if self._lock is None else self._lock(id):
@@ -143,21 +161,34 @@ class BrokerService:
         knows that nobody else works at the instance. Raises where nobody knows how the work went, which stays recorded.
         """
 
-        def recorded(holding: Holding) -> Tuple[Holding, Optional[Request]]:
+        def recorded(holding: Holding) -> tuple[Holding, Request | None]:
             self._check(id, holding)
             return holding, holding.work
 
         request = self._store.update(id, recorded)
-        work = None if request is None else work_of(request.kind, self.mode(request.service, request.plan))
+        work = (
+            None
+            if request is None
+            else work_of(request.kind, self.mode(request.service, request.plan))
+        )
         if request is not None and work is not None:
             self._work(Task(work, request, None, True))
 
-    def running(self) -> Dict[Id, BrokerRow]:
+    def running(self) -> dict[Id, BrokerRow]:
         """The instances on which an operation runs, with what is held of them: each goes on until `finish`."""
-        rows = {id: self._store.update(id, lambda holding: (holding, holding.row)) for id in self._store.unfinished()}
-        return {id: row for id, row in rows.items() if row is not None and row.phase in (Phase.MAKING, Phase.DELETING)}
+        rows = {
+            id: self._store.update(id, lambda holding: (holding, holding.row))
+            for id in self._store.unfinished()
+        }
+        return {
+            id: row
+            for id, row in rows.items()
+            if row is not None and row.phase in (Phase.MAKING, Phase.DELETING)
+        }
 
-    def _begin(self, holding: Holding, asked: Asked) -> Tuple[Holding, Tuple[Request, Union[Answer, Work]]]:
+    def _begin(
+        self, holding: Holding, asked: Asked
+    ) -> tuple[Holding, tuple[Request, Answer | Work]]:
         self._check(asked.id, holding)
         row = holding.row
         request = asked.request(None if row is None else (row.service, row.plan))
@@ -167,7 +198,7 @@ class BrokerService:
     def _work(self, task: Task) -> Answer:
         outcome, request = Outcome(self._worker.work(task)), task.request
 
-        def ended(holding: Holding) -> Tuple[Holding, Answer]:
+        def ended(holding: Holding) -> tuple[Holding, Answer]:
             self._check(request.id, holding)
             if holding.work != request:
                 raise LostWork(f"the work of {request.id} was ended by another")

@@ -2,21 +2,21 @@
 from __future__ import annotations
 
 import threading
-from typing import Callable, Dict, List, Optional, Protocol, Tuple, TypeVar
+from typing import Callable, Protocol, TypeVar
 
 from osb.holding import Holding
 from osb.ids import Id
 from osb.sqlite import Path, transaction
 
 T = TypeVar("T")
-Change = Callable[[Holding], Tuple[Holding, T]]
+Change = Callable[[Holding], tuple[Holding, T]]
 """Takes what is held of an instance, and gives what is to be held from then on, and what `update` returns."""
 
 
 class Store(Protocol):
     """Where a broker keeps a row for each instance: its id, and the text of its holding. No row is ever deleted."""
 
-    def update(self, id: Id, change: Callable[[Holding], Tuple[Holding, T]]) -> T:
+    def update(self, id: Id, change: Callable[[Holding], tuple[Holding, T]]) -> T:
         """Changes what is held of an instance, in one transaction that locks its row.
 
         Hands what is held, `Holding.NONE` where there is no row, to `change`; writes the holding that it gives where it
@@ -26,7 +26,7 @@ class Store(Protocol):
         """
         ...
 
-    def unfinished(self) -> List[Id]:
+    def unfinished(self) -> list[Id]:
         """The instances whose holding `is_unfinished`."""
         ...
 
@@ -36,15 +36,15 @@ class MemoryStore:
 
     def __init__(self) -> None:
         self._lock = threading.Lock()
-        self._held: Dict[Id, Holding] = {}
+        self._held: dict[Id, Holding] = {}
 
-    def update(self, id: Id, change: Callable[[Holding], Tuple[Holding, T]]) -> T:
+    def update(self, id: Id, change: Callable[[Holding], tuple[Holding, T]]) -> T:
         """As `Store` says."""
         with self._lock:
             self._held[id], given = change(self._held.get(id, Holding.NONE))
             return given
 
-    def unfinished(self) -> List[Id]:
+    def unfinished(self) -> list[Id]:
         """As `Store` says."""
         with self._lock:
             return [id for id, holding in self._held.items() if holding.is_unfinished]
@@ -61,12 +61,14 @@ class SqliteStore:
                 "CREATE TABLE IF NOT EXISTS holdings (id TEXT PRIMARY KEY, holding TEXT NOT NULL, "
                 "unfinished INTEGER NOT NULL) WITHOUT ROWID"
             )
-            database.execute("CREATE INDEX IF NOT EXISTS unfinished_holdings ON holdings (id) WHERE unfinished")
+            database.execute(
+                "CREATE INDEX IF NOT EXISTS unfinished_holdings ON holdings (id) WHERE unfinished"
+            )
 
-    def update(self, id: Id, change: Callable[[Holding], Tuple[Holding, T]]) -> T:
+    def update(self, id: Id, change: Callable[[Holding], tuple[Holding, T]]) -> T:
         """As `Store` says."""
         with transaction(self._path, self._seconds) as database:
-            found: Optional[Tuple[str]] = database.execute(
+            found: tuple[str] | None = database.execute(
                 "SELECT holding FROM holdings WHERE id = ?", [str(id)]
             ).fetchone()
             held = Holding.NONE if found is None else Holding.from_text(found[0])
@@ -79,7 +81,12 @@ class SqliteStore:
                 )
             return given
 
-    def unfinished(self) -> List[Id]:
+    def unfinished(self) -> list[Id]:
         """As `Store` says."""
         with transaction(self._path, self._seconds) as database:
-            return [Id.of(text) for (text,) in database.execute("SELECT id FROM holdings WHERE unfinished ORDER BY id")]
+            return [
+                Id.of(text)
+                for (text,) in database.execute(
+                    "SELECT id FROM holdings WHERE unfinished ORDER BY id"
+                )
+            ]

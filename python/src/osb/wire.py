@@ -7,7 +7,6 @@ from __future__ import annotations
 
 import ctypes as c
 from dataclasses import dataclass
-from typing import List, Optional, Tuple
 
 from osb._crossing import answer_from, answer_to, id_from, id_to, plan_from, request_from, request_to
 from osb._lib import lib
@@ -43,24 +42,28 @@ __all__ = [
 # ---- The platform's side.
 
 
-def read_answer(kind: Kind, status: int, body: bytes) -> Optional[Answer]:
+def read_answer(kind: Kind, status: int, body: bytes) -> Answer | None:
     """What a platform takes from a response to a request of the kind, from its status and all of its body. None where
     it isn't surely the broker's: a timeout is taken in its place.
     """
     answer = CAnswer()
-    done = lib.osb_read_answer(Kind(kind).value, _status(status), body, len(body), answer)
+    done = lib.osb_read_answer(
+        Kind(kind).value, _status(status), body, len(body), answer
+    )
     if done == Status.NO_ANSWER:
         return None
     check(done)
     return answer_from(answer)
 
 
-def read_operation(body: bytes) -> Optional[str]:
+def read_operation(body: bytes) -> str | None:
     """The operation that a broker names in the body of an accepted request, which a platform sends back in its Polls.
     None where it names none.
     """
     status, text = written(
-        lambda buffer, length, needed: int(lib.osb_read_operation(body, len(body), buffer, length, needed))
+        lambda buffer, length, needed: int(
+            lib.osb_read_operation(body, len(body), buffer, length, needed)
+        )
     )
     return _operation(status, text)
 
@@ -68,11 +71,15 @@ def read_operation(body: bytes) -> Optional[str]:
 def write_method(kind: Kind) -> str:
     """The method of a request of the kind: PUT, GET or DELETE."""
     return text_of(
-        lambda buffer, length, needed: int(lib.osb_write_method(Kind(kind).value, buffer, length, needed))
+        lambda buffer, length, needed: int(
+            lib.osb_write_method(Kind(kind).value, buffer, length, needed)
+        )
     ).decode()
 
 
-def write_target(request: Request, operation: Optional[str] = None, prefix: str = "") -> str:
+def write_target(
+    request: Request, operation: str | None = None, prefix: str = ""
+) -> str:
     """The target of a request: the path, which begins with the prefix (what the broker's URL has before /v2, with no
     `?`), and the query. The operation is the broker's; give one to a Poll alone. Raises NOT_UTF8.
     """
@@ -80,23 +87,39 @@ def write_target(request: Request, operation: Optional[str] = None, prefix: str 
     return text_of(
         lambda buffer, length, needed: int(
             lib.osb_write_target(
-                front, len(front), given, operation is not None, named, len(named), buffer, length, needed
+                front,
+                len(front),
+                given,
+                operation is not None,
+                named,
+                len(named),
+                buffer,
+                length,
+                needed,
             )
         )
     ).decode()
 
 
-def write_body(request: Request, organization: str, space: str, further: str = "{}") -> bytes:
+def write_body(
+    request: Request, organization: str, space: str, further: str = "{}"
+) -> bytes:
     """The body of a request: of a Provision an object of the ids, the organization and the space, neither of which may
     be empty, and the members of `further`, the text of an object, as context, parameters or maintenance_info; else an
     empty text. Raises NOT_UTF8, NOT_JSON, NOT_AN_OBJECT.
     """
-    given, texts = request_to(request), [utf8(it) for it in (organization, space, further)]
+    given, texts = request_to(request), [
+        utf8(it) for it in (organization, space, further)
+    ]
     lengths = [part for text in texts for part in (text, len(text))]
-    return text_of(lambda buffer, length, needed: int(lib.osb_write_body(given, *lengths, buffer, length, needed)))
+    return text_of(
+        lambda buffer, length, needed: int(
+            lib.osb_write_body(given, *lengths, buffer, length, needed)
+        )
+    )
 
 
-def retry_after(value: str) -> Optional[int]:
+def retry_after(value: str) -> int | None:
     """The seconds that a broker names in the header Retry-After, or None."""
     given, seconds = utf8(value), c.c_uint64(0)
     status = lib.osb_retry_after(given, len(given), seconds)
@@ -116,10 +139,10 @@ class Asked:
     kind: Kind
     accepts_incomplete: bool
     id: Id
-    service: Optional[Id]
-    plan: Optional[Id]
+    service: Id | None
+    plan: Id | None
 
-    def request(self, held: Optional[Tuple[Id, Id]]) -> Request:
+    def request(self, held: tuple[Id, Id] | None) -> Request:
         """The request for a broker, with the service and the plan that are held, or None: they stand in the place of
         those that a Poll lacks. Raises BAD_ASKED where this is nothing that `read_request` gives.
         """
@@ -135,11 +158,17 @@ class Asked:
         )
         service, plan = held or (nothing, nothing)
         request = CRequest()
-        check(lib.osb_asked_request(asked, held is not None, id_to(service), id_to(plan), request))
+        check(
+            lib.osb_asked_request(
+                asked, held is not None, id_to(service), id_to(plan), request
+            )
+        )
         return request_from(request)
 
 
-def read_request(method: str, target: bytes, body: bytes, longest_body: int, prefix: str = "") -> Asked:
+def read_request(
+    method: str, target: bytes, body: bytes, longest_body: int, prefix: str = ""
+) -> Asked:
     """Reads what a request asks of a broker, from its method, its target (path and query, as the request line has them)
     and all of its body. A body of more than `longest_body` bytes is refused unread. Raises `Refusal`, the first that
     fits in the order of docs/wire.md, and NOT_UTF8.
@@ -147,7 +176,16 @@ def read_request(method: str, target: bytes, body: bytes, longest_body: int, pre
     front, way, asked = utf8(prefix), utf8(method), CAsked()
     check(
         lib.osb_read_request(
-            front, len(front), longest_body, way, len(way), target, len(target), body, len(body), asked
+            front,
+            len(front),
+            longest_body,
+            way,
+            len(way),
+            target,
+            len(target),
+            body,
+            len(body),
+            asked,
         )
     )
     return Asked(
@@ -159,25 +197,29 @@ def read_request(method: str, target: bytes, body: bytes, longest_body: int, pre
     )
 
 
-def asked_operation(target: bytes) -> Optional[str]:
+def asked_operation(target: bytes) -> str | None:
     """The operation that the target of a Poll names, or None. Raises `Refusal`: it stands twice."""
     status, text = written(
-        lambda buffer, length, needed: int(lib.osb_asked_operation(target, len(target), buffer, length, needed))
+        lambda buffer, length, needed: int(
+            lib.osb_asked_operation(target, len(target), buffer, length, needed)
+        )
     )
     return _operation(status, text)
 
 
-def write_answer(answer: Answer, operation: Optional[str] = None) -> bytes:
+def write_answer(answer: Answer, operation: str | None = None) -> bytes:
     """The body of an answer. The operation is written in a 202 alone. Raises NOT_UTF8."""
     given, named = answer_to(answer), utf8(operation or "")
     return text_of(
         lambda buffer, length, needed: int(
-            lib.osb_write_answer(given, operation is not None, named, len(named), buffer, length, needed)
+            lib.osb_write_answer(
+                given, operation is not None, named, len(named), buffer, length, needed
+            )
         )
     )
 
 
-def api_version(value: Optional[str]) -> None:
+def api_version(value: str | None) -> None:
     """Judges the version that a platform names in the header X-Broker-API-Version, None where a request has no such
     header: 2.x, whichever. Raises `Refusal` of every other.
     """
@@ -185,13 +227,17 @@ def api_version(value: Optional[str]) -> None:
     check(lib.osb_api_version(value is not None, given, len(given)))
 
 
-def basic_auth(value: Optional[str], user: str, password: str) -> bool:
+def basic_auth(value: str | None, user: str, password: str) -> bool:
     """Whether the header Authorization, None where a request has no such header, names this user and this password, by
     HTTP's Basic scheme. Raises NOT_UTF8.
     """
     if value is None:
         return False
-    given = [part for text in (value, user, password) for part in (utf8(text), len(utf8(text)))]
+    given = [
+        part
+        for text in (value, user, password)
+        for part in (utf8(text), len(utf8(text)))
+    ]
     status = lib.osb_basic_auth(*given)
     if status == Status.UNAUTHORIZED:
         return False
@@ -199,16 +245,20 @@ def basic_auth(value: Optional[str], user: str, password: str) -> bool:
     return True
 
 
-def catalogue_plans(document: bytes) -> List[Plan]:
+def catalogue_plans(document: bytes) -> list[Plan]:
     """The plans that a catalogue's document names, as a broker answers it to GET /v2/catalog, in ascending order of
     service and plan; a plan is asynchronous where its member `asynchronous` is true. Raises NOT_JSON, NO_SERVICES,
     BAD_SERVICE, NO_PLANS, BAD_PLAN, BAD_PLAN_MODE, PLAN_TWICE.
     """
     needed, buffer = c.c_size_t(0), (CPlan * 16)()
-    status = lib.osb_catalogue_plans(document, len(document), buffer, len(buffer), needed)
+    status = lib.osb_catalogue_plans(
+        document, len(document), buffer, len(buffer), needed
+    )
     if status == Status.TOO_SMALL:
         buffer = (CPlan * needed.value)()
-        status = lib.osb_catalogue_plans(document, len(document), buffer, len(buffer), needed)
+        status = lib.osb_catalogue_plans(
+            document, len(document), buffer, len(buffer), needed
+        )
     check(status)
     return [plan_from(it) for it in buffer[: needed.value]]
 
@@ -219,12 +269,12 @@ def _status(status: int) -> int:
     return status
 
 
-def _operation(status: int, text: bytes) -> Optional[str]:
+def _operation(status: int, text: bytes) -> str | None:
     if status == Status.NO_OPERATION:
         return None
     check(status)
     return text.decode()
 
 
-def _id_if(is_there: bool, id: CId) -> Optional[Id]:
+def _id_if(is_there: bool, id: CId) -> Id | None:
     return id_from(id) if is_there else None

@@ -1,0 +1,65 @@
+# The tasks of a contributor. Each is a command that can be run by itself, too: `make -n TASK` prints it.
+SHELL := /usr/bin/bash
+.SHELLFLAGS := -euo pipefail -c
+MAKEFLAGS += --no-builtin-rules --output-sync=target --jobs=$(shell nproc)
+PYTHON = $(or $(shell . scripts/python.sh && python_with pytest,xdist),/usr/bin/python3)
+FAST = not slow and not postgres and not browser and not alone
+LIBRARY = $${LIBOSB_FOLDER:-$$(scripts/where library)}
+# Debian has staticcheck as sources only (golang-honnef-go-tools-dev). The first `make quick` builds it, in half a minute.
+STATICCHECK = $(CURDIR)/build/staticcheck
+
+.PHONY: help quick test check one prebuilt format
+.PHONY: quick-format quick-lint quick-shell quick-go quick-types quick-tests
+
+help: ## print this list
+	@awk -F ':.*## ' '/^[a-z]+:.*## / { printf "make %-10s %s\n", $$1, $$2 }' $(MAKEFILE_LIST)
+
+quick: quick-format quick-lint quick-shell quick-go quick-types quick-tests ## format, lint, types, and tests that start no process: under a minute
+
+test: ## everything but the proofs, over the prebuilt library: some minutes
+	scripts/run_tests
+
+check: ## everything from nothing, proofs included: hours
+	./check
+
+one: ## one test by its name or file: make one T=test_locks, make one T=... A="-x --pdb"
+	@[ -n "$(T)" ] || { echo 'usage: make one T=NAME or T=FILE[::TEST] [A="arguments of pytest"]' >&2; exit 2; }
+	$(PYTHON) -m pytest -v $(if $(findstring .py,$(T)),'$(T)',-k '$(T)') $(A)
+
+prebuilt: ## prove and build the library and osb-replay, and write prebuilt/
+	scripts/prebuilt
+
+format: ## format all Python, bash and Go
+	scripts/files python | xargs black -q
+	scripts/files python | xargs isort -q
+	scripts/files bash | xargs shfmt -w -i 4 -ci
+	gofmt -w go examples/go
+
+quick-format:
+	scripts/files python | xargs black -q --check
+	scripts/files python | xargs isort -q --check
+	scripts/files bash | xargs shfmt -d -i 4 -ci
+	[ -z "$$(gofmt -l go examples/go | tee /dev/stderr)" ]
+
+quick-lint:
+	scripts/files python | xargs flake8
+
+quick-shell:
+	scripts/files bash | xargs shellcheck
+
+quick-go: $(if $(wildcard /usr/share/gocode/src/honnef.co/go/tools/cmd/staticcheck),$(STATICCHECK))
+	export PKG_CONFIG_PATH="$(LIBRARY)" LD_LIBRARY_PATH="$(LIBRARY)" GOFLAGS='-mod=readonly -buildvcs=false' GOPROXY=off
+	for module in go examples/go; do
+	    (cd $$module && go vet ./... && if [ -x $(STATICCHECK) ]; then $(STATICCHECK) ./...; fi)
+	done
+
+quick-types:
+	scripts/files python | xargs mypy --scripts-are-modules
+
+quick-tests:
+	$(PYTHON) -m pytest -q -n 4 -m '$(FAST)'
+
+$(STATICCHECK):
+	GO111MODULE=off GOFLAGS= GOPATH=/usr/share/gocode go build -o $@ honnef.co/go/tools/cmd/staticcheck
+
+.ONESHELL:

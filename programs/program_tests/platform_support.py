@@ -1,0 +1,120 @@
+"""What the platform's tests share: a table, a far end that says what it is told to, and the program as a process."""
+from __future__ import annotations
+
+import contextlib
+import os
+import subprocess
+import threading
+from http.server import BaseHTTPRequestHandler, ThreadingHTTPServer
+from pathlib import Path
+from typing import Iterator, NamedTuple
+
+from osb.client import Client
+from osb_platform.instances import Instance, Instances
+from osb_platform.pace import Pace
+from osb_platform.plans import Longest
+from osb_platform.sqlite_database import SqliteDatabase
+from osb_platform.steps import Parts
+from program_tests.broker_support import TOP
+
+WORKER = "a-worker"
+
+
+class Said(NamedTuple):
+    """What the far end says."""
+
+    status: int
+    body: bytes = b"{}"
+    headers: tuple[tuple[str, str], ...] = ()
+
+
+class FarEnd:
+    """A broker that says one thing after another, and then 503; and its catalogue when it is asked for that."""
+
+    def __init__(self, url: str, said: list[Said]) -> None:
+        self.url, self.said = url, said
+        self.catalogue = Said(200, b'{"services":[]}')
+        self.came: list[str] = []
+        """The method and the target of each request but those for the catalogue."""
+
+    def answer(self, method: str, target: str) -> Said:
+        """What it says now."""
+        if target == "/v2/catalog":
+            return self.catalogue
+        self.came.append(f"{method} {target}")
+        return self.said.pop(0) if self.said else Said(503)
+
+
+@contextlib.contextmanager
+def far_end(*said: Said) -> Iterator[FarEnd]:
+    """A far end that says these, in turn."""
+
+    class Handler(BaseHTTPRequestHandler):
+        def do_GET(self) -> None:
+            self.rfile.read(int(self.headers.get("Content-Length", "0")))
+            now = end.answer(self.command, self.path)
+            self.send_response(now.status)
+            self.send_header("Content-Length", str(len(now.body)))
+            for name, value in now.headers:
+                self.send_header(name, value)
+            self.end_headers()
+            self.wfile.write(now.body)
+
+        do_PUT = do_DELETE = do_GET
+
+        def log_message(self, *_: object) -> None:
+            pass
+
+    server = ThreadingHTTPServer(("127.0.0.1", 0), Handler)
+    end = FarEnd(f"http://127.0.0.1:{server.server_address[1]}", list(said))
+    serving = threading.Thread(target=server.serve_forever, args=[0.01])
+    serving.start()
+    try:
+        yield end
+    finally:
+        server.shutdown()
+        serving.join()
+        server.server_close()
+
+
+class Clock(SqliteDatabase):
+    """A table in SQLite whose time is the test's."""
+
+    time = 1000.0
+
+    def now(self) -> float:
+        return self.time
+
+
+def parts(
+    url: str,
+    instances: Instances,
+    pace: Pace = Pace(1.0, 8.0, 0.0),
+    longest: float = 100.0,
+    tell: list[Instance] | None = None,
+) -> Parts:
+    client = Client(url, "platform", "secret", instances, organization="o", space="s", seconds=5)
+    told: list[Instance] = [] if tell is None else tell
+    return Parts(client, instances, WORKER, pace, Longest(longest, {}), told.append)
+
+
+def platform(folder: Path, *words: str, password: str = "secret", **environment: str) -> subprocess.Popen[str]:
+    """The program over a table in the folder, as a process."""
+    command, *rest = words
+    store = [] if "--store" in words else ["--store", str(folder / "instances.sqlite")]
+    given: dict[str, str] = {**os.environ, "OSB_PLATFORM_PASSWORD": password, **environment}
+    return subprocess.Popen(
+        [str(TOP / "osb-platform"), command, *store, *rest],
+        env=given,
+        text=True,
+        stdin=subprocess.DEVNULL,
+        stdout=subprocess.PIPE,
+        stderr=subprocess.PIPE,
+    )
+
+
+def ran(folder: Path, *words: str, password: str = "secret", **environment: str) -> tuple[int, str, str]:
+    """Its status, and what it says on standard output and on standard error."""
+    process = platform(folder, *words, password=password, **environment)
+    out, err = process.communicate(timeout=60)
+    return process.returncode, out, err

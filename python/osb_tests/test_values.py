@@ -1,0 +1,452 @@
+"""A record and a holding as values: the tables and the texts of docs/instance.md."""
+from __future__ import annotations
+
+import unittest
+from typing import Callable
+
+from osb import (
+    Answer,
+    Body,
+    BrokerRow,
+    Holding,
+    Id,
+    Kind,
+    Mode,
+    OsbError,
+    Outcome,
+    Phase,
+    PlatformRow,
+    Record,
+    State,
+    Status,
+    Work,
+    work_of,
+)
+from osb_tests.support import ASYNC, ONE, SERVICE, SYNC, TWO, request
+
+PROVISION, POLL, DEPROVISION = Kind.PROVISION, Kind.POLL, Kind.DEPROVISION
+
+
+def status_of(call: Callable[[], object]) -> Status | None:
+    try:
+        call()
+    except OsbError as error:
+        return error.status
+    return None
+
+
+def record(state: State, out: Kind | None = None, attempt: int = 1) -> Record:
+    return Record(SERVICE, SYNC, attempt, state, out)
+
+
+def row(phase: Phase, plan: Id = ASYNC) -> BrokerRow:
+    return BrokerRow(SERVICE, plan, phase)
+
+
+class Ids(unittest.TestCase):
+    def test_text(self) -> None:
+        text = "12345678-9abc-def0-1234-56789abcdef0"
+        self.assertEqual(
+            Id.of(text.upper()), Id(0x123456789ABCDEF0, 0x123456789ABCDEF0)
+        )
+        self.assertEqual(str(Id.of(text.upper())), text)
+        self.assertEqual(eval(repr(Id.of(text))), Id.of(text))
+        self.assertEqual(len({Id.of(text), Id.of(text.upper()), ONE}), 2)
+        self.assertLess(ONE, TWO)
+
+    def test_others(self) -> None:
+        for text in (
+            "",
+            "1",
+            "{12345678-9abc-def0-1234-56789abcdef0}",
+            "12345678-9abc-def0-1234-56789abcdeg0",
+            "\ud800",
+        ):
+            self.assertEqual(status_of(lambda: Id.of(text)), Status.NOT_AN_ID, text)
+        for high, low in ((-1, 0), (0, 2**64)):
+            self.assertRaises(ValueError, Id, high, low)
+
+    def test_new(self) -> None:
+        made = {Id.new() for _ in range(100)}
+        self.assertEqual(len(made), 100)
+        for text in map(str, made):
+            self.assertEqual((text[14], text[19] in "89ab"), ("4", True), text)
+
+
+class Names(unittest.TestCase):
+    def test_shown(self) -> None:
+        """By `print` and in f-strings, alike in every Python; a number is what it was."""
+        for it, name in (
+            (State.READY, "ready"),
+            (State.CLEANING_POLLING, "cleaning-polling"),
+            (Kind.POLL, "poll"),
+            (Phase.DELETE_FAILED, "delete-failed"),
+            (Status.NOT_UTF8, "not-utf8"),
+            (Mode.SYNC, "sync"),
+            (Body.EMPTY, "empty"),
+            (Outcome.AFTER, "after"),
+            (Work.START_MAKING, "start-making"),
+        ):
+            self.assertEqual(
+                (str(it), f"{it}", f"{it:>20}"), (name, name, name.rjust(20))
+            )
+        self.assertEqual(
+            (int(State.READY), State(2), f"{State.READY.value:02}"),
+            (2, State.READY, "02"),
+        )
+
+
+class Records(unittest.TestCase):
+    def test_create(self) -> None:
+        made, asked = Record.create(ONE, SERVICE, SYNC, False)
+        self.assertEqual(made, record(State.WANTED, PROVISION, 1))
+        self.assertEqual(asked, request(PROVISION, accepts=False))
+
+    def test_send(self) -> None:
+        for state, kind in (
+            (State.POLLING, POLL),
+            (State.CLEANING_POLLING, POLL),
+            (State.CLEANING, DEPROVISION),
+        ):
+            self.assertEqual(
+                record(state, attempt=4).send(ONE),
+                (record(state, kind, 5), request(kind)),
+                state,
+            )
+            self.assertEqual(
+                status_of(lambda: record(state, kind).send(ONE)), Status.BUSY, state
+            )
+        for state in (State.READY, State.GONE, State.UNSETTLED):
+            self.assertEqual(
+                status_of(lambda: record(state).send(ONE)), Status.NOTHING_DUE, state
+            )
+        last = record(State.CLEANING, attempt=2**64 - 1)
+        self.assertEqual(status_of(lambda: last.send(ONE)), Status.ATTEMPTS_USED_UP)
+
+    def test_answer(self) -> None:
+        wanted, polling = record(State.WANTED, PROVISION, 1), record(
+            State.POLLING, POLL, 2
+        )
+        cleaning = record(State.CLEANING, DEPROVISION, 3)
+        for before, status, body, after in (
+            (wanted, 201, Body.EMPTY, State.READY),
+            (wanted, 202, Body.EMPTY, State.POLLING),
+            (wanted, 409, Body.OTHER_ERROR, State.UNSETTLED),
+            (wanted, 400, Body.OTHER_ERROR, State.GONE),
+            (wanted, 500, Body.OTHER_ERROR, State.CLEANING),
+            (polling, 200, Body.SUCCEEDED, State.READY),
+            (polling, 200, Body.FAILED, State.CLEANING),
+            (polling, 410, Body.EMPTY, State.POLLING),
+            (cleaning, 410, Body.MALFORMED, State.GONE),
+            (cleaning, 202, Body.EMPTY, State.CLEANING_POLLING),
+        ):
+            taken = before.answer(before.attempt, Answer(status, body))
+            self.assertEqual(
+                taken, record(after, None, before.attempt), (before, status)
+            )
+
+    def test_numbers(self) -> None:
+        """An answer and a timeout are of the request in flight alone."""
+        polling = record(State.POLLING, POLL, 2)
+        for it, attempt in (
+            (polling, 1),
+            (polling, 3),
+            (record(State.POLLING, None, 2), 2),
+        ):
+            said = Answer(200, Body.SUCCEEDED)
+            self.assertEqual(
+                status_of(lambda: it.answer(attempt, said)), Status.NOT_IN_FLIGHT, it
+            )
+            self.assertEqual(
+                status_of(lambda: it.timeout(attempt)), Status.NOT_IN_FLIGHT, it
+            )
+        self.assertRaises(ValueError, polling.timeout, 2**64 + 2)
+
+    def test_timeout(self) -> None:
+        self.assertEqual(
+            record(State.WANTED, PROVISION, 1).timeout(1),
+            record(State.CLEANING, None, 1),
+        )
+        self.assertEqual(
+            record(State.POLLING, POLL, 2).timeout(2), record(State.POLLING, None, 2)
+        )
+
+    def test_expire_and_remove(self) -> None:
+        self.assertEqual(record(State.POLLING).expire(), record(State.CLEANING))
+        for state in (State.POLLING, State.READY, State.UNSETTLED):
+            self.assertEqual(record(state).remove(), record(State.CLEANING), state)
+        self.assertEqual(status_of(record(State.READY).expire), Status.NOT_POLLING)
+        self.assertEqual(status_of(record(State.GONE).remove), Status.NOT_REMOVABLE)
+        self.assertEqual(status_of(record(State.POLLING, POLL).expire), Status.BUSY)
+        self.assertEqual(status_of(record(State.POLLING, POLL).remove), Status.BUSY)
+
+    def test_from_platform_row(self) -> None:
+        for before, after in (
+            (State.WANTED, State.CLEANING),
+            (State.READY, State.READY),
+        ):
+            out = PROVISION if before == State.WANTED else None
+            made = Record.from_platform_row(PlatformRow(SERVICE, SYNC, before, out))
+            self.assertEqual(made, record(after, None, 0))
+
+    def test_values_that_no_call_gives(self) -> None:
+        for it in (
+            record(State.WANTED),
+            record(State.READY, POLL),
+            record(State.CLEANING, DEPROVISION, 0),
+        ):
+            for call in (it.to_text, it.expire, it.remove, lambda: it.send(ONE)):
+                self.assertEqual(status_of(call), Status.BAD_RECORD, it)
+
+
+RECORD = (
+    '{"attempt":1,"out":"provision","plan":"00000000-0000-0000-0000-0000000000b1",'
+    '"service":"00000000-0000-0000-0000-0000000000a0","state":"wanted","version":1}'
+)
+HOLDINGS = [
+    (
+        '{"marked":false,"row":null,"version":1,"work":{"accepts_incomplete":true,'
+        '"id":"00000000-0000-0000-0000-000000000001","kind":"provision","plan":"00000000-0000-0000-0000-0000000000b1",'
+        '"service":"00000000-0000-0000-0000-0000000000a0"}}',
+        Holding(work=request(PROVISION)),
+    ),
+    (
+        '{"marked":false,"row":{"phase":"ready","plan":"00000000-0000-0000-0000-0000000000b1",'
+        '"service":"00000000-0000-0000-0000-0000000000a0"},"version":1,"work":null}',
+        Holding(row(Phase.READY, SYNC)),
+    ),
+    ('{"marked":true,"row":null,"version":1,"work":null}', Holding(is_marked=True)),
+    ('{"marked":false,"row":null,"version":1,"work":null}', Holding.NONE),
+]
+
+
+class Texts(unittest.TestCase):
+    def test_record(self) -> None:
+        made = record(State.WANTED, PROVISION, 1)
+        self.assertEqual(made.to_text(), RECORD)
+        self.assertEqual(Record.from_text(RECORD.replace(",", " ,\n ")), made)
+
+    def test_holdings(self) -> None:
+        for text, holding in HOLDINGS:
+            self.assertEqual(holding.to_text(), text)
+            self.assertEqual(Holding.from_text(text), holding)
+
+    def test_faults(self) -> None:
+        marked = HOLDINGS[2][0]
+        for text, fault in (
+            ("", Status.NOT_JSON),
+            ("[]", Status.NOT_AN_OBJECT),
+            ("{}", Status.BAD_VERSION),
+            (RECORD.replace(":1}", ":1.0}"), Status.BAD_VERSION),
+            (marked, Status.BAD_OUTER),
+            (RECORD.replace("wanted", "done"), Status.BAD_MEMBER),
+            (RECORD.replace(":1,", ":-1,"), Status.BAD_MEMBER),
+            (RECORD.replace(":1,", ":2,"), Status.IMPOSSIBLE),
+            (RECORD.replace('"provision"', "null"), Status.IMPOSSIBLE),
+            ("\ud800", Status.NOT_UTF8),
+        ):
+            self.assertEqual(status_of(lambda: Record.from_text(text)), fault, text)
+        both = HOLDINGS[1][0].replace("false", "true")
+        for text, fault in (
+            (both, Status.IMPOSSIBLE),
+            (RECORD, Status.BAD_OUTER),
+            (marked[:-1], Status.NOT_JSON),
+        ):
+            self.assertEqual(status_of(lambda: Holding.from_text(text)), fault, text)
+
+
+def holding_with_work(kind: Kind, plan: Id = SYNC) -> Holding:
+    held = row(Phase.READY, plan) if kind == DEPROVISION else None
+    return Holding(held, request(kind, plan))
+
+
+class Holdings(unittest.TestCase):
+    def begins(
+        self,
+        holding: Holding,
+        mode: Mode | None,
+        kind: Kind,
+        plan: Id,
+        said: object,
+        after: Holding,
+    ) -> None:
+        self.assertEqual(
+            holding.begin(mode, request(kind, plan)), (after, said), (holding, kind)
+        )
+
+    def test_busy(self) -> None:
+        for held in (holding_with_work(PROVISION), holding_with_work(DEPROVISION)):
+            for kind, said in (
+                (PROVISION, Answer(503, Body.OTHER_ERROR)),
+                (POLL, Answer(200, Body.IN_PROGRESS)),
+                (DEPROVISION, Answer(422, Body.CONCURRENCY_ERROR)),
+            ):
+                self.begins(held, Mode.SYNC, kind, SYNC, said, held)
+
+    def test_marked(self) -> None:
+        marked = Holding(is_marked=True)
+        for kind, said in (
+            (PROVISION, Answer(409, Body.OTHER_ERROR)),
+            (DEPROVISION, Answer(410, Body.OTHER_ERROR)),
+            (POLL, Answer(410, Body.OTHER_ERROR)),
+        ):
+            self.begins(marked, Mode.SYNC, kind, SYNC, said, marked)
+
+    def test_work(self) -> None:
+        for mode, plan, making, deleting in (
+            (Mode.SYNC, SYNC, Work.MAKE, Work.DELETE),
+            (Mode.ASYNC, ASYNC, Work.START_MAKING, Work.START_DELETING),
+        ):
+            self.begins(
+                Holding.NONE,
+                mode,
+                PROVISION,
+                plan,
+                making,
+                Holding(work=request(PROVISION, plan)),
+            )
+            ready = Holding(row(Phase.READY, plan))
+            self.begins(
+                ready,
+                mode,
+                DEPROVISION,
+                plan,
+                deleting,
+                Holding(ready.row, request(DEPROVISION, plan)),
+            )
+            self.assertEqual(
+                (work_of(PROVISION, mode), work_of(DEPROVISION, mode)),
+                (making, deleting),
+            )
+        self.assertEqual(
+            (work_of(POLL, Mode.SYNC), work_of(PROVISION, None)), (None, None)
+        )
+
+    def test_answered(self) -> None:
+        ready = Holding(row(Phase.READY, SYNC))
+        self.begins(
+            Holding.NONE,
+            Mode.SYNC,
+            DEPROVISION,
+            SYNC,
+            Answer(410, Body.OTHER_ERROR),
+            Holding(is_marked=True),
+        )
+        self.begins(
+            Holding.NONE,
+            None,
+            PROVISION,
+            SYNC,
+            Answer(400, Body.OTHER_ERROR),
+            Holding.NONE,
+        )
+        self.begins(ready, Mode.SYNC, PROVISION, SYNC, Answer(200, Body.EMPTY), ready)
+        self.begins(ready, Mode.SYNC, POLL, SYNC, Answer(200, Body.SUCCEEDED), ready)
+        unwilling = request(PROVISION, ASYNC, accepts=False)
+        self.assertEqual(
+            Holding.NONE.begin(Mode.ASYNC, unwilling),
+            (Holding.NONE, Answer(422, Body.ASYNC_REQUIRED)),
+        )
+
+    def test_end(self) -> None:
+        done, before, after = Outcome.DONE, Outcome.BEFORE, Outcome.AFTER
+        failed, marked = Answer(500, Body.OTHER_ERROR), Holding(is_marked=True)
+        table: tuple[tuple[Mode, Kind, Outcome, Answer, Holding], ...] = (
+            (
+                Mode.SYNC,
+                PROVISION,
+                done,
+                Answer(201, Body.EMPTY),
+                Holding(row(Phase.READY, SYNC)),
+            ),
+            (
+                Mode.ASYNC,
+                PROVISION,
+                done,
+                Answer(202, Body.EMPTY),
+                Holding(row(Phase.MAKING)),
+            ),
+            (Mode.SYNC, PROVISION, after, failed, Holding(row(Phase.READY, SYNC))),
+            (Mode.ASYNC, PROVISION, after, failed, Holding(row(Phase.MAKING))),
+            (Mode.SYNC, PROVISION, before, failed, Holding.NONE),
+            (Mode.ASYNC, PROVISION, before, failed, Holding.NONE),
+            (Mode.SYNC, DEPROVISION, done, Answer(200, Body.EMPTY), marked),
+            (Mode.SYNC, DEPROVISION, after, failed, marked),
+            (
+                Mode.ASYNC,
+                DEPROVISION,
+                done,
+                Answer(202, Body.EMPTY),
+                Holding(row(Phase.DELETING)),
+            ),
+            (Mode.ASYNC, DEPROVISION, after, failed, Holding(row(Phase.DELETING))),
+            (Mode.SYNC, DEPROVISION, before, failed, Holding(row(Phase.READY, SYNC))),
+            (Mode.ASYNC, DEPROVISION, before, failed, Holding(row(Phase.READY))),
+        )
+        for mode, kind, outcome, answer, left in table:
+            held = holding_with_work(kind, SYNC if mode == Mode.SYNC else ASYNC)
+            self.assertEqual(
+                held.end(mode, outcome), (left, answer), (mode, kind, outcome)
+            )
+        self.assertEqual(
+            status_of(lambda: Holding.NONE.end(Mode.SYNC, done)), Status.NOTHING_BEGUN
+        )
+
+    def test_finish(self) -> None:
+        for phase, ok, after in (
+            (Phase.MAKING, True, Holding(row(Phase.READY))),
+            (Phase.MAKING, False, Holding(row(Phase.FAILED))),
+            (Phase.DELETING, True, Holding(is_marked=True)),
+            (Phase.DELETING, False, Holding(row(Phase.DELETE_FAILED))),
+        ):
+            self.assertEqual(Holding(row(phase)).finish(ok), after, (phase, ok))
+        for held in (
+            Holding.NONE,
+            Holding(is_marked=True),
+            Holding(row(Phase.READY)),
+            holding_with_work(PROVISION),
+        ):
+            self.assertEqual(
+                status_of(lambda: held.finish(True)), Status.NOTHING_RUNNING, held
+            )
+
+    def test_handle(self) -> None:
+        self.assertEqual(
+            Holding.NONE.handle(Mode.SYNC, request(PROVISION), Outcome.DONE),
+            (Holding(row(Phase.READY, SYNC)), Answer(201, Body.EMPTY)),
+        )
+
+    def test_fits(self) -> None:
+        for held, sync, asynchronous, none in (
+            (Holding.NONE, True, True, True),
+            (Holding(row(Phase.READY)), True, True, False),
+            (Holding(row(Phase.MAKING)), False, True, False),
+            (holding_with_work(PROVISION), True, True, False),
+        ):
+            fits = [held.fits(mode) for mode in (Mode.SYNC, Mode.ASYNC, None)]
+            self.assertEqual(fits, [sync, asynchronous, none], held)
+
+    def test_values_that_no_call_gives(self) -> None:
+        for held in (
+            Holding(row(Phase.READY), is_marked=True),
+            Holding(work=request(POLL)),
+        ):
+            for call in (
+                held.to_text,
+                lambda: held.finish(True),
+                lambda: held.begin(Mode.SYNC, request(POLL)),
+            ):
+                self.assertEqual(status_of(call), Status.BAD_HOLDING, held)
+            self.assertFalse(held.fits(Mode.ASYNC), held)
+
+    def test_unfinished(self) -> None:
+        for held, is_it in (
+            (Holding.NONE, False),
+            (Holding(row(Phase.READY)), False),
+            (Holding(row(Phase.FAILED)), False),
+            (Holding(row(Phase.MAKING)), True),
+            (Holding(row(Phase.DELETING)), True),
+            (holding_with_work(PROVISION), True),
+            (holding_with_work(DEPROVISION), True),
+        ):
+            self.assertEqual(held.is_unfinished, is_it, held)

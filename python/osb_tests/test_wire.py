@@ -1,0 +1,359 @@
+"""Requests and answers as HTTP and JSON have them: the tables of docs/wire.md."""
+from __future__ import annotations
+
+import json
+import unittest
+from typing import Callable
+
+from osb import Answer, Body, Id, Kind, OsbError, Plan, Refusal, Request, Status
+from osb.wire import (
+    Asked,
+    api_version,
+    asked_operation,
+    basic_auth,
+    catalogue_plans,
+    read_answer,
+    read_operation,
+    read_request,
+    retry_after,
+    write_answer,
+    write_body,
+    write_method,
+    write_target,
+)
+from osb_tests.support import (
+    ASYNC,
+    CATALOGUE,
+    ONE,
+    PASSWORD,
+    SERVICE,
+    SYNC,
+    USER,
+    authorization,
+    provision_body,
+    request,
+)
+
+PROVISION, POLL, DEPROVISION = Kind.PROVISION, Kind.POLL, Kind.DEPROVISION
+OF_THE_WAY = (401, 403, 404, 405, 407, 408, 412, 413, 414, 415, 429, 431)
+
+
+def refusal_of(call: Callable[[], object]) -> Refusal | None:
+    try:
+        call()
+    except Refusal as refusal:
+        return refusal
+    return None
+
+
+class Responses(unittest.TestCase):
+    def test_read_answer(self) -> None:
+        for kind, status, body, read in (
+            (PROVISION, 201, b"{}", Body.EMPTY),
+            (DEPROVISION, 200, b'{"state":"failed"}', Body.EMPTY),
+            (PROVISION, 202, b"[]", Body.MALFORMED),
+            (POLL, 200, b'{"state":"in progress"}', Body.IN_PROGRESS),
+            (POLL, 200, b'{"state":"succeeded"}', Body.SUCCEEDED),
+            (POLL, 200, b'{"state":"failed"}', Body.FAILED),
+            (POLL, 200, b'{"state":"done"}', Body.EMPTY),
+            (POLL, 200, b"", Body.MALFORMED),
+            (PROVISION, 422, b'{"error":"AsyncRequired"}', Body.ASYNC_REQUIRED),
+            (DEPROVISION, 422, b'{"error":"ConcurrencyError"}', Body.CONCURRENCY_ERROR),
+            (PROVISION, 400, b'{"error":"x"}', Body.OTHER_ERROR),
+            (PROVISION, 500, b'{"a":1}', Body.EMPTY),
+            (PROVISION, 201, b'{"a":1e309}', Body.MALFORMED),
+            (DEPROVISION, 410, b"", Body.MALFORMED),
+        ):
+            self.assertEqual(
+                read_answer(kind, status, body),
+                Answer(status, read),
+                (kind, status, body),
+            )
+
+    def test_not_surely_the_brokers(self) -> None:
+        for status in range(400, 500):
+            self.assertIsNone(read_answer(PROVISION, status, b"<html>"), status)
+            read = read_answer(PROVISION, status, b'{"error":"x"}')
+            self.assertEqual(
+                read,
+                None if status in OF_THE_WAY else Answer(status, Body.OTHER_ERROR),
+                status,
+            )
+        self.assertRaises(ValueError, read_answer, PROVISION, 2**16 + 201, b"{}")
+
+    def test_operation(self) -> None:
+        self.assertEqual(
+            read_operation('{"operation":"making é"}'.encode()), "making é"
+        )
+        self.assertEqual(
+            read_operation(json.dumps({"operation": "x" * 10000}).encode()), "x" * 10000
+        )
+        for body in (
+            b"",
+            b"{}",
+            b'{"operation":1}',
+            json.dumps({"operation": "x" * 10001}).encode(),
+        ):
+            self.assertIsNone(read_operation(body))
+
+    def test_retry_after(self) -> None:
+        self.assertEqual(
+            [retry_after(it) for it in ("0", "120", "18446744073709551615")],
+            [0, 120, 2**64 - 1],
+        )
+        for value in (
+            "",
+            "-1",
+            "1.5",
+            "18446744073709551616",
+            "Wed, 21 Oct 2015 07:28:00 GMT",
+        ):
+            self.assertIsNone(retry_after(value), value)
+
+
+class Requests(unittest.TestCase):
+    def test_write(self) -> None:
+        front = f"/postgres/v2/service_instances/{ONE}"
+        ids = f"service_id={SERVICE}&plan_id={SYNC}"
+        for kind, accepts, operation, method, wanted in (
+            (PROVISION, True, None, "PUT", f"{front}?accepts_incomplete=true"),
+            (PROVISION, False, None, "PUT", front),
+            (
+                POLL,
+                True,
+                "making 1*é",
+                "GET",
+                f"{front}/last_operation?{ids}&accepts_incomplete=true&operation=making+1*%C3%A9",
+            ),
+            (DEPROVISION, False, None, "DELETE", f"{front}?{ids}"),
+        ):
+            asked = request(kind, accepts=accepts)
+            self.assertEqual(
+                (write_method(kind), write_target(asked, operation, "/postgres")),
+                (method, wanted),
+            )
+            if kind != PROVISION:
+                self.assertEqual(write_body(asked, "an organization", "a space"), b"")
+
+    def test_body(self) -> None:
+        further = '{"parameters":{"size":3},"service_id":"mine"}'
+        written = json.loads(
+            write_body(request(PROVISION), 'an "organization"', "a space", further)
+        )
+        self.assertEqual(
+            written,
+            {
+                "service_id": str(SERVICE),
+                "plan_id": str(SYNC),
+                "space_guid": "a space",
+                "organization_guid": 'an "organization"',
+                "parameters": {"size": 3},
+            },
+        )
+        for text, fault in (
+            ("{", Status.NOT_JSON),
+            ("[]", Status.NOT_AN_OBJECT),
+            ('{"a":NaN}', Status.NOT_JSON),
+        ):
+            with self.assertRaises(OsbError) as raised:
+                write_body(request(PROVISION), "an organization", "a space", text)
+            self.assertEqual(raised.exception.status, fault, text)
+
+    def test_what_is_written_is_read(self) -> None:
+        for kind in Kind:
+            for accepts in (False, True):
+                asked = request(kind, ASYNC, accepts)
+                read = read_request(
+                    write_method(kind),
+                    write_target(asked, None, "/a").encode(),
+                    write_body(asked, "an organization", "a space"),
+                    1000,
+                    "/a",
+                )
+                self.assertEqual(read, Asked(kind, accepts, ONE, SERVICE, ASYNC))
+                self.assertEqual(read.request(None), asked)
+
+    def test_refused(self) -> None:
+        front, body = "/v2/service_instances/", provision_body()
+        ids = f"service_id={SERVICE}&plan_id={SYNC}"
+        for method, target, given, status, http in (
+            ("PUT", "/v2/catalog", body, Status.REFUSED_TARGET, 404),
+            ("PUT", f"{front}{ONE}/a", body, Status.REFUSED_TARGET, 404),
+            ("GET", f"{front}{ONE}", b"", Status.REFUSED_METHOD, 405),
+            ("PUT", f"{front}{ONE}/last_operation", b"", Status.REFUSED_METHOD, 405),
+            ("PUT", f"{front}1", body, Status.REFUSED_INSTANCE, 400),
+            ("PUT", f"{front}{ONE}", b" " * 1001, Status.REFUSED_LENGTH, 413),
+            (
+                "DELETE",
+                f"{front}{ONE}?{ids}&service_id=",
+                b"",
+                Status.REFUSED_REPEATED,
+                400,
+            ),
+            (
+                "DELETE",
+                f"{front}{ONE}?plan_id={SYNC}",
+                b"",
+                Status.REFUSED_SERVICE,
+                400,
+            ),
+            (
+                "DELETE",
+                f"{front}{ONE}?service_id={SERVICE}",
+                b"",
+                Status.REFUSED_PLAN,
+                400,
+            ),
+            (
+                "PUT",
+                f"{front}{ONE}?accepts_incomplete=1",
+                body,
+                Status.REFUSED_ACCEPTS_INCOMPLETE,
+                400,
+            ),
+            ("PUT", f"{front}{ONE}", b"[]", Status.REFUSED_BODY, 400),
+            (
+                "PUT",
+                f"{front}{ONE}",
+                body.replace(b"an organization", b""),
+                Status.REFUSED_ORGANIZATION,
+                400,
+            ),
+            (
+                "PUT",
+                f"{front}{ONE}",
+                body.replace(b"space_guid", b"space"),
+                Status.REFUSED_SPACE,
+                400,
+            ),
+        ):
+            refusal = refusal_of(
+                lambda: read_request(method, target.encode(), given, 1000)
+            )
+            assert refusal is not None, target
+            self.assertEqual(
+                (refusal.status, refusal.http_status), (status, http), target
+            )
+            self.assertEqual(
+                set(json.loads(refusal.body)), {"description", "error"}, target
+            )
+
+    def test_a_poll_without_ids(self) -> None:
+        read = read_request(
+            "GET", f"/v2/service_instances/{ONE}/last_operation".encode(), b"", 0
+        )
+        self.assertEqual(read, Asked(POLL, False, ONE, None, None))
+        self.assertEqual(
+            read.request((SERVICE, SYNC)), Request(POLL, False, ONE, SERVICE, SYNC)
+        )
+        self.assertEqual(
+            read.request(None), Request(POLL, False, ONE, Id(0, 0), Id(0, 0))
+        )
+        with self.assertRaises(OsbError) as raised:
+            Asked(DEPROVISION, True, ONE, None, None).request(None)
+        self.assertEqual(raised.exception.status, Status.BAD_ASKED)
+
+    def test_asked_operation(self) -> None:
+        front = f"/v2/service_instances/{ONE}/last_operation"
+        self.assertEqual(
+            asked_operation(f"{front}?a=1&operation=making+1%C3%A9".encode()),
+            "making 1é",
+        )
+        self.assertIsNone(asked_operation(front.encode()))
+        refusal = refusal_of(
+            lambda: asked_operation(f"{front}?operation=1&operation=1".encode())
+        )
+        self.assertEqual(refusal and refusal.status, Status.REFUSED_REPEATED)
+
+
+class Answers(unittest.TestCase):
+    def test_write(self) -> None:
+        for answer, operation, wanted in (
+            (Answer(201, Body.EMPTY), None, {}),
+            (Answer(202, Body.EMPTY), "making 1", {"operation": "making 1"}),
+            (Answer(200, Body.EMPTY), "making 1", {}),
+            (Answer(200, Body.IN_PROGRESS), None, {"state": "in progress"}),
+            (Answer(200, Body.SUCCEEDED), None, {"state": "succeeded"}),
+            (Answer(200, Body.FAILED), None, {"state": "failed"}),
+        ):
+            self.assertEqual(
+                json.loads(write_answer(answer, operation)), wanted, answer
+            )
+        self.assertEqual(write_answer(Answer(200, Body.MALFORMED)), b"")
+
+    def test_errors(self) -> None:
+        for status, body, error in (
+            (422, Body.ASYNC_REQUIRED, "AsyncRequired"),
+            (422, Body.CONCURRENCY_ERROR, "ConcurrencyError"),
+            (400, Body.OTHER_ERROR, "BadRequest"),
+            (409, Body.OTHER_ERROR, "Conflict"),
+            (500, Body.OTHER_ERROR, "InternalServerError"),
+            (503, Body.OTHER_ERROR, "ServiceUnavailable"),
+            (418, Body.OTHER_ERROR, "Refused"),
+        ):
+            written = json.loads(write_answer(Answer(status, body)))
+            self.assertEqual(
+                (written["error"], set(written)),
+                (error, {"description", "error"}),
+                status,
+            )
+
+
+class Headers(unittest.TestCase):
+    def test_api_version(self) -> None:
+        for value in ("2.0", "2.17", "2.999"):
+            api_version(value)
+        for refused in (None, "", "2", "2.", "3.0", "2.17 ", "2.1.7"):
+            refusal = refusal_of(lambda: api_version(refused))
+            self.assertEqual(refusal and refusal.http_status, 412, refused)
+
+    def test_basic_auth(self) -> None:
+        self.assertTrue(basic_auth(authorization(), USER, PASSWORD))
+        for value in (
+            None,
+            "",
+            "Basic",
+            authorization(password="x"),
+            authorization(user="x"),
+            authorization() + " ",
+            authorization().replace(" ", "  "),
+            authorization().replace("Basic", "Bearer"),
+            "Basic é",
+        ):
+            self.assertFalse(basic_auth(value, USER, PASSWORD), value)
+
+    def test_catalogue(self) -> None:
+        self.assertEqual(
+            catalogue_plans(CATALOGUE),
+            [Plan(SERVICE, SYNC, False), Plan(SERVICE, ASYNC, True)],
+        )
+        many = {
+            "services": [
+                {
+                    "id": str(SERVICE),
+                    "plans": [{"id": str(Id(0, n))} for n in range(100)],
+                }
+            ]
+        }
+        self.assertEqual(
+            catalogue_plans(json.dumps(many).encode()),
+            [Plan(SERVICE, Id(0, n), False) for n in range(100)],
+        )
+        for document, fault in (
+            ("", Status.NOT_JSON),
+            ("{}", Status.NO_SERVICES),
+            ('{"services":[{}]}', Status.BAD_SERVICE),
+            (CATALOGUE.decode().replace("plans", "x"), Status.NO_PLANS),
+            (CATALOGUE.decode().replace(str(SYNC), "1"), Status.BAD_PLAN),
+            (CATALOGUE.decode().replace("true", "1"), Status.BAD_PLAN_MODE),
+            (CATALOGUE.decode().replace(str(ASYNC), str(SYNC)), Status.PLAN_TWICE),
+        ):
+            with self.assertRaises(OsbError) as raised:
+                catalogue_plans(document.encode())
+            self.assertEqual(raised.exception.status, fault, document)
+
+    def test_refusals(self) -> None:
+        self.assertEqual(Refusal(Status.MEMORY).http_status, 503)
+        with self.assertRaises(OsbError) as raised:
+            Refusal(Status.BUSY)
+        self.assertEqual(raised.exception.status, Status.NOT_REFUSED)
