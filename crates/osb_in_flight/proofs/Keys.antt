@@ -1,18 +1,16 @@
--- What a search finds in a list whose keys ascend, and what an edit at that place does to the map of
--- its pairs.
-use Rattle.std.proofs.Common.{◌≡◌, ℕ, zero, suc, ◌+◌, ◌-◌, ◌<◌, ◌≢◌, cond, List, [], ◌∷◌, length, map, get_or, set}
-use Rattle.std.proofs.Common.{Some, None, IsSome, refl, sym, ◌∙◌, ap, subst, arith}
+-- What a search finds in a list whose elements have keys, and what an edit does to the map of its pairs.
+use Rattle.std.proofs.Common.{◌≡◌, ℕ, zero, suc, ◌<◌, ◌≤◌, ◌≢◌, cond, List, [], ◌∷◌, ◌++◌, length, map, get_or, set}
+use Rattle.std.proofs.Common.{Some, None, IsSome, Result, Ok, Err, IfOk, IfErr, refl, sym, ◌∙◌, ap, subst, arith}
 use Rattle.std.specs.Prelude.{option_map}
 use mathlib.Core.Bool.{false≢true}
-use Rattle.std.specs.List.{insert}
-use Rattle.std.specs.Ordering.{nat_cmp, eq_by_cmp}
+use Rattle.std.specs.List.Sorted.{IsSearchInRange, IsBinarySearchResult, IsNonDecreasingBy}
+use Rattle.std.specs.Ordering.{nat_cmp, eq_by_cmp, ordering_index}
 use Rattle.std.specs.Cmp.{nat_cmp_total}
 use Rattle.std.specs.FinMap as finite
 use Rattle.std.specs.FinMap.{find, get, from_entries, get-from_entries, get-insert, same_map, nat_cmp-IsAntisymmetric}
-use Rattle.std.proofs.lemmas.List.Edits.{length-insert, get_or-insert_below, get_or-insert_at, get_or-insert_above}
 use Rattle.std.proofs.lemmas.Bool.Decides.{nat_tests}
-use Rattle.std.proofs.lemmas.Grind.{common_steps}
-use Rattle.osb_in_flight.specs.Ascending.{IsAscending, IsAt, IsGapFor, pairs}
+use Rattle.std.proofs.lemmas.Cmp.{ranked}
+use Rattle.osb_in_flight.specs.Keys.{IsAbsent, IsAscending, IsAt, pairs}
 
 module _ {X V : Type 0} (key : X → ℕ) (value : X → V) where
   -- no element before the place has the key
@@ -58,14 +56,13 @@ module _ {X V : Type 0} (key : X → ℕ) (value : X → V) where
             q,
       )
 
-  -- so does a new element before any that has the key
-  find_insert : (xs : List X) (at : ℕ) (y : X) → NoneBefore xs (key y) at
-      → (q : ℕ) → find nat_cmp q (pairs key value (insert xs at y))
+  -- so does a new element at the end, where none has its key
+  find_push : (xs : List X) (y : X) → NoneBefore xs (key y) (length xs)
+      → (q : ℕ) → find nat_cmp q (pairs key value (xs ++ y ∷ []))
       ≡ cond (eq_by_cmp nat_cmp q (key y)) (Some (value y)) (find nat_cmp q (pairs key value xs))
-  find_insert xs zero y none q = refl
-  find_insert [] (suc at) y none q = refl
-  find_insert (x ∷ xs) (suc at) y none q =
-      grind (arith, nat_tests, none 0 x (omega arith), find_insert xs at y (none_in_tail x xs _ at none) q)
+  find_push [] y none q = refl
+  find_push (x ∷ xs) y none q =
+      grind (arith, nat_tests, none 0 x (omega arith), find_push xs y (none_in_tail x xs _ _ none) q)
 
   -- values written over, keys kept
   find_filled : (f : X → X) (v : V) → ((x : X) → key (f x) ≡ key x) → ((x : X) → value (f x) ≡ v)
@@ -97,14 +94,10 @@ module _ {X V : Type 0} (key : X → ℕ) (value : X → V) where
   get-filled f v keeps writes xs q = get-rows (map f xs) q ∙ find_filled f v keeps writes xs q
       ∙ ap (option_map (λ _. v)) (sym (get-rows xs q))
 
-  pub ascending-filled : (f : X → X) → ((x : X) → key (f x) ≡ key x) → (xs : List X) → IsAscending key xs
-      → IsAscending key (map f xs)
-  ascending-filled f keeps xs ascending i j d lt in_range =
-      grind (arith, common_steps, ascending i j d, keeps (get_or xs i d), keeps (get_or xs j d))
-
-  module _ (xs : List X) (k at : ℕ) (is_at : IsAt key xs k at) (ascending : IsAscending key xs) where
+  module _ (xs : List X) (k at : ℕ) (is_at : IsAt key xs k at)
+      (distinct : (i j : ℕ) (d : X) → i < j → j < length xs → key (get_or xs i d) ≢ key (get_or xs j d)) where
     none_before_at : NoneBefore xs k at
-    none_before_at i d lt same = omega (arith, ascending i at d lt is_at.in_range, is_at.has_key d)
+    none_before_at i d lt same = distinct i at d lt is_at.in_range (same ∙ sym (is_at.has_key d))
 
     -- the key is found at its place
     pub get_at : (d : X) → get (rows xs) k ≡ Some (value (get_or xs at d))
@@ -115,56 +108,35 @@ module _ {X V : Type 0} (key : X → ℕ) (value : X → V) where
     rows-set y e = inserted xs _ y (find_set xs at y is_at.in_range (λ d. is_at.has_key d
         ∙ sym e) (subst (λ n. NoneBefore xs n at) (sym e) none_before_at))
 
-    -- and keeps the order, since every key stays
-    pub ascending-set : (y : X) → key y ≡ k → IsAscending key (set xs at y)
-    ascending-set y e i j d lt in_range =
-        grind (
-          arith,
-          common_steps,
-          e,
-          ascending i j d,
-          ascending i at d,
-          ascending at j d,
-          is_at.in_range,
-          is_at.has_key d,
-        )
+  module _ (xs : List X) (k : ℕ) (absent : IsAbsent key xs k) where
+    -- a key that no element has is not found
+    pub get_absent : get (rows xs) k ≡ None
+    get_absent = get-rows xs k ∙ find_absent xs k absent
 
-  module _ (xs : List X) (k at : ℕ) (gap : IsGapFor key xs k at) where
-    -- a key that has a gap is not found
-    pub get_in_gap : get (rows xs) k ≡ None
-    get_in_gap = get-rows xs k
-        ∙ find_absent xs k (λ i d lt same. grind (arith, gap.smaller_before i d, gap.greater_after i d))
+    pub not_absent : IsSome (get (rows xs) k) → ⊥
+    not_absent found = false≢true (subst IsSome get_absent found)
 
-    pub not_in_gap : IsSome (get (rows xs) k) → ⊥
-    not_in_gap found = false≢true (subst IsSome get_in_gap found)
+    -- a new element puts its value there
+    pub rows-push : (y : X) → key y ≡ k → rows (xs ++ y ∷ []) ≡ finite.insert (rows xs) (key y) (value y)
+    rows-push y e = inserted xs _ y (find_push xs y (subst (λ n. NoneBefore xs n (length xs)) (sym e) absent))
 
-    -- a new element in the gap puts its value there
-    pub rows-insert : (y : X) → key y ≡ k → rows (insert xs at y) ≡ finite.insert (rows xs) (key y) (value y)
-    rows-insert y e = inserted xs _ y (find_insert xs at y (λ i d lt same. omega (arith, e, gap.smaller_before i d lt)))
+  module _ (xs : List X) (ascending : IsAscending key xs) (k : ℕ) where
+    -- the comparisons with k rise along the list, as a binary search asks
+    comparisons_rise : IsNonDecreasingBy (λ x. ordering_index (nat_cmp (key x) k)) xs
+    comparisons_rise i j d le in_range =
+        let keys_rise : key (get_or xs i d) ≤ key (get_or xs j d) =
+        grind (arith, ascending i j d, λ (same : i ≡ j). ap (λ n. key (get_or xs n d)) same) in
+        grind (arith, nat_tests)
 
-    -- it keeps the order: each new key is an old one below the gap, k at it, or an old one moved up by one
-    pub ascending-insert : (y : X) → key y ≡ k → IsAscending key xs → IsAscending key (insert xs at y)
-    ascending-insert y e ascending i j d lt in_range =
-        let new = insert xs at y in
-        let length_new = length-insert xs at y gap.in_range in
-        let below : (n : ℕ) → n < at → key (get_or new n d) ≡ key (get_or xs n d) =
-        λ n h. ap key (get_or-insert_below xs at y d n h gap.in_range) in
-        let here : (n : ℕ) → n ≡ at → key (get_or new n d)
-        ≡ k = λ n h. rw h (ap key (get_or-insert_at xs at y d gap.in_range) ∙ e) in
-        let above : (n : ℕ) → at < n → key (get_or new n d) ≡ key (get_or xs (n - 1) d) =
-        λ n h. subst (λ m. key (get_or new m d) ≡ key (get_or xs (n - 1) d)) {x = n - 1 + 1} (omega arith)
-        (ap key (get_or-insert_above xs at y d (n - 1) (omega arith) gap.in_range)) in
-        grind (
-          arith,
-          below i,
-          here i,
-          above i,
-          below j,
-          here j,
-          above j,
-          ascending i j d,
-          ascending i (j - 1) d,
-          ascending (i - 1) (j - 1) d,
-          gap.smaller_before i d,
-          gap.greater_after (j - 1) d,
-        )
+    -- a binary search ends at the key, or no element has it
+    pub searched : (r : Result ℕ ℕ) → IsSearchInRange r (length xs)
+        → IsBinarySearchResult (λ x. nat_cmp (key x) k) xs r
+        → IfOk r (IsAt key xs k) × IfErr r (λ _. IsAbsent key xs k)
+    searched (Ok at) in_range equal =
+        (record { in_range = in_range; has_key = λ d. ranked _ k _ (sym (equal d)) }, tt)
+    searched (Err at) in_range parted =
+        let below : (i : ℕ) (d : X) → i < at → key (get_or xs i d) < k =
+        λ i d lt. ranked _ k _ (sym ((parted comparisons_rise).0 i d (omega arith) lt)) in
+        let above : (i : ℕ) (d : X) → at ≤ i → i < length xs → k < key (get_or xs i d) =
+        λ i d le inside. ranked _ k _ (sym ((parted comparisons_rise).1 i d le inside)) in
+        (tt, λ i d inside same. grind (arith, below i d, above i d))
