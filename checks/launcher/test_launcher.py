@@ -298,3 +298,62 @@ def test_library_is_installed(repository: Repository) -> None:
     found = sorted(str(it.relative_to(to)) for it in to.rglob("*") if not it.is_dir())
     wanted = ["include/osb.h", "lib/libosb.a", "lib/libosb.so", "lib/libosb.so.0", "lib/pkgconfig/osb.pc"]
     assert found == wanted and (to / "lib" / "libosb.so").readlink() == Path("libosb.so.0")
+
+
+# ---- The prebuilt files, written and compared
+
+
+def compare(repository: Repository, *program: str, has_rt: bool = True) -> tuple[int, str, list[str]]:
+    """The status, the last line, and the lines that aren't ok."""
+    run = repository.run("scripts/prebuilt", "--compare", *program, has_rt=has_rt)
+    *lines, last = run.stdout.splitlines()
+    return run.returncode, last, [it for it in lines if not it.startswith("ok: ")]
+
+
+def test_prebuilt_files_that_differ_from_the_build_fail(repository: Repository) -> None:
+    status, last, lines = compare(repository)
+    assert (status, last, len(lines)) == (1, "0 passed, 3 failed, 0 skipped", 3)
+    assert all("differ" in it for it in lines)
+
+
+def test_written_files_pass(repository: Repository) -> None:
+    (repository.top / "out").mkdir()
+    (repository.top / "out" / "old").touch()
+    assert repository.run("scripts/prebuilt").returncode == 0
+    assert not (repository.top / "out" / "old").exists()
+    assert compare(repository) == (0, "3 passed, 0 failed, 0 skipped", [])
+    assert replay(repository, has_rt=False) == (9, BUILT, "")
+    before = (repository.prebuilt / "MANIFEST").read_bytes()
+    assert repository.run("scripts/prebuilt").returncode == 0
+    assert (repository.prebuilt / "MANIFEST").read_bytes() == before
+
+
+def test_given_program_is_compared_in_place_of_a_build(repository: Repository) -> None:
+    repository.run("scripts/prebuilt")
+    program = repository.folder / "program"
+    program.write_text("exit 8\n")
+    program.chmod(0o755)
+    status, last, lines = compare(repository, str(program))
+    assert (status, last) == (1, "2 passed, 1 failed, 0 skipped")
+    assert "osb-replay" in lines[0] and "differ" in lines[0]
+
+
+def test_stale_prebuilt_files_fail(repository: Repository) -> None:
+    add_source(repository)
+    status, last, lines = compare(repository)
+    assert (status, last) == (1, "0 passed, 3 failed, 0 skipped")
+    assert all("it was built from other sources. Run make prebuilt" in it for it in lines)
+
+
+def test_another_kit_skips_the_comparison_by_name(repository: Repository) -> None:
+    (repository.kit / "version").write_text("kit 2\n")
+    status, last, lines = compare(repository)
+    assert (status, last) == (0, "0 passed, 0 failed, 3 skipped")
+    assert [it.partition("prebuilt/")[0] for it in lines] == ["skipped: "] * 3
+    assert all(
+        "built by another kit, kit 1, and this one is kit 2. Run make prebuilt under that kit" in it for it in lines
+    )
+
+
+def test_comparison_without_rt_fails(repository: Repository) -> None:
+    assert compare(repository, has_rt=False)[:2] == (1, "0 passed, 3 failed, 0 skipped")
