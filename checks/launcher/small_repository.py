@@ -34,7 +34,8 @@ case $1 in
         echo "functions=7"
         grep -rq 'not proved' src && { echo "error: a goal is open"; exit 1; }
         mkdir -p out/rlib
-        [ "$1" = lib ] || { printf '#!/bin/sh\\necho "built: $*"\\ncat\\nexit 9\\n' >out/osb_replay && chmod +x out/osb_replay; }
+        [ "$1" = lib ] || printf '#!/bin/sh\\necho "built: $*"\\ncat\\nexit 9\\n' >out/osb_replay
+        [ "$1" = lib ] || chmod +x out/osb_replay
         ;;
 esac
 """

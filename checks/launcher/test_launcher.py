@@ -328,14 +328,12 @@ def test_written_files_pass(repository: Repository) -> None:
     assert (repository.prebuilt / "MANIFEST").read_bytes() == before
 
 
-def test_given_program_is_compared_in_place_of_a_build(repository: Repository) -> None:
-    repository.run("scripts/prebuilt")
-    program = repository.folder / "program"
-    program.write_text("exit 8\n")
-    program.chmod(0o755)
-    status, last, lines = compare(repository, str(program))
-    assert (status, last) == (1, "2 passed, 1 failed, 0 skipped")
-    assert "osb-replay" in lines[0] and "differ" in lines[0]
+def test_given_program_saves_the_build_if_it_is_the_same(repository: Repository) -> None:
+    status, last, lines = compare(repository, str(repository.prebuilt / "osb-replay"))
+    assert (status, last) == (1, "1 passed, 2 failed, 0 skipped")
+    assert "osb_replay" not in repository.builds() and "osb_c" in repository.builds()
+    assert compare(repository, "/dev/null")[1] == "0 passed, 3 failed, 0 skipped"
+    assert "osb_replay" in repository.builds()
 
 
 def test_stale_prebuilt_files_fail(repository: Repository) -> None:
