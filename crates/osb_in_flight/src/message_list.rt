@@ -1,9 +1,8 @@
 //! The messages of each instance: a list of entries, and what finds the entry of an id in it.
 //!
-//! The entries stand as they came, and none ever moves. Ids often come in ascending order: as many of
+//! The entries stand as they came, and keep their places. Ids often come in ascending order: as many of
 //! the first entries as ascend by their ids are found by binary search, and need nothing else. A tree
-//! has the places of the entries after those. So an insert takes logarithmic time at most, whatever the
-//! order of the ids.
+//! has the places of the entries after those. So an insert below others shifts none of them.
 //!
 //! Contracts see a finite map from ids to messages.
 ghost use Rattle.std.specs.Prelude.{◌≡◌, ℕ, OnOk, OnErr, IsSome, IsOk, IfOk, IfErr, IfSome, IfNone, IsTrue};
