@@ -47,10 +47,7 @@ class Stores(InFolder):
     def test_update(self) -> None:
         for store in self.both():
             self.assertEqual(held(store), Holding.NONE)
-            self.assertEqual(
-                store.update(ONE, lambda holding: (MAKING, (holding, "said"))),
-                (Holding.NONE, "said"),
-            )
+            self.assertEqual(store.update(ONE, lambda holding: (MAKING, (holding, "said"))), (Holding.NONE, "said"))
             self.assertEqual((held(store), held(store, TWO)), (MAKING, Holding.NONE))
 
     def test_nothing_is_written_where_it_raises(self) -> None:
@@ -92,13 +89,7 @@ class Stores(InFolder):
 
             def take(store: Store = store, said: list[bool] = said) -> None:
                 said.append(
-                    store.update(
-                        ONE,
-                        lambda holding: (
-                            Holding(work=request(Kind.PROVISION)),
-                            holding == Holding.NONE,
-                        ),
-                    )
+                    store.update(ONE, lambda holding: (Holding(work=request(Kind.PROVISION)), holding == Holding.NONE))
                 )
 
             at_once(20, take)
@@ -131,13 +122,7 @@ class Records(InFolder):
             store.insert(ONE, Kept(Record(SERVICE, SYNC, 0, State.CLEANING, None)))
 
             def sent(store: RecordStore = store) -> None:
-                store.update(
-                    ONE,
-                    lambda it: (
-                        Kept(it.record.send(ONE)[0].timeout(it.record.attempt + 1)),
-                        None,
-                    ),
-                )
+                store.update(ONE, lambda it: (Kept(it.record.send(ONE)[0].timeout(it.record.attempt + 1)), None))
 
             at_once(20, sent)
             self.assertEqual(kept(store).record.attempt, 20)
@@ -159,9 +144,7 @@ class Locks(InFolder):
 
     def test_attempt(self) -> None:
         locks = FileLocks(self.folder)
-        with locks.attempt(ONE) as first, locks.attempt(ONE) as second, locks.attempt(
-            TWO
-        ) as other:
+        with locks.attempt(ONE) as first, locks.attempt(ONE) as second, locks.attempt(TWO) as other:
             self.assertEqual((first, second, other), (True, False, True))
         with locks(ONE), locks.attempt(ONE) as third:
             self.assertFalse(third)
@@ -171,7 +154,4 @@ class Locks(InFolder):
     def test_each_has_its_own(self) -> None:
         locks = FileLocks(self.folder / "new")
         with locks(ONE), locks(TWO):
-            self.assertEqual(
-                sorted(it.name for it in (self.folder / "new").iterdir()),
-                [str(ONE), str(TWO)],
-            )
+            self.assertEqual(sorted(it.name for it in (self.folder / "new").iterdir()), [str(ONE), str(TWO)])

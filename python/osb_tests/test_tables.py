@@ -25,15 +25,10 @@ class Tables(unittest.TestCase):
         self.assertTrue(mitigates(Answer(201, Body.MALFORMED)))
         self.assertFalse(mitigates(Answer(200, Body.MALFORMED)))
         self.assertEqual(decide_provision(Answer(422, Body.ASYNC_REQUIRED)), State.GONE)
+        self.assertEqual(decide_deprovision(Answer(202, Body.EMPTY)), State.CLEANING_POLLING)
+        self.assertEqual(decide_poll(State.CLEANING_POLLING, Answer(200, Body.SUCCEEDED)), State.GONE)
         self.assertEqual(
-            decide_deprovision(Answer(202, Body.EMPTY)), State.CLEANING_POLLING
-        )
-        self.assertEqual(
-            decide_poll(State.CLEANING_POLLING, Answer(200, Body.SUCCEEDED)), State.GONE
-        )
-        self.assertEqual(
-            (decide_timeout(State.WANTED), decide_restart(State.UNSETTLED)),
-            (State.CLEANING, State.UNSETTLED),
+            (decide_timeout(State.WANTED), decide_restart(State.UNSETTLED)), (State.CLEANING, State.UNSETTLED)
         )
         self.assertRaises(ValueError, Answer, 2**16 + 200, Body.EMPTY)
 
@@ -44,10 +39,7 @@ class Tables(unittest.TestCase):
 class Loading(unittest.TestCase):
     def test_no_library(self) -> None:
         """What can't be loaded, or is another library, is an ImportError that says so."""
-        for name, said in (
-            ("/nowhere/libosb.so", "libosb isn't found"),
-            ("libc.so.6", "of another version"),
-        ):
+        for name, said in (("/nowhere/libosb.so", "libosb isn't found"), ("libc.so.6", "of another version")):
             ran = subprocess.run(
                 [sys.executable, "-c", "import osb"],
                 env={**os.environ, "LIBOSB": name},

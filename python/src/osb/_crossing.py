@@ -56,9 +56,7 @@ def answer_from(answer: CAnswer) -> Answer:
 
 
 def platform_row_to(row: PlatformRow) -> CPlatformRow:
-    return CPlatformRow(
-        id_to(row.service), id_to(row.plan), State(row.state).value, kind_to(row.out)
-    )
+    return CPlatformRow(id_to(row.service), id_to(row.plan), State(row.state).value, kind_to(row.out))
 
 
 def plan_from(plan: CPlan) -> Plan:

@@ -87,22 +87,16 @@ def _load() -> c.PyDLL:
     try:
         library = c.PyDLL(name)
     except OSError as error:
-        raise ImportError(
-            f"libosb isn't found: {error} (LIBOSB names its file)"
-        ) from error
+        raise ImportError(f"libosb isn't found: {error} (LIBOSB names its file)") from error
     try:
         for export, given, taken in EXPORTS:
             function = getattr(library, export)
             function.restype, function.argtypes = given, taken
     except AttributeError as error:
-        raise ImportError(
-            f"{name} is the library of another version: {error}"
-        ) from error
+        raise ImportError(f"{name} is the library of another version: {error}") from error
     found = library.osb_version()
     if found // 100 != VERSION // 100:
-        raise ImportError(
-            f"{name} has the version {found}, and this package is for {VERSION}"
-        )
+        raise ImportError(f"{name} has the version {found}, and this package is for {VERSION}")
     return library
 
 

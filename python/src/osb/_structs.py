@@ -12,13 +12,7 @@ class CId(c.Structure):
 
 
 class CRequest(c.Structure):
-    _fields_ = [
-        ("kind", c.c_uint8),
-        ("accepts_incomplete", c.c_bool),
-        ("id", CId),
-        ("service", CId),
-        ("plan", CId),
-    ]
+    _fields_ = [("kind", c.c_uint8), ("accepts_incomplete", c.c_bool), ("id", CId), ("service", CId), ("plan", CId)]
 
 
 class CAnswer(c.Structure):
@@ -26,12 +20,7 @@ class CAnswer(c.Structure):
 
 
 class CPlatformRow(c.Structure):
-    _fields_ = [
-        ("service", CId),
-        ("plan", CId),
-        ("state", c.c_uint8),
-        ("out", c.c_uint8),
-    ]
+    _fields_ = [("service", CId), ("plan", CId), ("state", c.c_uint8), ("out", c.c_uint8)]
 
 
 class CPlan(c.Structure):
@@ -43,13 +32,7 @@ class CBrokerRow(c.Structure):
 
 
 class CRecord(c.Structure):
-    _fields_ = [
-        ("service", CId),
-        ("plan", CId),
-        ("attempt", c.c_uint64),
-        ("state", c.c_uint8),
-        ("out", c.c_uint8),
-    ]
+    _fields_ = [("service", CId), ("plan", CId), ("attempt", c.c_uint64), ("state", c.c_uint8), ("out", c.c_uint8)]
 
 
 class CHolding(c.Structure):

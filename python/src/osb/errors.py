@@ -81,9 +81,7 @@ class Refusal(OsbError):
         super().__init__(status)
         self.http_status = int(lib.osb_refusal_status(self.status))
         done, self.body = written(
-            lambda buffer, length, needed: int(
-                lib.osb_refusal_body(self.status, buffer, length, needed)
-            )
+            lambda buffer, length, needed: int(lib.osb_refusal_body(self.status, buffer, length, needed))
         )
         if done != Status.DONE:
             raise OsbError(done)

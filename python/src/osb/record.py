@@ -32,18 +32,14 @@ class Record:
         _in_range(self.attempt)
 
     @classmethod
-    def create(
-        cls, id: Id, service: Id, plan: Id, accepts_incomplete: bool
-    ) -> tuple[Record, Request]:
+    def create(cls, id: Id, service: Id, plan: Id, accepts_incomplete: bool) -> tuple[Record, Request]:
         """A new instance, wanted, and its Provision, which is then in flight with the number 1.
 
         The record is written to the database under the id before the request is sent, and never deleted; the database
         has to refuse an id that is there.
         """
         record, request = CRecord(), CRequest()
-        lib.osb_record_create(
-            id_to(id), id_to(service), id_to(plan), accepts_incomplete, record, request
-        )
+        lib.osb_record_create(id_to(id), id_to(service), id_to(plan), accepts_incomplete, record, request)
         return _from(record), request_from(request)
 
     @classmethod
@@ -93,9 +89,7 @@ class Record:
         """The text of the record, for a column of a database."""
         record = _to(self)
         return text_of(
-            lambda buffer, length, needed: int(
-                lib.osb_record_to_text(record, buffer, length, needed)
-            )
+            lambda buffer, length, needed: int(lib.osb_record_to_text(record, buffer, length, needed))
         ).decode()
 
     @classmethod
@@ -116,19 +110,11 @@ def _in_range(attempt: int) -> int:
 
 def _to(record: Record) -> CRecord:
     return CRecord(
-        id_to(record.service),
-        id_to(record.plan),
-        record.attempt,
-        State(record.state).value,
-        kind_to(record.out),
+        id_to(record.service), id_to(record.plan), record.attempt, State(record.state).value, kind_to(record.out)
     )
 
 
 def _from(record: CRecord) -> Record:
     return Record(
-        id_from(record.service),
-        id_from(record.plan),
-        record.attempt,
-        State(record.state),
-        kind_from(record.out),
+        id_from(record.service), id_from(record.plan), record.attempt, State(record.state), kind_from(record.out)
     )

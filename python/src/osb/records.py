@@ -107,18 +107,13 @@ class SqliteRecords:
                 "CREATE TABLE IF NOT EXISTS records (id TEXT PRIMARY KEY, record TEXT NOT NULL, "
                 "operation TEXT, pending INTEGER NOT NULL) WITHOUT ROWID"
             )
-            database.execute(
-                "CREATE INDEX IF NOT EXISTS pending_records ON records (id) WHERE pending"
-            )
+            database.execute("CREATE INDEX IF NOT EXISTS pending_records ON records (id) WHERE pending")
 
     def insert(self, id: Id, kept: Kept) -> None:
         """As `RecordStore` says."""
         with transaction(self._path, self._seconds) as database:
             try:
-                database.execute(
-                    "INSERT INTO records VALUES (?, ?, ?, ?)",
-                    [str(id), *_columns(kept)],
-                )
+                database.execute("INSERT INTO records VALUES (?, ?, ?, ?)", [str(id), *_columns(kept)])
             except sqlite3.IntegrityError as error:
                 raise IdUsed(id) from error
 
@@ -142,12 +137,7 @@ class SqliteRecords:
     def pending(self) -> list[Id]:
         """As `RecordStore` says."""
         with transaction(self._path, self._seconds) as database:
-            return [
-                Id.of(text)
-                for (text,) in database.execute(
-                    "SELECT id FROM records WHERE pending ORDER BY id"
-                )
-            ]
+            return [Id.of(text) for (text,) in database.execute("SELECT id FROM records WHERE pending ORDER BY id")]
 
 
 def _columns(kept: Kept) -> tuple[str, str | None, bool]:
