@@ -54,8 +54,8 @@ rows_of() {
         }' "$top/crates.txt"
 }
 
-# digest_of_sources TARGET: prints a SHA-256 over the lines of crates.txt and the names and contents of all files in src/,
-# specs/ and proofs/, of the target's crates and all below them. It fails if one of them can't be read.
+# digest_of_sources TARGET: prints a SHA-256 over the lines of crates.txt and the names and contents of all files in
+# src/, specs/ and proofs/, of the target's crates and all below them. It fails if one of them can't be read.
 digest_of_sources() (
     set -o pipefail
     cd "$top" || exit
@@ -161,8 +161,8 @@ build_library() {
     build_crates archive && "$top/scripts/link_library" "$built"
 }
 
-# build_crates KIND [ARGUMENT ..]: has scripts/build_crates.py prove and build the target's crates. If this shell is ended,
-# so is the build.
+# build_crates KIND [ARGUMENT ..]: has scripts/build_crates.py prove and build the target's crates. If this shell is
+# ended, so is the build.
 build_crates() {
     local child signal status wanted=osb_replay
     [ "$1" = program ] || wanted=$(crates_of library)

@@ -24,9 +24,9 @@ python_where() {
     return 1
 }
 
-# run_program NAME PYTHON TOP ARGUMENT ..: runs the program of this name in place of this shell, over the proved library:
-# the one that $LIBOSB names, else the one for this checkout's sources (scripts/artifacts.sh). If the program can't be
-# run, the status is 70.
+# run_program NAME PYTHON TOP ARGUMENT ..: runs the program of this name in place of this shell, over the proved
+# library: the one that $LIBOSB names, else the one for this checkout's sources (scripts/artifacts.sh). If the program
+# can't be run, the status is 70.
 run_program() {
     local who=$1 python=$2 top=$3 folder
     shift 3
