@@ -11,7 +11,7 @@ import subprocess
 import tempfile
 import time
 from pathlib import Path
-from typing import Any, Dict, Iterator, List, Optional
+from typing import Any, Iterator
 
 _NAMES = ("chromium", "chromium-browser", "google-chrome")
 _SECONDS = 60.0
@@ -33,7 +33,7 @@ class Broken(Exception):
     """The browser has ended, says nothing more, or can't do what it was told."""
 
 
-def found() -> Optional[str]:
+def found() -> str | None:
     """The browser that is installed, or None."""
     return next((path for path in (shutil.which(name) for name in _NAMES) if path is not None), None)
 
@@ -45,7 +45,7 @@ class Browser:
         """`to` and `back`: the pipes."""
         self._to, self._back = to, back
         self._number, self._rest, self._session = 0, b"", ""
-        self.complaints: List[str] = []
+        self.complaints: list[str] = []
         """What the browser has found wrong with the pages: scripts that failed, and what a policy kept away."""
         target = self._told("Target.createTarget", url="about:blank")["targetId"]
         self._session = str(self._told("Target.attachToTarget", targetId=target, flatten=True)["sessionId"])
@@ -94,9 +94,9 @@ class Browser:
         """Writes what the window shows, as a PNG."""
         to.write_bytes(base64.b64decode(self._told("Page.captureScreenshot", format="png")["data"]))
 
-    def _told(self, method: str, **given: Any) -> Dict[str, Any]:
+    def _told(self, method: str, **given: Any) -> dict[str, Any]:
         self._number += 1
-        said: Dict[str, Any] = {"id": self._number, "method": method, "params": given}
+        said: dict[str, Any] = {"id": self._number, "method": method, "params": given}
         if self._session:
             said["sessionId"] = self._session
         os.write(self._to, json.dumps(said).encode() + b"\0")
@@ -105,14 +105,14 @@ class Browser:
             if heard.get("id") == self._number:
                 if "error" in heard:
                     raise Broken(f"{method}: {heard['error']}")
-                result: Dict[str, Any] = heard["result"]
+                result: dict[str, Any] = heard["result"]
                 return result
 
     def _until(self, event: str) -> None:
         while self._heard().get("method") != event:
             pass
 
-    def _heard(self) -> Dict[str, Any]:
+    def _heard(self) -> dict[str, Any]:
         until = time.monotonic() + _SECONDS
         while b"\0" not in self._rest:
             ready, _, _ = select.select([self._back], [], [], max(0.0, until - time.monotonic()))
@@ -121,7 +121,7 @@ class Browser:
                 raise Broken("the browser says nothing more")
             self._rest += piece
         text, _, self._rest = self._rest.partition(b"\0")
-        heard: Dict[str, Any] = json.loads(text)
+        heard: dict[str, Any] = json.loads(text)
         if heard.get("method") == "Runtime.exceptionThrown":
             self.complaints.append(json.dumps(heard["params"])[:300])
         elif heard.get("method") == "Log.entryAdded":
@@ -153,7 +153,7 @@ def browser(path: str) -> Iterator[Browser]:
         yield Browser(to, back)
 
 
-def _end(process: "subprocess.Popen[bytes]") -> None:
+def _end(process: subprocess.Popen[bytes]) -> None:
     """It ends when its pipes do."""
     try:
         process.wait(10)

@@ -44,7 +44,7 @@ def showing(store: Path) -> Iterator[str]:
         process.wait()
 
 
-def _url(process: "subprocess.Popen[bytes]", log: Path) -> str:
+def _url(process: subprocess.Popen[bytes], log: Path) -> str:
     until = time.monotonic() + _SECONDS
     while process.poll() is None and time.monotonic() < until:
         for line in log.read_text(encoding="utf-8").splitlines(True):

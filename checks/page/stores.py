@@ -6,7 +6,7 @@ import sqlite3
 import time
 from pathlib import Path
 from random import Random
-from typing import Any, Callable, List, Sequence, Tuple
+from typing import Any, Callable, Sequence
 
 from osb import Answer, Body, Id, Record
 from osb.records import Kept
@@ -55,11 +55,11 @@ def empty(path: Path) -> None:
 
 
 def storm(path: Path, count: int = 300, seed: int = 7) -> None:
-    """So many instances in all states, some of them with a request in flight at a worker that is dead since a minute."""
+    """So many instances in all states. Some have a request in flight, at a worker that has been dead for a minute."""
     database, chance = _Then(path), Random(f"{seed} storm")
     instances, began = Instances(database, 5.0), time.time() - 7200.0
     lives = [life for life, share in _SHARES.items() for _ in range(share)]
-    leased: List[Id] = []
+    leased: list[Id] = []
     for at in range(count):
         database.time, life = began + 7000.0 * at / count, lives[at % len(lives)]
         id = _id(chance)
@@ -91,8 +91,8 @@ def large(path: Path, count: int = 100_000, seed: int = 7) -> None:
 
 
 def _copy(
-    row: Tuple[Any, ...], life: List[Tuple[int, str, float]], chance: Random
-) -> Tuple[Sequence[Any], List[Tuple[Any, ...]]]:
+    row: tuple[Any, ...], life: list[tuple[int, str, float]], chance: Random
+) -> tuple[Sequence[Any], list[tuple[Any, ...]]]:
     id, earlier = str(_id(chance)), chance.uniform(0.0, 90 * 86400.0)
     since = 7  # the column's place
     return (
@@ -160,7 +160,7 @@ class _Life:
         self._pass()
         self._instances.update(self._id, lambda kept: (Kept(change(kept.record), kept.operation), None))
 
-    def _answered(self, answer: Answer, operation: "str | None" = None) -> None:
+    def _answered(self, answer: Answer, operation: str | None = None) -> None:
         self._pass()
         self._instances.update(
             self._id, lambda kept: (Kept(kept.record.answer(kept.record.attempt, answer), operation), None)

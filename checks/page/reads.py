@@ -5,7 +5,6 @@ import re
 import time
 import urllib.request
 from html.parser import HTMLParser
-from typing import Dict, List, Optional, Set, Tuple
 
 _ROW = re.compile("i-([0-9a-f-]{36})")
 
@@ -15,16 +14,16 @@ class Read(HTMLParser):
 
     def __init__(self, text: str) -> None:
         super().__init__()
-        self.links: Dict[str, str] = {}
+        self.links: dict[str, str] = {}
         """Where each link leads that has an id."""
-        self.named: Set[str] = set()
+        self.named: set[str] = set()
         """All that names something to be loaded or followed."""
-        self.texts: Dict[str, str] = {}
+        self.texts: dict[str, str] = {}
         """The text in each link that has an id."""
         self._in = ""
         self.feed(text)
 
-    def rows(self) -> List[str]:
+    def rows(self) -> list[str]:
         """The ids of the list, in its order."""
         found = (_ROW.fullmatch(it) for it in self.links)
         return [it[1] for it in found if it is not None]
@@ -36,7 +35,7 @@ class Read(HTMLParser):
             raise ValueError(f"{state} is told as {word}")
         return int(count.replace(",", ""))
 
-    def handle_starttag(self, tag: str, attributes: List[Tuple[str, Optional[str]]]) -> None:
+    def handle_starttag(self, tag: str, attributes: list[tuple[str, str | None]]) -> None:
         """As HTMLParser has it."""
         given = dict(attributes)
         self.named |= {it for it in (given.get("href"), given.get("src"), given.get("action")) if it is not None}
@@ -56,7 +55,7 @@ class Read(HTMLParser):
             self.texts[self._in] += data
 
 
-def read(url: str, target: str = "/") -> Tuple[Read, float]:
+def read(url: str, target: str = "/") -> tuple[Read, float]:
     """The page at the target, and in how many seconds it came."""
     began = time.monotonic()
     with urllib.request.urlopen(url.rstrip("/") + target, timeout=60) as response:
@@ -64,9 +63,9 @@ def read(url: str, target: str = "/") -> Tuple[Read, float]:
     return Read(text), time.monotonic() - began
 
 
-def walked(url: str, target: str, most: int) -> List[str]:
+def walked(url: str, target: str, most: int) -> list[str]:
     """The ids of the list from the target on, page by page, of at most so many pages."""
-    ids: List[str] = []
+    ids: list[str] = []
     for _ in range(most):
         page, _ = read(url, target)
         ids += page.rows()
