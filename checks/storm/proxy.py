@@ -6,9 +6,9 @@ import socket
 import socketserver
 import threading
 import time
-from typing import Any, Iterator, List, Optional
+from typing import Any, Iterator
 
-from storming.faults import Fault, Faults
+from storm.faults import Fault, Faults
 
 _PAGE = b"<html></html>"
 
@@ -18,7 +18,7 @@ class Proxy(socketserver.ThreadingTCPServer):
 
     allow_reuse_address, daemon_threads, request_queue_size = True, True, 128
 
-    def __init__(self, faults: Faults, brokers: List[int]) -> None:
+    def __init__(self, faults: Faults, brokers: list[int]) -> None:
         """`brokers`: the ports of the brokers, of which each request reaches one."""
         super().__init__(("127.0.0.1", 0), _Connection)
         self.faults, self.brokers = faults, brokers
@@ -41,7 +41,7 @@ class Proxy(socketserver.ThreadingTCPServer):
             with self._guard:
                 self.in_flight -= 1
 
-    def deliver(self, request: bytes, number: int) -> Optional[bytes]:
+    def deliver(self, request: bytes, number: int) -> bytes | None:
         """A broker's whole answer to the request, or None where none came."""
         try:
             at = ("127.0.0.1", self.brokers[number % len(self.brokers)])
@@ -124,7 +124,7 @@ def _page(status: int) -> bytes:
     ).encode() + _PAGE
 
 
-def _read(connection: Any) -> Optional[bytes]:
+def _read(connection: Any) -> bytes | None:
     """A request, whole, or None where it was cut."""
     data = b""
     while b"\r\n\r\n" not in data:

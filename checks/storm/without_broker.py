@@ -1,4 +1,4 @@
-"""The broker with a part of the design taken out, to see that the storm finds it: `python -m storming.without_broker
+"""The broker with a part of the design taken out, to see that the storm finds it: `python3 -m storm.without_broker
 PART serve ..`. PART is `marks`, `work`, `busy` or `locks`.
 """
 from __future__ import annotations
@@ -6,7 +6,7 @@ from __future__ import annotations
 import contextlib
 import sys
 from dataclasses import replace
-from typing import Any, ContextManager, Optional, Tuple, Union
+from typing import Any, ContextManager
 
 from osb import Answer, Holding, Id, Mode, Outcome, Request, Work
 from osb.service import BrokerService, Task
@@ -20,11 +20,11 @@ _begin, _end, _finish = Holding.begin, Holding.end, Holding.finish
 def _without_marks() -> None:
     """No mark is kept of an instance that has ended."""
 
-    def begin(self: Holding, mode: Optional[Mode], request: Request) -> Tuple[Holding, Union[Answer, Work]]:
+    def begin(self: Holding, mode: Mode | None, request: Request) -> tuple[Holding, Answer | Work]:
         after, begun = _begin(self, mode, request)
         return replace(after, is_marked=False), begun
 
-    def end(self: Holding, mode: Optional[Mode], outcome: Outcome) -> Tuple[Holding, Answer]:
+    def end(self: Holding, mode: Mode | None, outcome: Outcome) -> tuple[Holding, Answer]:
         after, answer = _end(self, mode, outcome)
         return replace(after, is_marked=False), answer
 
@@ -37,7 +37,7 @@ def _without_marks() -> None:
 def _without_busy() -> None:
     """While work is recorded, other requests are judged as if none were; it stays recorded, unless other work is."""
 
-    def begin(self: Holding, mode: Optional[Mode], request: Request) -> Tuple[Holding, Union[Answer, Work]]:
+    def begin(self: Holding, mode: Mode | None, request: Request) -> tuple[Holding, Answer | Work]:
         after, begun = _begin(replace(self, work=None), mode, request)
         if isinstance(begun, Answer) and self.work is not None:
             after = replace(after, work=self.work, is_marked=False)
@@ -50,7 +50,7 @@ def _without_work() -> None:
     """Work isn't recorded before it begins: it is done, and then written down."""
 
     def handle(self: Any, asked: Asked, body: bytes) -> Answer:
-        def looked(holding: Holding) -> Tuple[Holding, Tuple[Request, Union[Answer, Work]]]:
+        def looked(holding: Holding) -> tuple[Holding, tuple[Request, Answer | Work]]:
             after, (request, begun) = self._begin(holding, asked)
             return (after if isinstance(begun, Answer) else holding), (request, begun)
 

@@ -2,9 +2,9 @@
 from __future__ import annotations
 
 from collections import Counter
-from typing import Callable, Dict, List, NamedTuple, Optional, Set
+from typing import Callable, NamedTuple
 
-from osb import BrokerRow, Holding, Id, Phase
+from osb import BrokerRow, Holding, Phase
 from osb_platform.instances import Instance, Instances
 
 REST = ("ready", "gone", "unsettled", "withdrawn", "failed", "delete-failed")  # the last two of a usual platform
@@ -13,9 +13,9 @@ REST = ("ready", "gone", "unsettled", "withdrawn", "failed", "delete-failed")  #
 class Things(NamedTuple):
     """The ids of what is there."""
 
-    whole: Set[str]
+    whole: set[str]
     """Of what can be used."""
-    some: Set[str]
+    some: set[str]
     """Of what is there, in whole or in part."""
 
 
@@ -25,14 +25,14 @@ class Audit:
     def __init__(
         self,
         instances: Instances,
-        holdings: Callable[[], Dict[str, Holding]],
+        holdings: Callable[[], dict[str, Holding]],
         things: Callable[[], Things],
         is_usable: Callable[[Instance], bool],
     ) -> None:
         """`holdings`: all rows of the broker's store."""
         self._instances, self._holdings, self._things, self._is_usable = instances, holdings, things, is_usable
-        self.looks: "Counter[str]" = Counter()
-        self.wrong: Dict[str, str] = {}
+        self.looks: Counter[str] = Counter()
+        self.wrong: dict[str, str] = {}
         """Each instance of which something was wrong once, with what was first."""
 
     def look(self) -> None:
@@ -53,7 +53,7 @@ class Audit:
                 if why is not None:
                     self._found(id, f"{row.state}, and {why}")
 
-    def count(self) -> List[str]:
+    def count(self) -> list[str]:
         """What the three disagree in at the end; nothing where each instance is ready in all three, or in none."""
         rows, things = {str(row.id): row for row in self._instances.rows()}, self._things()
         all_held = self._holdings()
@@ -80,7 +80,7 @@ class Audit:
         self.wrong.setdefault(id, what)
 
 
-def _why_not(row: Instance, holding: Holding, is_whole: bool, is_there: bool) -> Optional[str]:
+def _why_not(row: Instance, holding: Holding, is_whole: bool, is_there: bool) -> str | None:
     """What a record that is ready, or gone, is belied by."""
     if row.state == "gone":
         if is_there:

@@ -1,4 +1,4 @@
-"""A platform as they are usually written, to see what the storm leaves behind of it: `python -m storming.usual_platform
+"""A platform as they are usually written, to see what the storm leaves behind of it: `python3 -m storm.usual_platform
 run ..`. A request is tried twice; what fails is marked so, and forgotten. The words and the table are the product's.
 """
 from __future__ import annotations
@@ -14,7 +14,7 @@ import sys
 import time
 from concurrent.futures import ThreadPoolExecutor
 from pathlib import Path
-from typing import Any, Dict, List, Optional, Sequence, Set, Tuple
+from typing import Any, Sequence
 from urllib.parse import urlsplit
 
 from osb_platform import words
@@ -29,8 +29,8 @@ _DUE = (
     "OR removal = 1 AND state IN ('ready', 'delete-failed', 'failed')"
 )
 
-Row = Tuple[str, str, str, str]
-Said = Tuple[int, Dict[str, Any]]
+Row = tuple[str, str, str, str]
+Said = tuple[int, dict[str, Any]]
 
 
 class Usual:
@@ -47,7 +47,7 @@ class Usual:
             "Connection": "close",
             "Content-Type": "application/json",
         }
-        self._running: Set[str] = set()
+        self._running: set[str] = set()
 
     def run(self) -> None:
         """Goes on until it is killed. What the last run had in flight has failed."""
@@ -112,7 +112,7 @@ class Usual:
                 return self._set(row[0], bad)
         self._set(row[0], bad)
 
-    def _twice(self, method: str, target: str, body: bytes) -> Optional[Said]:
+    def _twice(self, method: str, target: str, body: bytes) -> Said | None:
         """What is answered, where that is below 500; it is tried twice."""
         for _ in range(2):
             said = self._asked(method, target, body)
@@ -120,7 +120,7 @@ class Usual:
                 return said
         return None
 
-    def _asked(self, method: str, target: str, body: bytes) -> Optional[Said]:
+    def _asked(self, method: str, target: str, body: bytes) -> Said | None:
         with contextlib.closing(http.client.HTTPConnection(self._host, timeout=self._seconds)) as connection:
             try:
                 connection.request(method, target, body, self._headers)
@@ -136,7 +136,7 @@ class Usual:
             [state, time.time(), id],
         )
 
-    def _execute(self, statement: str, values: Sequence[Any]) -> List[Any]:
+    def _execute(self, statement: str, values: Sequence[Any]) -> list[Any]:
         with self._database.transaction() as execute:
             return execute(statement, values)
 
@@ -147,7 +147,7 @@ def _database(store: str) -> Database:
     return SqliteDatabase(Path(store))
 
 
-def _object(text: bytes) -> Dict[str, Any]:
+def _object(text: bytes) -> dict[str, Any]:
     try:
         read = json.loads(text)
     except ValueError:

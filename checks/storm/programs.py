@@ -9,9 +9,9 @@ import threading
 import time
 from pathlib import Path
 from random import Random
-from typing import Dict, List, NamedTuple, Optional, Sequence
+from typing import NamedTuple, Sequence
 
-from storming.log import Log
+from storm.log import Log
 
 # A line of the platform's log; the broker's are JSON. A traceback right after it is told by it.
 _LOGGED = re.compile(r"\d{4}-\d\d-\d\d [\d:,]+ [A-Z]+ ")
@@ -22,8 +22,8 @@ class Program(NamedTuple):
     """How a program is started."""
 
     name: str
-    line: List[str]
-    environment: Dict[str, str]
+    line: list[str]
+    environment: dict[str, str]
     log: Path
 
 
@@ -33,15 +33,15 @@ class Killed:
     def __init__(
         self, program: Program, points: Sequence[str], chance: Random, refusals: Sequence[int], log: Log
     ) -> None:
-        """`refusals`: with what it may end by itself, as it does where a session with its store is ended while it starts."""
+        """`refusals`: statuses with which it may end by itself, if its store ends a session while it starts."""
         self._program, self._chance, self._log = program, chance, log
         self._usual = [-9, *refusals]
         self._open = list(points)
-        self.hit: List[str] = []
+        self.hit: list[str] = []
         self._tried = ""  # the point at which it is to be killed now, where that hasn't come about
         self.kills = 0
-        self._odd: List[str] = []
-        self._process: Optional["subprocess.Popen[bytes]"] = None
+        self._odd: list[str] = []
+        self._process: subprocess.Popen[bytes] | None = None
         self._stop = threading.Event()
         self._thread = threading.Thread(target=self._run, daemon=True)
 
@@ -80,12 +80,12 @@ class Killed:
                 self._odd.append(f"{self._program.name} didn't end at SIGTERM")
                 self._kill()
 
-    def odd(self) -> List[str]:
+    def odd(self) -> list[str]:
         """Ends that nobody had a hand in, and what it has said of an error that it didn't expect."""
         said = self._program.log.read_text(encoding="utf-8", errors="replace") if self._program.log.exists() else ""
         return self._odd + [f"{self._program.name}: {it}" for it in cries(said)]
 
-    def left(self) -> List[str]:
+    def left(self) -> list[str]:
         """The crash points that weren't hit."""
         return sorted(it for it in (*self._open, self._tried) if it)
 
@@ -136,12 +136,12 @@ class Killed:
         self.kills += 1
         self._log.say(killed=self._program.name)
 
-    def _note(self, status: int, usual: List[int]) -> None:
+    def _note(self, status: int, usual: list[int]) -> None:
         if status not in usual:
             self._odd.append(f"{self._program.name} ended with {status}")
 
 
-def cries(log: str) -> List[str]:
+def cries(log: str) -> list[str]:
     """What the errors were that nothing has caught: their tracebacks follow no line of the log. Those of the errors
     that they came of are parted from them by an empty line.
     """

@@ -1,4 +1,4 @@
-"""The platform with attempts ignored, to see that the storm finds it: `python -m storming.without_platform run ..`.
+"""The platform with attempts ignored, to see that the storm finds it: `python3 -m storm.without_platform run ..`.
 
 It goes on listening for the answer to a request that it has given up, and takes it for the answer to whatever request
 is in flight by then.
@@ -8,7 +8,7 @@ from __future__ import annotations
 import dataclasses
 import sys
 import threading
-from typing import Any, List, Optional, Tuple
+from typing import Any
 
 from osb import Record
 from osb._exchange import Deadline, Response
@@ -21,11 +21,11 @@ _LISTENS = 15.0
 _response = Client._response
 
 
-def response(self: Any, _: Deadline, request: Any, operation: Optional[str], body: bytes) -> Optional[Response]:
+def response(self: Any, _: Deadline, request: Any, operation: str | None, body: bytes) -> Response | None:
     """The response within the client's limit on time; one that comes later is taken by `_late`."""
-    came: List[Optional[Response]] = []
+    came: list[Response | None] = []
     guard, is_there = threading.Lock(), threading.Event()
-    given_up: List[bool] = []
+    given_up: list[bool] = []
     far_end = self._far_end
     patient = _Patient(self, dataclasses.replace(far_end, seconds=_LISTENS))
 
@@ -56,7 +56,7 @@ class _Patient:
 def _late(client: Any, request: Any, got: Response) -> None:
     heard = _heard(request.kind, got)
 
-    def taken(kept: Kept) -> Tuple[Kept, Record]:
+    def taken(kept: Kept) -> tuple[Kept, Record]:
         if heard is None or kept.record.out is None:
             return kept, kept.record
         record = kept.record.answer(kept.record.attempt, heard.answer)

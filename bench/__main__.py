@@ -1,9 +1,8 @@
-"""How much a broker and a platform do in a second, and what memory they take: `python3 -m loading`, in checks/.
+"""What a broker and a platform do in a second, and what memory they take: `bench/run`.
 
-wrk (Debian: apt-get install wrk) has some processes of osb-broker, over SQLite and folders, make instances, in runs of
-some seconds until there are so many, and then asks for their last operations. After that the calls of the platform's
-store are timed that a step of an instance makes. LIBOSB names the library, and PYTHONPATH the folders programs,
-python/src and checks.
+wrk (Debian: apt-get install wrk) has some processes of osb-broker, over SQLite and folders, create instances, in runs
+of some seconds until there are enough, and then asks for their last operations. After that the calls of the platform's
+store are timed that a step of an instance makes.
 """
 from __future__ import annotations
 
@@ -21,12 +20,13 @@ import tempfile
 import time
 import urllib.request
 from pathlib import Path
-from typing import Iterator, List, NamedTuple
+from typing import Iterator, NamedTuple
 
-from loading.records import steps_a_second
-from storming.operator import PLANS, SERVICE, python_environment
+from storm.operator import PLANS, SERVICE, python_environment
 
-_TOP = str(Path(__file__).resolve().parents[2])
+from bench.records import steps_a_second
+
+_TOP = str(Path(__file__).resolve().parents[1])
 _ASK = str(Path(__file__).with_name("ask.lua"))
 _LOGIN = "Basic " + base64.b64encode(b"platform:secret").decode()
 _NAMED = json.dumps({"service_id": str(SERVICE), "plan_id": str(PLANS[0]), "organization_guid": "o", "space_guid": "s"})
@@ -46,7 +46,7 @@ class Ran(NamedTuple):
 class Brokers:
     """Some brokers at one address, over one store."""
 
-    def __init__(self, running: List["subprocess.Popen[bytes]"], port: int, asked: argparse.Namespace) -> None:
+    def __init__(self, running: list[subprocess.Popen[bytes]], port: int, asked: argparse.Namespace) -> None:
         self._running, self._asked = running, asked
         self._url = f"http://127.0.0.1:{port}"
 
@@ -124,7 +124,7 @@ def _wait_for(port: int) -> None:
     raise SystemExit("the broker doesn't answer")
 
 
-def _end(broker: "subprocess.Popen[bytes]") -> None:
+def _end(broker: subprocess.Popen[bytes]) -> None:
     broker.send_signal(signal.SIGTERM)
     broker.wait()
 
@@ -163,7 +163,7 @@ def _load(asked: argparse.Namespace) -> None:
 
 def main() -> None:
     """Loads both sides, and prints what came of it."""
-    parser = argparse.ArgumentParser("python3 -m loading", description=__doc__, allow_abbrev=False)
+    parser = argparse.ArgumentParser("bench/run", description=__doc__, allow_abbrev=False)
     parser.add_argument("--brokers", type=int, default=4, help="processes (4)")
     parser.add_argument("--connections", type=int, default=64, help="at once (64)")
     parser.add_argument("--seconds", type=int, default=10, help="of a run (10)")
@@ -177,4 +177,5 @@ def main() -> None:
         print(f"{rate:.0f} steps a second of a platform with {records} records", flush=True)
 
 
-main()
+if __name__ == "__main__":
+    main()

@@ -8,7 +8,7 @@ import socket
 import subprocess
 import time
 from pathlib import Path
-from typing import Iterator, List
+from typing import Iterator
 
 INSTALL = "apt-get install haproxy"
 
@@ -35,7 +35,7 @@ backend brokers
 
 
 @contextlib.contextmanager
-def haproxy(folder: Path, port: int, brokers: List[int]) -> Iterator[None]:
+def haproxy(folder: Path, port: int, brokers: list[int]) -> Iterator[None]:
     """HAProxy listens at the port, and hands requests to brokers at these ports."""
     program = shutil.which("haproxy") or shutil.which("haproxy", path="/usr/sbin:/usr/local/sbin")
     if program is None:
@@ -55,7 +55,7 @@ def haproxy(folder: Path, port: int, brokers: List[int]) -> Iterator[None]:
         process.wait()
 
 
-def _wait_for(port: int, process: "subprocess.Popen[bytes]", log: Path) -> None:
+def _wait_for(port: int, process: subprocess.Popen[bytes], log: Path) -> None:
     while process.poll() is None:
         with contextlib.suppress(OSError), socket.create_connection(("127.0.0.1", port), timeout=1):
             return

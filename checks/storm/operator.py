@@ -6,7 +6,7 @@ import subprocess
 import threading
 import time
 from random import Random
-from typing import Dict, List, Sequence, Set
+from typing import Sequence
 
 from osb import Id
 from osb_platform.instances import Instances
@@ -27,13 +27,13 @@ class Operator:
         self._instances, self._chance, self._orders = instances, Random(f"{seed} removals"), Random(f"{seed} orders")
         self._crashed = Random(f"{seed} orders that are killed")
         self._count, self._seconds = count, seconds
-        self.orders: Set[str] = set()
+        self.orders: set[str] = set()
         """What was ordered: the ids."""
-        self.removed: Set[str] = set()
+        self.removed: set[str] = set()
         """What was asked to be removed: the ids."""
-        self.failed: List[str] = []
+        self.failed: list[str] = []
 
-    def crash_ordering(self, create: Sequence[str], environment: Dict[str, str]) -> List[str]:
+    def crash_ordering(self, create: Sequence[str], environment: dict[str, str]) -> list[str]:
         """Has `osb-platform create` killed at each of its crash points, and then called again; the points hit."""
         hit = []
         for point in ORDER_POINTS:
@@ -59,7 +59,7 @@ class Operator:
             except Exception as error:
                 self.failed.append(repr(error))
 
-    def undone(self) -> List[str]:
+    def undone(self) -> list[str]:
         """What was ordered and has no record, and what was to be removed and is there still."""
         states = dict(self._instances.states())
         return sorted(self.orders - set(states)) + sorted(
@@ -88,7 +88,7 @@ def _id(chance: Random) -> Id:
     return Id(chance.getrandbits(64), chance.getrandbits(64))
 
 
-def python_environment(top: str, seed: int) -> Dict[str, str]:
+def python_environment(top: str, seed: int) -> dict[str, str]:
     """What the programs find in their environment."""
     path = os.pathsep.join([f"{top}/programs", f"{top}/python/src", f"{top}/checks"])
     return {

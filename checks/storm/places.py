@@ -8,7 +8,7 @@ import re
 import sqlite3
 import uuid
 from pathlib import Path
-from typing import Any, Callable, Dict, Iterator, List, NamedTuple, Set
+from typing import Any, Callable, Iterator, NamedTuple
 
 from osb import Holding
 from osb_broker.databases import name_of, password_of
@@ -18,8 +18,8 @@ from osb_platform.instances import Instance, Instances
 from osb_platform.pg_database import PgDatabase
 from osb_platform.sqlite_database import SqliteDatabase
 from osb_program import pg
-from storming.audit import Things
-from storming.operator import KEY
+from storm.audit import Things
+from storm.operator import KEY
 
 _SLOW_FOLDERS = Path(__file__).with_name("slow_folders.py")
 
@@ -28,17 +28,17 @@ class Places(NamedTuple):
     """Where everything is, as the check sees it and as the programs are told."""
 
     instances: Instances
-    holdings: Callable[[], Dict[str, Holding]]
+    holdings: Callable[[], dict[str, Holding]]
     """All rows of the broker's store."""
     things: Callable[[], Things]
     is_usable: Callable[[Instance], bool]
     """Whether what is there of an instance can be used, and is what was ordered."""
-    together: Callable[[], List[str]]
+    together: Callable[[], list[str]]
     """The instances at which two have worked at once, as far as that is seen."""
     disturb: Callable[[], None]
     """Ends one of the sessions that the programs have with PostgreSQL, where there are any."""
-    broker_words: List[str]
-    platform_words: List[str]
+    broker_words: list[str]
+    platform_words: list[str]
 
 
 @contextlib.contextmanager
@@ -57,7 +57,7 @@ def places(folder: Path, store: str, backend: str) -> Iterator[Places]:
             platform = ["--store", str(folder / "instances.sqlite")]
         others = _databases(url).some if backend == "postgresql" else set()
 
-        def holdings() -> Dict[str, Holding]:
+        def holdings() -> dict[str, Holding]:
             return _in_postgresql(url) if store == "postgresql" else _in_sqlite(folder / "broker" / "holdings.sqlite")
 
         def things() -> Things:
@@ -69,7 +69,7 @@ def places(folder: Path, store: str, backend: str) -> Iterator[Places]:
         def is_usable(row: Instance) -> bool:
             return _takes_its_password(url, row) if backend == "postgresql" else _is_its(folder, row)
 
-        def together() -> List[str]:
+        def together() -> list[str]:
             file = folder / "broker" / "together"
             return file.read_text(encoding="ascii").split() if file.exists() else []
 
@@ -91,12 +91,12 @@ def places(folder: Path, store: str, backend: str) -> Iterator[Places]:
                 _drop(url, things().some & {id for id, _ in instances.states()})
 
 
-def _in_sqlite(path: Path) -> Dict[str, Holding]:
+def _in_sqlite(path: Path) -> dict[str, Holding]:
     with contextlib.closing(sqlite3.connect(path, timeout=30)) as database:
         return {id: Holding.from_text(text) for id, text in database.execute("SELECT id, holding FROM holdings")}
 
 
-def _in_postgresql(url: str) -> Dict[str, Holding]:
+def _in_postgresql(url: str) -> dict[str, Holding]:
     return {id: Holding.from_text(text) for id, text in _execute(url, "SELECT id::text, holding FROM osb_holdings")}
 
 
@@ -142,13 +142,13 @@ def _databases(url: str) -> Things:
     return Things(open_ones & roles, closed | roles)
 
 
-def _names(url: str, select: str) -> Set[str]:
+def _names(url: str, select: str) -> set[str]:
     """The ids of the instances that are named so, with `osb_` before."""
     found = (str(name) for (name,) in _execute(url, select))
     return {str(uuid.UUID(name[4:])) for name in found if re.fullmatch("osb_[0-9a-f]{32}", name)}
 
 
-def _drop(url: str, ids: Set[str]) -> None:
+def _drop(url: str, ids: set[str]) -> None:
     """Drops the databases and roles of these instances, which are this storm's own."""
     for id in ids:
         name = f"osb_{uuid.UUID(id).hex}"
@@ -171,7 +171,7 @@ def _database() -> Iterator[str]:
         _execute(server, f"DROP DATABASE {name} WITH (FORCE)")
 
 
-def _execute(url: str, statement: str) -> "List[tuple[Any, ...]]":
+def _execute(url: str, statement: str) -> list[tuple[Any, ...]]:
     with contextlib.closing(pg.Sessions(url, 1).opened()) as session, session.cursor() as cursor:
         cursor.execute(statement)
         return [] if cursor.description is None else list(cursor.fetchall())

@@ -4,7 +4,7 @@ from __future__ import annotations
 import threading
 from collections import Counter
 from random import Random
-from typing import Mapping, NamedTuple, Tuple
+from typing import Mapping, NamedTuple
 
 # What may befall a request on its way, with how often in relation to one another.
 KINDS = {
@@ -48,8 +48,8 @@ class Faults:
     def __init__(self, seed: int, share: float, kinds: Mapping[str, int]) -> None:
         """`share`: how many requests of all meet a fault."""
         self._seed, self.share, self._kinds = seed, share, kinds
-        self.counts: "Counter[str]" = Counter()
-        self._seen: "Counter[Tuple[str, str]]" = Counter()
+        self.counts: Counter[str] = Counter()
+        self._seen: Counter[tuple[str, str]] = Counter()
         self._guard = threading.Lock()
 
     def of(self, method: str, path: str) -> Fault:

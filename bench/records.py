@@ -4,13 +4,12 @@ from __future__ import annotations
 import tempfile
 import time
 from pathlib import Path
-from typing import List, Tuple
 
-from osb import Id, Kind, Record
+from osb import Id, Record
 from osb.records import Kept
-from osb_platform.instances import Instance, Instances
+from osb_platform.instances import Instances
 from osb_platform.sqlite_database import SqliteDatabase
-from storming.operator import PLANS, SERVICE
+from storm.operator import PLANS, SERVICE
 
 _AT_ONCE = 100  # steps are timed so many at a time
 
@@ -43,7 +42,7 @@ def _fill(database: SqliteDatabase, instances: Instances, records: int) -> None:
             )
 
 
-def _step(instances: Instances, ids: List[Id]) -> None:
+def _step(instances: Instances, ids: list[Id]) -> None:
     for id in ids:
         instances.order(id, SERVICE, PLANS[0], "{}")
     for id in instances.claim("one", len(ids), 60.0):
@@ -53,7 +52,7 @@ def _step(instances: Instances, ids: List[Id]) -> None:
         instances.release(id, "one", lambda row, now: (None, 0))
 
 
-def _given_up(kept: Kept) -> Tuple[Kept, None]:
+def _given_up(kept: Kept) -> tuple[Kept, None]:
     return Kept(kept.record.timeout(kept.record.attempt)), None
 
 

@@ -1,4 +1,4 @@
-"""What happened in a storm, a line of JSON for each: for `storming.picture`."""
+"""What happened in a storm, a line of JSON for each: for `storm.picture`."""
 from __future__ import annotations
 
 import json
@@ -6,14 +6,14 @@ import threading
 import time
 from collections import Counter
 from pathlib import Path
-from typing import Any, Iterable, Optional, TextIO
+from typing import Any, Iterable, TextIO
 
 
 class Log:
     """A file of such lines, or nothing where no file is named. Any number of threads may write to it."""
 
-    def __init__(self, path: Optional[Path]) -> None:
-        self._file: Optional[TextIO] = None if path is None else open(path, "w", encoding="utf-8")
+    def __init__(self, path: Path | None) -> None:
+        self._file: TextIO | None = None if path is None else open(path, "w", encoding="utf-8")
         self._guard, self._began = threading.Lock(), time.monotonic()
         self._last = -1.0
 

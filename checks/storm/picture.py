@@ -1,4 +1,4 @@
-"""A storm as it went: `python -m storming.picture < LOG > SVG`, of what `checks/storm --log LOG` has written.
+"""A storm as it went: `python3 -m storm.picture < LOG > SVG`, of what `checks/storm/run --log LOG` has written.
 
 Above, how many records there were in each state; below, when each program was killed.
 """
@@ -6,7 +6,7 @@ from __future__ import annotations
 
 import json
 import sys
-from typing import Any, Dict, List, NamedTuple, Tuple
+from typing import Any, NamedTuple
 
 # From below: the states that are drawn, each with the records that it counts and its colours, light and dark.
 _BANDS = (
@@ -27,22 +27,22 @@ class NoLog(Exception):
 class Storm(NamedTuple):
     """What the log says."""
 
-    counts: List[Tuple[float, List[int]]]
+    counts: list[tuple[float, list[int]]]
     """At each moment the height of each band."""
-    kills: Dict[str, List[float]]
+    kills: dict[str, list[float]]
     calm: float
     """When the faults and kills ended."""
     ordered: int
 
 
-def read(lines: List[str]) -> Storm:
+def read(lines: list[str]) -> Storm:
     """What the lines of a log say."""
-    counts: List[Tuple[float, List[int]]] = []
-    kills: Dict[str, List[float]] = {}
+    counts: list[tuple[float, list[int]]] = []
+    kills: dict[str, list[float]] = {}
     calm, ordered = -1.0, 0
     for number, line in enumerate(lines, 1):
         try:
-            said: Dict[str, Any] = json.loads(line)
+            said: dict[str, Any] = json.loads(line)
             at = float(said["at"])
             if "states" in said:
                 counts.append((at, [sum(said["states"].get(it, 0) for it in states) for _, states, _, _ in _BANDS]))
@@ -106,7 +106,7 @@ def _y(share: float) -> float:
     return _BASE - share * (_BASE - _TOP)
 
 
-def _bands(storm: Storm, end: float, most: int) -> List[str]:
+def _bands(storm: Storm, end: float, most: int) -> list[str]:
     """An area for each band, on those below it."""
     found = []
     for n in range(len(_BANDS)):
@@ -117,7 +117,7 @@ def _bands(storm: Storm, end: float, most: int) -> List[str]:
     return found
 
 
-def _axes(end: float, most: int) -> List[str]:
+def _axes(end: float, most: int) -> list[str]:
     """Seconds to the right, and records upwards."""
     step = 10 if end <= 150 else 60
     found = [f'<line class="line" x1="{_LEFT}" y1="{_BASE}" x2="{_RIGHT}" y2="{_BASE}"/>']
@@ -134,7 +134,7 @@ def _axes(end: float, most: int) -> List[str]:
     return [*found, f'<text x="{_RIGHT + 12}" y="{_BASE + 20}">seconds</text>']
 
 
-def _legend(storm: Storm) -> List[str]:
+def _legend(storm: Storm) -> list[str]:
     """Each band's word, at its colour."""
     found = []
     for n, (word, _, _, _) in enumerate(reversed(_BANDS)):
@@ -146,7 +146,7 @@ def _legend(storm: Storm) -> List[str]:
     return found
 
 
-def _calm(share: float) -> List[str]:
+def _calm(share: float) -> list[str]:
     x = _x(share)
     return [
         f'<line class="line" stroke-dasharray="4 4" x1="{x:.1f}" y1="{_TOP}" x2="{x:.1f}" y2="{_BASE}"/>',
@@ -154,7 +154,7 @@ def _calm(share: float) -> List[str]:
     ]
 
 
-def _kills(name: str, shares: List[float], y: float) -> List[str]:
+def _kills(name: str, shares: list[float], y: float) -> list[str]:
     """A row with a stroke for each kill of a program."""
     strokes = [
         f'<line class="kill" x1="{_x(it):.1f}" y1="{y - 12:.0f}" x2="{_x(it):.1f}" y2="{y + 2:.0f}"/>' for it in shares
