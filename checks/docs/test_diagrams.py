@@ -2,12 +2,12 @@
 from __future__ import annotations
 
 import re
-from typing import Callable, Dict, Iterator, List, Optional, Set, Tuple
+from typing import Callable, Iterator
 
 import osb
-from listing.pages import TOP, Fault, Taken
-from listing.stories import same, story
-from listing.values import ONE, PLAN, SERVICE, asked
+import pytest
+from docs.pages import covers, pages, read
+from docs.values import ONE, PLAN, SERVICE, request
 from osb import (
     Answer,
     Body,
@@ -26,16 +26,16 @@ from osb import (
 )
 from osb.tables import decide_restart, well_formed
 
-Arrow = Tuple[str, str, str]  # before, after, cause
+Arrow = tuple[str, str, str]  # before, after, cause
 NOTHING = "[*]"
 
 
-def arrows(text: str) -> List[Arrow]:
+def arrows(text: str) -> list[Arrow]:
     """The arrows of a state diagram, with the states' own names."""
     first, *lines = text.splitlines()
-    same(first, "stateDiagram-v2")
-    names: Dict[str, str] = {}
-    found: List[Arrow] = []
+    assert first == "stateDiagram-v2"
+    names: dict[str, str] = {}
+    found: list[Arrow] = []
     for line in lines:
         named = re.fullmatch(r' {4}state "([a-z-]+)" as ([a-z_]+)', line)
         arrow = re.fullmatch(r" {4}(\S+) --> (\S+) : (\S.*)", line)
@@ -44,7 +44,7 @@ def arrows(text: str) -> List[Arrow]:
         elif arrow:
             found.append((names.get(arrow[1], arrow[1]), names.get(arrow[2], arrow[2]), arrow[3]))
         else:
-            raise Fault(f"{line!r} is no line of such a diagram")
+            pytest.fail(f"{line!r} is no line of such a diagram")
     return found
 
 
@@ -53,17 +53,18 @@ def arrows(text: str) -> List[Arrow]:
 MODES = {"synchronous": Mode.SYNC, "asynchronous": Mode.ASYNC}
 
 
-@story("each step of the library, and no other")
-def row(taken: Taken) -> None:
-    drawn: Set[Arrow] = set()
-    for before, after, cause in arrows(taken.take("docs/broker.md", "stateDiagram-v2\n")):
+@covers("docs/broker.md", "stateDiagram-v2\n")
+def test_row(texts: list[str]) -> None:
+    """It shows each step of the library, and no other."""
+    drawn: set[Arrow] = set()
+    for before, after, cause in arrows(texts[0]):
         if "Provision" in cause or "Deprovision" in cause:
             kind, _, plan = cause.partition(", ")
             plans = [f"{mode} plan" for mode in MODES if _holding(before).fits(MODES[mode])] if not plan else [plan]
             drawn |= {(before, after, f"{kind}, {it}") for it in plans}
         else:
             drawn.add((before, after, cause))
-    same(sorted(drawn), sorted(set(_row_steps())))
+    assert sorted(drawn) == sorted(set(_row_steps()))
 
 
 def _holding(phase: str) -> Holding:
@@ -71,7 +72,7 @@ def _holding(phase: str) -> Holding:
         return Holding.NONE
     found = [it for it in Phase if str(it) == phase]
     if not found:
-        raise Fault(f"there is no phase {phase}")
+        pytest.fail(f"there is no phase {phase}")
     return Holding(BrokerRow(SERVICE, PLAN, found[0]))
 
 
@@ -85,21 +86,21 @@ def _row_steps() -> Iterator[Arrow]:
             if not _holding(before).fits(mode):
                 continue
             for kind in Kind:
-                after, _ = _holding(before).handle(mode, asked(kind), Outcome.DONE)
+                after, _ = _holding(before).handle(mode, request(kind), Outcome.DONE)
                 if _phase(after) != before:
                     yield before, _phase(after), f"{str(kind).capitalize()}, {name} plan"
         for is_well in (True, False):
             try:
                 yield before, _phase(_holding(before).finish(is_well)), f"finish, {'well' if is_well else 'badly'}"
             except OsbError as error:
-                same(error.status, Status.NOTHING_RUNNING)
+                assert error.status == Status.NOTHING_RUNNING
 
 
 # ---- a record's life, of docs/platform.md
 
 # What the words say of an answer to a request of this kind. Of a state's arrows the first that fits counts, so that
 # "another" and "anything else" are what is left.
-ANSWERS: Dict[str, Callable[[Kind, Answer], bool]] = {
+ANSWERS: dict[str, Callable[[Kind, Answer], bool]] = {
     "200 or 201, well formed": lambda kind, it: it.status in (200, 201) and well_formed(kind, it),
     "202, well formed": lambda kind, it: it.status == 202 and well_formed(kind, it),
     "another 200, 408, 409, or 422 other than AsyncRequired": lambda _, it: it.status in (200, 408, 409)
@@ -119,41 +120,37 @@ class Causes:
 
     def __init__(self, words: str) -> None:
         parts = words.split(", ")
-        self.events: List[str] = []
+        self.events: list[str] = []
         while parts and parts[-1] in PLAIN:
             self.events.append(parts.pop())
         self.kind, _, self.answers = ", ".join(parts).partition(" answered ")
         if self.kind and self.answers not in ANSWERS:
-            raise Fault(f"nobody knows which answers are {self.answers!r}")
+            pytest.fail(f"unknown answers: {self.answers!r}")
 
     def fits(self, kind: Kind, answer: Answer) -> bool:
         return self.kind == str(kind).capitalize() and ANSWERS[self.answers](kind, answer)
 
 
-@story("each step of the library, after every answer and event")
-def record(taken: Taken) -> None:
-    drawn = [
-        (before, after, Causes(cause))
-        for before, after, cause in arrows(taken.take("docs/platform.md", "stateDiagram-v2\n"))
-    ]
-    same(
-        [(before, after) for before, after, causes in drawn if "create" in causes.events],
-        [(NOTHING, str(Record.create(ONE, SERVICE, PLAN, True)[0].state))],
-    )
-    same({it for before, after, _ in drawn for it in (before, after)}, {NOTHING, *map(str, State)})
+@covers("docs/platform.md", "stateDiagram-v2\n")
+def test_record(texts: list[str]) -> None:
+    """It shows each step of the library, after every answer and event."""
+    drawn = [(before, after, Causes(cause)) for before, after, cause in arrows(texts[0])]
+    created = [(before, after) for before, after, causes in drawn if "create" in causes.events]
+    assert created == [(NOTHING, str(Record.create(ONE, SERVICE, PLAN, True)[0].state))]
+    assert {it for before, after, _ in drawn for it in (before, after)} == {NOTHING, *map(str, State)}
     for state in State:
         leading = [(after, causes) for before, after, causes in drawn if before == str(state)]
         for event in PLAIN[1:]:
             told = [after for after, causes in leading if event in causes.events]
-            same((str(state), event, told), (str(state), event, _after(state, event)))
+            assert told == _after(state, event), f"{state}, {event}"
         flying = _in_flight(state)
         if flying is None:
-            same((str(state), [causes.kind for _, causes in leading if causes.kind]), (str(state), []))
+            assert [causes.kind for _, causes in leading if causes.kind] == [], str(state)
         else:
             _compare(state, flying, leading)
 
 
-def _compare(state: State, flying: Record, leading: List[Tuple[str, Causes]]) -> None:
+def _compare(state: State, flying: Record, leading: list[tuple[str, Causes]]) -> None:
     """What is drawn of the answers to the request in flight."""
     kind = flying.out
     assert kind is not None  # it is in flight
@@ -162,21 +159,21 @@ def _compare(state: State, flying: Record, leading: List[Tuple[str, Causes]]) ->
             answer = Answer(status, body)
             told = next((after for after, causes in leading if causes.fits(kind, answer)), None)
             after = str(flying.answer(flying.attempt, answer).state)
-            same((str(state), status, str(body), told), (str(state), status, str(body), after))
+            assert told == after, f"{state}, {status} {body}"
 
 
-def _in_flight(state: State) -> Optional[Record]:
+def _in_flight(state: State) -> Record | None:
     """A record in this state with its request in flight, if there is one."""
     if state == State.WANTED:
         return Record(SERVICE, PLAN, 1, state, Kind.PROVISION)
     try:
         return Record(SERVICE, PLAN, 1, state, None).send(ONE)[0]
     except OsbError as error:
-        same(error.status, Status.NOTHING_DUE)
+        assert error.status == Status.NOTHING_DUE
         return None
 
 
-def _after(state: State, event: str) -> List[str]:
+def _after(state: State, event: str) -> list[str]:
     """The state after the event, where it applies. A restart that changes nothing isn't drawn."""
     flying = _in_flight(state)
     if event == "restart":
@@ -190,7 +187,7 @@ def _after(state: State, event: str) -> List[str]:
     try:
         return [str((calm.expire() if event == "expire" else calm.remove()).state)]
     except OsbError as error:
-        same(error.status in (Status.NOT_POLLING, Status.NOT_REMOVABLE), True)
+        assert error.status in (Status.NOT_POLLING, Status.NOT_REMOVABLE)
         return []
 
 
@@ -199,17 +196,15 @@ def _after(state: State, event: str) -> List[str]:
 PARTICIPANTS = {"P": "Platform", "B": "Broker", "D": "Broker's database", "E": "Backend"}
 
 
-@story("the story, told once more by the library's values")
-def crash(taken: Taken) -> None:
-    drawn = taken.take("docs/instance.md", "sequenceDiagram\n").splitlines()
+@covers("docs/instance.md", "sequenceDiagram\n")
+def test_crash(texts: list[str]) -> None:
+    """The library's values go through the same life."""
     told = [
         "sequenceDiagram",
         *(f"    participant {it} as {name}" for it, name in PARTICIPANTS.items()),
         *(f"    {line}" for line in _life()),
     ]
-    for line, wanted in zip(drawn, told):
-        same(line, wanted)
-    same(len(drawn), len(told))
+    assert texts[0].splitlines() == told
 
 
 def _life() -> Iterator[str]:
@@ -229,17 +224,17 @@ def _life() -> Iterator[str]:
     platform, deprovision = platform.send(ONE)
     yield _sent(platform, deprovision)
     held, answer = broker.begin(Mode.SYNC, deprovision)
-    same((held, answer), (broker, Answer(422, Body.CONCURRENCY_ERROR)))
+    assert (held, answer) == (broker, Answer(422, Body.CONCURRENCY_ERROR))
     yield "B-->>P: 422 ConcurrencyError: busy"
     platform = platform.answer(2, Answer(422, Body.CONCURRENCY_ERROR))
     yield f"Note over P: answer (2): {platform.state}"
     yield from _made(broker.end(Mode.SYNC, Outcome.DONE), platform, provision)
 
 
-def _made(ended: Tuple[Holding, Answer], platform: Record, provision: Request) -> Iterator[str]:
+def _made(ended: tuple[Holding, Answer], platform: Record, provision: Request) -> Iterator[str]:
     """From here on the instance is there."""
     broker, answer = ended
-    same(broker.work, None)
+    assert broker.work is None
     yield from ("E-->>B: made", f"B->>D: ended, with Done: {_phase(broker)}, no work")
     yield f"Note over B: nobody waits for the {answer.status}"
     platform, deprovision = platform.send(ONE)
@@ -248,7 +243,7 @@ def _made(ended: Tuple[Holding, Answer], platform: Record, provision: Request) -
     yield f"B->>D: begin: the {_work(broker)} is recorded as work"
     yield f"B->>E: {due}"
     broker, answer = broker.end(Mode.SYNC, Outcome.DONE)
-    same(broker, Holding(is_marked=True))
+    assert broker == Holding(is_marked=True)
     yield from ("E-->>B: deleted", "B->>D: ended, with Done: no row, no work, the mark")
     yield f"B-->>P: {answer.status}"
     platform = platform.answer(3, answer)
@@ -256,17 +251,17 @@ def _made(ended: Tuple[Holding, Answer], platform: Record, provision: Request) -
     yield "Note over B: the copy of Provision (1) arrives"
     held, late = broker.begin(Mode.SYNC, provision)
     assert isinstance(late, Answer)  # no work is due
-    same(held, broker)
+    assert held == broker
     yield f"B-->>P: {late.status}: marked"
     try:
         platform.answer(1, late)
     except OsbError as error:
-        same(error.status, Status.NOT_IN_FLIGHT)
+        assert error.status == Status.NOT_IN_FLIGHT
         yield f"Note over P: answer (1): NotOut, {platform.state} as before"
 
 
 def _sent(platform: Record, request: Request) -> str:
-    same(platform.out, request.kind)
+    assert platform.out == request.kind
     return f"P->>B: {str(request.kind).capitalize()} ({platform.attempt})"
 
 
@@ -277,11 +272,12 @@ def _work(broker: Holding) -> str:
 # ---- who keeps what, of docs/premises.md
 
 
-@story("its parts are drawn and joined, its words are the documents', its names the library's")
-def premises(taken: Taken) -> None:
-    first, *lines = taken.take("docs/premises.md", "flowchart LR\n").splitlines()
-    drawn: Dict[str, str] = {}
-    joined: Set[str] = set()
+@covers("docs/premises.md", "flowchart LR\n")
+def test_premises(texts: list[str]) -> None:
+    """Each part is drawn and joined. Its words are those of the documents, and its names those of the library."""
+    _, *lines = texts[0].splitlines()
+    drawn: dict[str, str] = {}
+    joined: set[str] = set()
     depth = 0
     for line in (it.strip() for it in lines):
         part = re.fullmatch(r'([A-Z]+)(?:\["([^"]+)"\]|\[\("([^"]+)"\)\])', line)
@@ -296,11 +292,11 @@ def premises(taken: Taken) -> None:
         elif line == "end" and depth:
             depth -= 1
         else:
-            raise Fault(f"{line!r} is no line of such a diagram")
-    same((depth, joined), (0, {it for it in drawn if it.isupper()}))
-    pages = "\n".join(it.read_text(encoding="utf-8") for it in (TOP / "docs").glob("*.md"))
-    known = set(re.findall(r"[a-z0-9]+", re.sub(r"```.*?```", "", pages, flags=re.DOTALL).lower()))
+            pytest.fail(f"{line!r} is no line of such a diagram")
+    assert (depth, joined) == (0, {it for it in drawn if it.isupper()})
+    text = "\n".join(read(it) for it in pages() if it.startswith("docs/"))
+    known = set(re.findall(r"[a-z0-9]+", re.sub(r"```.*?```", "", text, flags=re.DOTALL).lower()))
     for label in drawn.values():
         for word in re.findall(r"[A-Za-z0-9]+", label):
             if not (word in osb.__all__ if word[0].isupper() else word in known):
-                raise Fault(f"{word!r} is no word of the documents, and no name of the library")
+                pytest.fail(f"{word!r} is no word of the documents, and no name of the library")

@@ -1,4 +1,4 @@
-"""What isn't a command to run here: words of a program for a world that isn't there, statements, and a part of one."""
+"""Arguments of commands that aren't run here, statements of SQL, and a part of a program."""
 from __future__ import annotations
 
 import contextlib
@@ -11,30 +11,31 @@ import threading
 import time
 from argparse import Namespace
 from types import SimpleNamespace
-from typing import Any, Callable, Dict, List, Set, Tuple
+from typing import Any, Callable
 from wsgiref.util import setup_testing_defaults
 
 import osb_broker.words
 import osb_platform.words
-import storming.__main__ as storm
-from listing.pages import TOP, Fault, Taken
-from listing.stories import same, story
-from listing.values import ONE, PLAN, SERVICE
+import pytest
+import storm.arguments
+from docs.pages import Block, block, blocks, covers, pages, read
+from docs.values import ONE, PLAN, SERVICE
 from osb import Id, Outcome, Phase
 from osb.service import Task
 from osb.stores import MemoryStore
 from osb.wsgi import BrokerApplication
 
-READERS: Dict[str, Callable[[List[str]], object]] = {
+READERS: dict[str, Callable[[list[str]], object]] = {
     "./osb-broker": osb_broker.words.read,
     "./osb-platform": osb_platform.words.read,
-    "checks/storm": storm.words,
+    "checks/storm/run": storm.arguments.read,
 }
-_LINE = re.compile(r"(?:^|[\s(])(\./osb-broker|\./osb-platform|checks/storm)((?: +[^\s&|;#)]+)+)", re.MULTILINE)
+_NAMES = "|".join(map(re.escape, READERS))
+_LINE = re.compile(rf"(?:^|[\s(])({_NAMES})((?: +[^\s&|;#)]+)+)", re.MULTILINE)
 
 
-def read(text: str) -> List[object]:
-    """What each command of a program says, as its own reader has it: two points at its end stand for a broker."""
+def parsed(text: str) -> list[object]:
+    """What each command of a program says, as its own reader has it. Two points at its end stand for a broker."""
     found = []
     for program, words in _LINE.findall(text.replace("\\\n", " ")):
         given = shlex.split(re.sub(r"\$\w+", str(ONE), re.sub(r" \.\.$", " --broker http://127.0.0.1:8080", words)))
@@ -43,40 +44,44 @@ def read(text: str) -> List[object]:
             with contextlib.redirect_stderr(said), contextlib.redirect_stdout(said):
                 found.append(READERS[program](given))
         except SystemExit:
-            raise Fault(f"{program}{words}: {said.getvalue()}") from None
+            pytest.fail(f"{program}{words}: {said.getvalue()}")
     return found
 
 
-@story("words that osb-platform takes")
-def late(taken: Taken) -> None:
-    (asked,) = read(taken.take("docs/platform-guide.md", "./osb-platform run --late-for "))
-    assert isinstance(asked, Namespace)
-    same((asked.command, asked.late_for), ("run", 120.0))
+@covers("docs/platform-guide.md", "./osb-platform run --late-for ")
+def test_late(texts: list[str]) -> None:
+    (given,) = parsed(texts[0])
+    assert isinstance(given, Namespace)
+    assert (given.command, given.late_for) == ("run", 120.0)
 
 
-@story("words that the storm takes, for what the page tells of it")
-def storms(taken: Taken) -> None:
-    usual, long = read(taken.take("docs/platform-guide.md", "checks/storm "))
+@covers("docs/platform-guide.md", "checks/storm/run ")
+def test_storms(texts: list[str]) -> None:
+    """The arguments are those of the storms that the page describes."""
+    usual, long = parsed(texts[0])
     assert isinstance(usual, Namespace) and isinstance(long, Namespace)
-    same((usual.seconds, usual.instances, usual.brokers, usual.store, usual.backend), (60, 200, 1, "sqlite", "folders"))
-    same((long.seconds, long.instances, long.brokers, long.haproxy), (600, 600, 3, True))
-    same((long.store, long.backend), ("postgresql", "postgresql"))
+    seen = (usual.seconds, usual.instances, usual.brokers, usual.store, usual.backend)
+    assert seen == (60, 200, 1, "sqlite", "folders")
+    assert (long.seconds, long.instances, long.brokers, long.haproxy) == (600, 600, 3, True)
+    assert (long.store, long.backend) == ("postgresql", "postgresql")
 
 
-@story("words that the programs take", is_enough=False)
-def all_words(taken: Taken) -> None:
-    for block in taken.all:
-        if read(block.text):
-            taken.blocks.append(block)
+@pytest.mark.parametrize(
+    "shown",
+    [it for page in pages() for it in blocks(page) if _LINE.search(it.text)],
+    ids=lambda it: f"{it.page}:{it.line}",
+)
+def test_arguments(shown: Block) -> None:
+    """The programs take the arguments of every command in the documents."""
+    assert parsed(shown.text)
 
 
-@story("the role and the database of the URL", is_enough=False)
-def roles(taken: Taken) -> None:
-    for page, role in (("docs/broker-guide.md", "broker"), ("docs/platform-guide.md", "platform")):
-        statements = taken.take(page, f"CREATE ROLE {role} ")
-        made = re.findall(r"^CREATE DATABASE (\w+) OWNER (\w+);$", statements, re.MULTILINE)
-        text = (TOP / page).read_text(encoding="utf-8")
-        same(set(re.findall(r"postgresql://(\w+)@db/(\w+)", text)), {(owner, name) for name, owner in made})
+@pytest.mark.parametrize("page, role", [("docs/broker-guide.md", "broker"), ("docs/platform-guide.md", "platform")])
+def test_roles(page: str, role: str) -> None:
+    """The statements create the role and the database of the page's URLs."""
+    statements = block(page, f"CREATE ROLE {role} ").text
+    created = re.findall(r"^CREATE DATABASE (\w+) OWNER (\w+);$", statements, re.MULTILINE)
+    assert set(re.findall(r"postgresql://(\w+)@db/(\w+)", read(page))) == {(owner, name) for name, owner in created}
 
 
 # ---- the worker of docs/python.md
@@ -96,11 +101,11 @@ CATALOGUE = json.dumps(
 ).encode()
 
 
-@story("run, at a broker whose one plan is asynchronous")
-def slow(taken: Taken) -> None:
-    source = taken.take("docs/python.md", "class Slow:")
-    kept: List[Task] = []
-    things: Set[Id] = set()
+@covers("docs/python.md", "class Slow:")
+def test_slow_worker(texts: list[str], caplog: pytest.LogCaptureFixture) -> None:
+    """It runs, in a broker whose one plan is asynchronous."""
+    kept: list[Task] = []
+    things: set[Id] = set()
     is_first = [True]
 
     def make(id: Id) -> bool:
@@ -113,7 +118,7 @@ def slow(taken: Taken) -> None:
         things.discard(id)
         return True
 
-    names: Dict[str, Any] = {
+    names: dict[str, Any] = {
         "BrokerApplication": BrokerApplication,
         "Outcome": Outcome,
         "Phase": Phase,
@@ -124,19 +129,19 @@ def slow(taken: Taken) -> None:
         "make": make,
         "delete": delete,
     }
-    exec(compile(source, "docs/python.md", "exec", dont_inherit=True), names)
+    exec(compile(texts[0], "docs/python.md", "exec", dont_inherit=True), names)
     broker = BrokerApplication(CATALOGUE, MemoryStore(), names["Slow"](), "platform", "secret")
-    logging.disable(logging.CRITICAL)
+    caplog.set_level(logging.CRITICAL)
     threading.Thread(target=names["go_on"], args=[broker], daemon=True).start()
     body = {"service_id": str(SERVICE), "plan_id": str(PLAN), "organization_guid": "o", "space_guid": "s"}
     query = f"service_id={SERVICE}&plan_id={PLAN}&accepts_incomplete=true"
-    same(called(broker, "PUT", "", query, json.dumps(body).encode())[0], 202)
-    same((_polled(broker), things, len(kept)), ((200, {"state": "succeeded"}), {ONE}, 1))
-    same(called(broker, "DELETE", "", query)[0], 202)
-    same((_polled(broker)[0], things), (410, set()))
+    assert called(broker, "PUT", "", query, json.dumps(body).encode())[0] == 202
+    assert (_polled(broker), things, len(kept)) == ((200, {"state": "succeeded"}), {ONE}, 1)
+    assert called(broker, "DELETE", "", query)[0] == 202
+    assert (_polled(broker)[0], things) == (410, set())
 
 
-def _polled(broker: BrokerApplication) -> Tuple[int, Any]:
+def _polled(broker: BrokerApplication) -> tuple[int, Any]:
     until = time.monotonic() + 20
     answer = called(broker, "GET", "/last_operation", "")
     while answer[1] == {"state": "in progress"} and time.monotonic() < until:
@@ -145,10 +150,10 @@ def _polled(broker: BrokerApplication) -> Tuple[int, Any]:
     return answer
 
 
-def called(broker: BrokerApplication, method: str, end: str, query: str, body: bytes = b"") -> Tuple[int, Any]:
+def called(broker: BrokerApplication, method: str, end: str, query: str, body: bytes = b"") -> tuple[int, Any]:
     """The status and the body of an answer."""
-    statuses: List[str] = []
-    environ: Dict[str, Any] = {
+    statuses: list[str] = []
+    environ: dict[str, Any] = {
         "REQUEST_METHOD": method,
         "PATH_INFO": f"/v2/service_instances/{ONE}{end}",
         "QUERY_STRING": query,

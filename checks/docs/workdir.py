@@ -1,4 +1,4 @@
-"""A clean room: a copy of the repository in which a reader's commands are run, and nothing of this shell's besides."""
+"""A copy of the repository, in which a reader's commands are run without anything of this shell's environment."""
 from __future__ import annotations
 
 import contextlib
@@ -6,56 +6,70 @@ import os
 import re
 import shutil
 import signal
-import socket
 import subprocess
-import tempfile
 from pathlib import Path
-from typing import Dict, Iterator
 
-from listing.pages import TOP, Fault
+import pytest
+from docs.pages import TOP
 
 _SECONDS = 240.0
 
 # What this shell has of Python, Go, pkg-config, PostgreSQL and the library, and a reader's hasn't.
 _OWN = re.compile("LIBOSB|OSB_|PYTHON|PKG_CONFIG|LD_|CGO_|GO[A-Z]|PG|PIP_|CC$|XDG_|DESTDIR|BROKER_|PORT$")
 
-# In the place of ./libosb and ./osb-replay, which the check has had build all before: they give that.
+# What Debian calls the package of a command, if the two names differ.
+_PACKAGES = {"go": "golang-go", "cc": "gcc"}
+
+# In place of ./libosb and ./osb-replay: they give what was built before.
 _LIBOSB = """\
 #!/bin/sh
 set -e
 [ "$1" = build ] || exec '{top}/libosb' "$@"
 mkdir -p "$2"
-cp '{lib}/libosb.a' '{lib}/libosb.so' '{lib}/libosb.so.0' "$2"
-sed "s|^libdir=.*|libdir=$(readlink -f "$2")|; s|^includedir=.*|includedir=$PWD/include|" '{lib}/osb.pc' >"$2/osb.pc"
+cp '{lib}/libosb.a' '{lib}/libosb.so' "$2"
+cp '{lib}/libosb.so' "$2/libosb.so.0"
+described=$(mktemp -d)
+DESTDIR= '{top}/libosb' install "$2" "$described"
+sed "s|^libdir=.*|libdir=$(readlink -f "$2")|; s|^includedir=.*|includedir=$PWD/include|" \
+    "$described/lib/pkgconfig/osb.pc" >"$2/osb.pc"
+rm -r "$described"
 """
 _REPLAY = """\
 #!/bin/sh
 exec crates/osb_replay/out/osb_replay "$@"
 """
 
-# Nothing is done as root, and nothing is installed but below DESTDIR: there ldconfig has to find the library.
+# Nothing is done as root. A library that is installed below DESTDIR has to be found there by ldconfig.
 _STAND_INS = {
     "sudo": """#!/bin/sh\n[ "$1" = apt-get ] || exec "$@"\n""",
     "ldconfig": """#!/bin/sh\n/sbin/ldconfig -v -n -N "$DESTDIR/usr/local/lib" | grep 'libosb.so.0 -> libosb.so.0'\n""",
 }
 
 
-class Room:
-    """The copy is the folder `top`; in `folder`, which has it, is nothing else at first but what stands in for sudo."""
+def needs(*commands: str) -> None:
+    """Skip the test if one of the commands isn't installed."""
+    for command in commands:
+        if shutil.which(command) is None:
+            package = _PACKAGES.get(command, command)
+            pytest.skip(f"{command} isn't installed (Debian: apt-get install {package})")
 
-    def __init__(self, folder: Path) -> None:
+
+class Workdir:
+    """The copy is the folder `top`. The folder above it, `folder`, has nothing else at first but the stand-ins."""
+
+    def __init__(self, folder: Path, library: Path, replay: Path) -> None:
         self.folder, self.top = folder, folder / "pippinterm"
-        left_out = {".git", "build", "crates"}
+        left_out = {".git", "build", "crates", "prebuilt"}
         shutil.copytree(TOP, self.top, ignore=lambda at, names: left_out & set(names) if Path(at) == TOP else [])
-        replay = Path("crates", "osb_replay", "out", "osb_replay")
-        (self.top / replay.parent).mkdir(parents=True)
-        (self.top / replay).symlink_to(TOP / replay)
-        _put(self.top / "libosb", _LIBOSB.format(top=TOP, lib=os.environ["LIBOSB_FOLDER"]))
+        program = self.top / "crates" / "osb_replay" / "out" / "osb_replay"
+        program.parent.mkdir(parents=True)
+        program.symlink_to(replay)
+        _put(self.top / "libosb", _LIBOSB.format(top=TOP, lib=library))
         _put(self.top / "osb-replay", _REPLAY)
         (folder / "bin").mkdir()
         for name, text in _STAND_INS.items():
             _put(folder / "bin" / name, text)
-        self._environment: Dict[str, str] = {
+        self._environment: dict[str, str] = {
             **{name: value for name, value in os.environ.items() if not _OWN.match(name)},
             "PATH": f"{folder}/bin:{os.environ['PATH']}",
             "DESTDIR": f"{folder}/installed",
@@ -63,59 +77,48 @@ class Room:
             "PYTHONDONTWRITEBYTECODE": "1",
             "GOENV": "off",
             "GOPROXY": "off",
+            "GOFLAGS": "-modcacherw",
             "GOCACHE": f"{folder}/go/cache",
             "GOPATH": f"{folder}/go/path",
         }
 
     def run(self, script: str, **given: str) -> str:
-        """What the commands write on standard output, in the copy's folder. Whatever they have started is killed."""
+        """Run the commands in the copy, end whatever they started, and return what they wrote on standard output."""
         out, err = self.folder / "out", self.folder / "err"
-        with open(out, "wb") as written, open(err, "wb") as said:
+        with open(out, "wb") as written, open(err, "wb") as reported:
             shell = subprocess.Popen(
                 ["bash", "-e", "-c", script],
                 cwd=self.top,
                 env={**self._environment, **given},
                 stdin=subprocess.DEVNULL,
                 stdout=written,
-                stderr=said,
+                stderr=reported,
                 start_new_session=True,
             )
             try:
                 status = shell.wait(_SECONDS)
             except subprocess.TimeoutExpired:
-                raise Fault(f"it doesn't end: {_end_of(out)}{_end_of(err)}") from None
+                raise AssertionError(f"it doesn't end: {_end_of(out)}{_end_of(err)}") from None
             finally:
-                with contextlib.suppress(ProcessLookupError):  # where all have ended
+                with contextlib.suppress(ProcessLookupError):  # if all have ended
                     os.killpg(shell.pid, signal.SIGKILL)
-        if status != 0:
-            raise Fault(f"status {status}: {_end_of(out)}{_end_of(err)}")
+        assert status == 0, f"status {status}: {_end_of(out)}{_end_of(err)}"
         return out.read_text(encoding="utf-8", errors="replace")
 
-    def said(self) -> str:
-        """What the last commands have written on standard error."""
+    def errors(self) -> str:
+        """What the last commands wrote on standard error."""
         return (self.folder / "err").read_text(encoding="utf-8", errors="replace")
 
 
-def _put(path: Path, text: str) -> None:
-    """A program of this text, in the place of what is there."""
-    path.write_text(text, encoding="utf-8")
-    path.chmod(0o755)
-
-
-@contextlib.contextmanager
-def room() -> Iterator[Room]:
-    with tempfile.TemporaryDirectory() as folder:
-        yield Room(Path(folder))
-
-
-def free_port() -> int:
-    with socket.create_server(("127.0.0.1", 0)) as free:
-        return int(free.getsockname()[1])
-
-
-def up(port: int) -> str:
+def wait_for(port: int) -> str:
     """The commands that wait until something answers at the port."""
     return f"until curl -s -o /dev/null http://127.0.0.1:{port}/; do sleep 0.05; done\n"
+
+
+def _put(path: Path, text: str) -> None:
+    """Write a program in place of what is there."""
+    path.write_text(text, encoding="utf-8")
+    path.chmod(0o755)
 
 
 def _end_of(file: Path) -> str:
