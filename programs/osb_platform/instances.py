@@ -50,7 +50,7 @@ class Database(Protocol):
     """The same, where rows that others have locked are left out."""
 
     def transaction(self) -> ContextManager[Execute]:
-        """A transaction, which is committed at the end of the block, and then on disk, or rolled back where it raises."""
+        """A transaction. The end of the block commits it to the disk. If the block raises, it is rolled back."""
         ...
 
     def is_taken(self, error: Exception) -> bool:

@@ -116,7 +116,7 @@ class Dask:
             raise Unreplayed(UNABLE, f"workers died again and again: {error}") from None
 
     def _first(self, running: set[Any]) -> set[Any]:
-        """Those that are done, once there are any, or a signal has come. That no worker is left is seen after a while."""
+        """Those that are done, once there are any or a signal has come. A lost last worker is seen after a while."""
         until = time.monotonic() + _SECONDS
         while True:
             with contextlib.suppress(*_TIMEOUTS), self._client.as_current():

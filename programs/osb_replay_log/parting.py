@@ -17,9 +17,7 @@ _MOST_COPIES = 1 << 20
 
 
 class Parting(NamedTuple):
-    """What a worker is given: the number of the stretch, into how many buckets it is parted, and how many restarts there
-    may be.
-    """
+    """What a worker is given: the number of the stretch, of its buckets, and of the restarts that it may have."""
 
     room: Room
     number: int
@@ -30,7 +28,7 @@ class Parting(NamedTuple):
 
 
 class Parted(NamedTuple):
-    """What came of it: how many spool files, lines of any kind, and restarts; and whether it was left at an odd line."""
+    """The counts of spool files, lines of any kind, events and restarts; and whether an odd line ended it."""
 
     pieces: int
     lines: int

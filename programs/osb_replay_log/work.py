@@ -60,7 +60,7 @@ def judge(program: Program, line: bytes) -> str | None:
 
 
 def estimated(body: Sequence[Stretch], most: int) -> tuple[int, int]:
-    """Into how many buckets the log is parted, so that a bucket is about half a part, and how many lines it may have."""
+    """The number of buckets, so that a bucket is about half a part, and how many lines a bucket may have."""
     if not body:
         return 1, 1
     found: list[bytes] = [line for it in _samples(body) for line in next(lines_of(it, _FEW), [])]
@@ -86,8 +86,9 @@ def _judge_head(work: Work, head: Head) -> None:
 
 
 def _part(work: Work, engine: Engine, plans: int, body: Sequence[Stretch], many: int, estimate: int) -> list[Parted]:
-    """What came of each stretch, in their order, up to an odd line: what follows it doesn't count. More restarts before it
-    than a part takes are refused.
+    """What came of each stretch, in order, up to an odd line: what follows that line doesn't count.
+
+    If there are more restarts before the line than a part takes, the log is rejected.
     """
     found: list[Parted | None] = [None] * len(body)
     until, lines, restarts = len(body), 0, 0

@@ -16,6 +16,7 @@ from pathlib import Path
 from typing import Any, Iterator, NamedTuple
 from urllib.parse import urlsplit
 
+import pytest
 from osb import Holding, Id, Kind, Request
 from osb.stores import Store
 
@@ -27,6 +28,8 @@ AT_ONCE = Id.of("00000000-0000-0000-0000-0000000000b1")
 BY_WORKER = Id.of("00000000-0000-0000-0000-0000000000b2")
 USER, PASSWORD = "platform", "a password: with a colon"
 POSTGRESQL = os.environ.get("OSB_TEST_POSTGRESQL", "")
+"""The URL of this worker's database, which exists while a test runs that is marked `postgres`."""
+NO_WAITRESS = "waitress isn't installed (Debian: python3-waitress)"
 
 
 def request(kind: Kind, plan: Id = AT_ONCE, id: Id = ONE) -> Request:
@@ -122,7 +125,7 @@ def broker(folder: Path, *words: str, crash_at: str = "", **variables: str) -> I
     test is skipped where there is no waitress.
     """
     if not has_waitress():
-        raise unittest.SkipTest("waitress isn't installed")
+        pytest.skip(NO_WAITRESS)
     environment = {**os.environ, "OSB_BROKER_PASSWORD": PASSWORD, "OSB_CRASH_AT": crash_at, **variables}
     log = folder / "log"
     line = [str(TOP / "osb-broker"), "serve", "--listen", "127.0.0.1:0", "--state", str(folder / "state"), *words]

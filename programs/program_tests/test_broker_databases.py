@@ -2,10 +2,10 @@
 from __future__ import annotations
 
 import contextlib
-import unittest
 import uuid
 from typing import Any
 
+import pytest
 from osb import Id, Kind
 from osb_broker.backend import There
 from osb_broker.databases import Databases, name_of, password_of
@@ -15,7 +15,7 @@ from program_tests.broker_support import POSTGRESQL, InFolder, request
 KEY = b"a key"
 
 
-@unittest.skipUnless(POSTGRESQL, "OSB_TEST_POSTGRESQL names no database")
+@pytest.mark.postgres
 class OfDatabases(InFolder):
     def setUp(self) -> None:
         super().setUp()
@@ -77,7 +77,3 @@ class OfDatabases(InFolder):
                     "SELECT current_setting('synchronous_commit'), " "current_setting('default_transaction_isolation')"
                 )
                 self.assertEqual(cursor.fetchone(), ("on", "read committed"))
-
-
-if __name__ == "__main__":
-    unittest.main()

@@ -3,9 +3,9 @@ from __future__ import annotations
 
 import json
 import sqlite3
-import unittest
 from contextlib import closing
 
+import pytest
 from osb_broker.points import POINTS
 from program_tests.broker_support import ONE, TOP, InFolder, broker
 
@@ -13,6 +13,7 @@ FILE = TOP / "examples" / "broker" / "databases.py"
 
 
 class Example(InFolder):
+    @pytest.mark.slow
     def test_it_sells(self) -> None:
         top = self.folder / "state" / "databases"
         with broker(self.folder, "--backend", str(FILE)) as running:
@@ -21,6 +22,7 @@ class Example(InFolder):
                 database.execute("CREATE TABLE x (y)")
             self.assertEqual((running.deprovision().status, list(top.iterdir())), (200, []))
 
+    @pytest.mark.slow
     def test_its_catalogue(self) -> None:
         """Both plans sell: the one by a worker, too."""
         file = FILE.with_name("catalogue.json")
@@ -36,6 +38,7 @@ class Example(InFolder):
                     reply = running.ask("GET", f"{target}/last_operation")
                     self.assertEqual(reply.status, 200)
 
+    @pytest.mark.slow
     def test_it_is_killed(self) -> None:
         self.assertIn("work-running", POINTS)
         top = self.folder / "state" / "databases"
@@ -50,7 +53,3 @@ class Example(InFolder):
             while status == 422:
                 status = running.deprovision().status
             self.assertEqual((status, list(top.iterdir())), (200, []))
-
-
-if __name__ == "__main__":
-    unittest.main()

@@ -2,9 +2,9 @@
 from __future__ import annotations
 
 import contextlib
-import unittest
-from typing import Any, ContextManager, Iterator
+from typing import ContextManager, Iterator
 
+import pytest
 from osb import BrokerRow, Holding, Id, Phase
 from osb.stores import Store
 from osb_broker.backend import Locks
@@ -70,7 +70,7 @@ class OfFence(InFolder):
         self.assertEqual(fenced(self.store, locks), (self.store, locks))
 
 
-@unittest.skipUnless(POSTGRESQL, "OSB_TEST_POSTGRESQL names no database")
+@pytest.mark.postgres
 class OfSessions(InFolder):
     """The lock of a session that the server has ended."""
 
@@ -105,7 +105,3 @@ class OfSessions(InFolder):
     def execute(self, statement: str) -> None:
         with Sessions(POSTGRESQL, 1).session() as session, session.cursor() as cursor:
             cursor.execute(statement)
-
-
-if __name__ == "__main__":
-    unittest.main()

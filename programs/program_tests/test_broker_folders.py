@@ -2,7 +2,6 @@
 from __future__ import annotations
 
 import json
-import unittest
 from typing import Any
 
 from osb import Kind
@@ -66,7 +65,3 @@ class OfFolders(InFolder):
         assert isinstance(self.backend, OwnLocks)
         with self.backend.locks(ONE), Folders(self.top).locks.attempt(ONE) as is_had:
             self.assertFalse(is_had)
-
-
-if __name__ == "__main__":
-    unittest.main()

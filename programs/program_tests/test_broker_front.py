@@ -3,7 +3,6 @@ from __future__ import annotations
 
 import json
 import logging
-import unittest
 from typing import Any, Callable, Iterable
 
 from osb import Id
@@ -103,7 +102,3 @@ class OfFront(InFolder):
         )
         self.assertTrue({"time", "event", "milliseconds"} <= set(line))
         self.assertNotIn("secret", lines[0])
-
-
-if __name__ == "__main__":
-    unittest.main()

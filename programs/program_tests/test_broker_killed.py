@@ -7,11 +7,11 @@ to, by a role that may make databases and roles.
 from __future__ import annotations
 
 import contextlib
-import unittest
 from concurrent.futures import ThreadPoolExecutor
 from pathlib import Path
 from typing import Any, ContextManager, Iterator
 
+import pytest
 from osb import Holding, Id, State
 from osb.client import Client
 from osb.records import SqliteRecords
@@ -33,6 +33,8 @@ from program_tests.broker_support import (
     broker,
     held,
 )
+
+pytestmark = pytest.mark.slow
 
 # The points at which a plan that is made by a worker hasn't been answered yet.
 BEFORE_ANSWER = ("begin-next", "begin-written", "work-next", "end-next", "end-written")
@@ -138,7 +140,7 @@ class Killed(InFolder):
                 self.assertEqual((running.provision(id).status, self.is_there(self.folder, id)), (409, False))
 
 
-@unittest.skipUnless(POSTGRESQL, "OSB_TEST_POSTGRESQL names no database")
+@pytest.mark.postgres
 class KilledWithPostgresql(Killed):
     def words(self, folder: Path) -> list[str]:
         return ["--store", self.url(folder), "--backend", self.url(folder)]
@@ -173,7 +175,3 @@ class KilledWithPostgresql(Killed):
 
     def store(self, folder: Path) -> Store:
         return PgStore(self.url(folder), 1)
-
-
-if __name__ == "__main__":
-    unittest.main()

@@ -4,7 +4,6 @@ from __future__ import annotations
 import subprocess
 import sys
 import threading
-import unittest
 
 from osb_broker.locks import RangeLocks
 from program_tests.broker_support import ONE, TWO, InFolder
@@ -61,7 +60,3 @@ class OfLocks(InFolder):
             process.kill()
             with self.locks(ONE) as waited:
                 self.assertTrue(waited)
-
-
-if __name__ == "__main__":
-    unittest.main()

@@ -12,11 +12,12 @@ import subprocess
 import sys
 import threading
 import time
-import unittest
 from pathlib import Path
 from typing import Callable
 from urllib.parse import urlsplit
 
+import pytest
+from hypothesis import given, note, settings, strategies
 from program_tests.broker_support import (
     AT_ONCE,
     BY_WORKER,
@@ -29,6 +30,8 @@ from program_tests.broker_support import (
     authorization,
     broker,
 )
+
+pytestmark = pytest.mark.slow
 
 COUNT = int(os.environ.get("OSB_TEST_HOSTILE", "500"))
 PATH = f"/v2/service_instances/{ONE}"
@@ -313,16 +316,19 @@ class Hostile(InFolder):
 
     def test_random(self) -> None:
         """Targets, headers and bodies that are wrong in some way: 4xx each, and nothing is held afterwards."""
-        seed = random.randrange(2**32)
-        chance = random.Random(seed)
         with broker(self.folder) as running:
-            for at in range(COUNT):
+
+            @settings(max_examples=COUNT, deadline=None, database=None)
+            @given(strategies.randoms(use_true_random=False))
+            def is_rejected(chance: random.Random) -> None:
                 sent = wrong(chance)
-                got = raw(running, sent)
-                self.assertTrue(400 <= status(got) < 500, (seed, at, sent, got))
+                note(repr(sent))
+                self.assertIn(status(raw(running, sent)), range(400, 500))
+
+            is_rejected()
             self.assertEqual(running.provision().status, 201)
             failed = [it for it in running.lines() if it["level"] not in ("info", "debug")]
-            self.assertEqual(failed, [], seed)
+            self.assertEqual(failed, [])
         self.assertEqual(held_rows(self.folder), [str(ONE)])
         folders = self.folder / "state" / "instances"
         self.assertEqual(sorted(it.name for it in folders.iterdir()), [".locks", ".owner", str(ONE)])
@@ -353,7 +359,3 @@ def wrong(chance: random.Random) -> bytes:
     if chance.random() < 0.2:
         return head(method, at, length, password=chance.choice(["x", "", PASSWORD + " "])) + sent
     return head(method, at, length, version=chance.choice(["2.17", "2.14", "1.0", "x", ""])) + sent
-
-
-if __name__ == "__main__":
-    unittest.main()

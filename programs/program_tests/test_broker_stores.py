@@ -5,9 +5,9 @@ That of PostgreSQL is tried where the environment variable OSB_TEST_POSTGRESQL n
 from __future__ import annotations
 
 import threading
-import unittest
 from unittest import mock
 
+import pytest
 from osb import BrokerRow, Holding, Id, Kind, Phase
 from osb_broker import points
 from osb_broker.fence import LostLock, WorkersStore
@@ -107,7 +107,7 @@ class OfSqlite(InFolder):
             self.assertEqual(sorted(made), [False] * 19 + [True])
 
 
-@unittest.skipUnless(POSTGRESQL, "OSB_TEST_POSTGRESQL names no database")
+@pytest.mark.postgres
 class OfPostgresql(OfSqlite):
     def setUp(self) -> None:
         super().setUp()
@@ -169,7 +169,3 @@ class Points(InFolder):
         self.assertEqual(set(said), {"mark-next", "mark-written"})
         said.clear()
         self.assertEqual((held(store, TWO), said), (Holding(is_marked=True), []))
-
-
-if __name__ == "__main__":
-    unittest.main()

@@ -3,9 +3,9 @@ from __future__ import annotations
 
 import contextlib
 import threading
-import unittest
 import uuid
 
+import pytest
 from osb import BrokerRow, Holding, Id, Phase, Request
 from osb_broker.backend import Backend, There
 from osb_broker.folders import Folders
@@ -112,7 +112,7 @@ class OfTies(InFolder):
         self.assertEqual([things.own("one"), things.own("two"), self.things("here").owner()], ["one"] * 3)
 
     def test_a_backend_without_a_name(self) -> None:
-        """As authors may write one: it isn't told from others like it, and isn't taken in the place of one with a name."""
+        """As authors may write one: it can't be told from others like it, and doesn't replace one with a name."""
         self.assertIsInstance(self.things("here"), Tied)
         for name in "aab":
             tie(self.store(name), Nameless(), False)
@@ -134,6 +134,7 @@ class Nameless:
         raise OSError("never asked")
 
 
+@pytest.mark.slow
 class OfProgram(InFolder):
     def test_words(self) -> None:
         """A folder of another store's is refused, and --existing refuses where there is no store."""
@@ -151,7 +152,3 @@ class OfProgram(InFolder):
                 pass
             self.assertIn("it has ended with 2: osb-broker: ", str(raised.exception))
             self.assertIn(said, str(raised.exception))
-
-
-if __name__ == "__main__":
-    unittest.main()

@@ -3,7 +3,6 @@ from __future__ import annotations
 
 import threading
 import time
-import unittest
 from typing import Callable
 
 from osb import BrokerRow, Holding, Id, Kind, Phase, Plan, Request
@@ -132,7 +131,3 @@ class OfUpkeep(InFolder):
         upkeep.touch(TWO)
         self.assertTrue(ended(upkeep, 60))
         self.assertIsNotNone(held(self.store, TWO).work)
-
-
-if __name__ == "__main__":
-    unittest.main()

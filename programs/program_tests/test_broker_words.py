@@ -7,17 +7,19 @@ import os
 import socket
 import subprocess
 import sys
-import unittest
 from pathlib import Path
 
+import pytest
 from osb_broker.words import read
-from program_tests.broker_support import PASSWORD, TOP, InFolder, broker, has_waitress
+from program_tests.broker_support import NO_WAITRESS, PASSWORD, TOP, InFolder, broker, has_waitress
+
+pytestmark = pytest.mark.slow
 
 
 class Words(InFolder):
     def run_with(self, *words: str, **variables: str) -> tuple[int, str, str]:
         if not has_waitress():
-            self.skipTest("waitress isn't installed")
+            pytest.skip(NO_WAITRESS)
         kept = {name: it for name, it in os.environ.items() if not name.startswith("OSB_B")}
         got = subprocess.run(
             [str(TOP / "osb-broker"), *words],
@@ -125,7 +127,3 @@ class Words(InFolder):
         status, _, told = self.run_with("--help", LIBOSB=str(Path(self.folder) / "none"))
         self.assertEqual(status, 70)
         self.assertIn("osb-broker: the library", told)
-
-
-if __name__ == "__main__":
-    unittest.main()

@@ -1,8 +1,6 @@
 """Outcomes are told by what is there: every way that a making and a deletion can go."""
 from __future__ import annotations
 
-import unittest
-
 from osb import BrokerRow, Id, Kind, Outcome, Phase, Request, Work
 from osb.service import Task
 from osb_broker.backend import There
@@ -109,7 +107,3 @@ class Operations(InFolder):
         ):
             row = BrokerRow(SERVICE, AT_ONCE, phase)
             self.assertEqual(BackendWorker(thing).operate(ONE, row), ok, (phase, thing.there))
-
-
-if __name__ == "__main__":
-    unittest.main()

@@ -3,9 +3,9 @@ environment variable OSB_TEST_POSTGRESQL names a database that may be written to
 """
 from __future__ import annotations
 
-import unittest
 from concurrent.futures import ThreadPoolExecutor
 
+import pytest
 from osb import Answer, Body, Id, OsbError, Record, Status
 from osb.records import Kept
 from osb_platform.instances import Database, Instances
@@ -156,7 +156,7 @@ class InstancesTest(InFolder):
         self.assertNotIn(self.instance, [row.id for row in self.instances.rows("ready")])
 
 
-@unittest.skipUnless(POSTGRESQL, "OSB_TEST_POSTGRESQL names no database")
+@pytest.mark.postgres
 class InstancesInPostgresqlTest(InstancesTest):
     def database(self) -> Database:
         return PgDatabase(POSTGRESQL, 8)
@@ -174,7 +174,3 @@ class InstancesInPostgresqlTest(InstancesTest):
         name = str(self.instance)
         with self.instances.only(name) as is_only, Instances(self.database()).only(name) as is_too:
             self.assertEqual((is_only, is_too), (True, False))
-
-
-if __name__ == "__main__":
-    unittest.main()

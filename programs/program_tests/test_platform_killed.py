@@ -5,9 +5,9 @@ A broker serves meanwhile. In the end the platform has what was ordered and not 
 from __future__ import annotations
 
 import time
-import unittest
 from pathlib import Path
 
+import pytest
 from osb import Holding, Id
 from osb_broker.sqlite_store import SqliteStore
 from osb_platform.instances import Instances
@@ -15,6 +15,8 @@ from osb_platform.points import POINTS
 from osb_platform.sqlite_database import SqliteDatabase
 from program_tests.broker_support import AT_ONCE, BY_WORKER, PASSWORD, SERVICE, InFolder, Running, broker, held
 from program_tests.platform_support import ran
+
+pytestmark = pytest.mark.slow
 
 ORDERING = ("order-next", "order-written")
 RUNNING = [it for it in POINTS if it not in ORDERING]
@@ -99,7 +101,3 @@ class KilledTest(InFolder):
                 self.assertEqual(holding, Holding(is_marked=True))
             else:
                 self.assertIsNotNone(holding.row)
-
-
-if __name__ == "__main__":
-    unittest.main()

@@ -102,7 +102,3 @@ class ReachTest(unittest.TestCase):
             self.reached(None, seconds=0.05)
         found, _, rests = self.reached(None)
         self.assertEqual((found, rests), (None, [0.1, 0.2, 0.4, 0.8, 1.6, 3.2, 5.0, 5.0, 5.0]))
-
-
-if __name__ == "__main__":
-    unittest.main()

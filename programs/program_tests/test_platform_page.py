@@ -12,12 +12,12 @@ import socket
 import sqlite3
 import threading
 import time
-import unittest
 import uuid
 from typing import Any, ContextManager, Iterator, NamedTuple
 from unittest import mock
 from urllib.parse import quote
 
+import pytest
 from osb import Answer, Body, Id, Record
 from osb.records import Kept
 from osb_platform import page, page_asked, readings, words
@@ -302,7 +302,7 @@ class ReadingsTest(OverTable):
             asked = asked._replace(before=Place(listed.rows[0].since, listed.rows[0].id), is_last=False)
 
 
-@unittest.skipUnless(POSTGRESQL, "OSB_TEST_POSTGRESQL names no database")
+@pytest.mark.postgres
 class ReadingsInPostgresqlTest(ReadingsTest):
     def setUp(self) -> None:
         self.schema = f"page_{uuid.uuid4().hex}"
@@ -507,6 +507,7 @@ class PageTest(OverTable):
             self.assertEqual(get(url).ids(), [str(id)])
 
 
+@pytest.mark.slow
 class ServerTest(OverTable):
     """What the server takes and refuses."""
 
@@ -581,14 +582,14 @@ class ServerTest(OverTable):
             for host, status in ((f"127.0.0.2:{port}", 200), (f"127.0.0.1:{port}", 421), (f"a.example:{port}", 421)):
                 self.assertEqual(get(f"http://127.0.0.2:{port}/", Host=host).status, status, host)
 
-    @unittest.skipUnless(socket.has_ipv6, "without IPv6")
+    @pytest.mark.skipif(not socket.has_ipv6, reason="this machine has no IPv6")
     def test_host_with_colons(self) -> None:
         try:
             with serving(Page(self.reader(), BROKER), "::1", 0) as url:
                 self.assertRegex(url, r"^http://\[::1\]:\d+/$")
                 self.assertEqual(get(url).status, 200)
         except OSError as error:
-            self.skipTest(f"no address ::1: {error}")
+            pytest.skip(f"this machine has no address ::1: {error}")
 
     def test_a_request_that_takes_too_long(self) -> None:
         """The time counts for the whole request, however often a byte comes."""
@@ -629,6 +630,7 @@ class ServerTest(OverTable):
         self.assertRaises(OSError, get, url)
 
 
+@pytest.mark.slow
 class WordsTest(InFolder):
     """The program with a page."""
 
@@ -708,7 +710,3 @@ class WordsTest(InFolder):
             (2.6 * 86400, "2 days 14 h"),
         ):
             self.assertEqual(lasting(seconds), told)
-
-
-if __name__ == "__main__":
-    unittest.main()

@@ -4,11 +4,13 @@ from __future__ import annotations
 import re
 import signal
 import time
-import unittest
 
+import pytest
 from osb import Id
 from program_tests.broker_support import AT_ONCE, ONE, SERVICE, TWO, InFolder
 from program_tests.platform_support import Said, far_end, platform, ran
+
+pytestmark = pytest.mark.slow
 
 ORDER = ("--service", str(SERVICE), "--plan", str(AT_ONCE))
 NOWHERE = "http://127.0.0.1:9"
@@ -158,7 +160,3 @@ class ProgramTest(InFolder):
 
     def test_a_crash_point_that_is_none(self) -> None:
         self.assertEqual(ran(self.folder, "list", OSB_CRASH_AT="somewhere")[0], 2)
-
-
-if __name__ == "__main__":
-    unittest.main()

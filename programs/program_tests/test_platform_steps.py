@@ -2,7 +2,6 @@
 from __future__ import annotations
 
 import logging
-import unittest
 from unittest import mock
 
 from osb import Id, Record
@@ -181,7 +180,3 @@ class StepsTest(InFolder):
         """What can't be done is told, and ends nothing."""
         with far_end() as end:
             step(self.parts(end), Id.of("00000000-0000-0000-0000-00000000000f"))
-
-
-if __name__ == "__main__":
-    unittest.main()

@@ -4,9 +4,11 @@ from __future__ import annotations
 import subprocess
 import sys
 import time
-import unittest
 
+import pytest
 from program_tests.broker_support import InFolder
+
+pytestmark = pytest.mark.slow
 
 # Each begins at the same moment, once it has loaded all that it needs.
 OPENS = """
@@ -28,7 +30,3 @@ class Files(InFolder):
         begin = str(time.time() + 1.5)
         running = [subprocess.Popen([sys.executable, "-c", OPENS, "25", begin, str(self.folder)]) for _ in range(6)]
         self.assertEqual([it.wait() for it in running], [0] * 6)
-
-
-if __name__ == "__main__":
-    unittest.main()

@@ -14,10 +14,13 @@ from io import StringIO
 from pathlib import Path
 from typing import Iterator
 
+import pytest
 from osb_replay_log.dask_engine import Dask
 from osb_replay_log.engines import MOST_DEATHS, Engine, Processes
 from osb_replay_log.faults import Unreplayed
 from osb_replay_log.progress import Progress, bar, clock
+
+pytestmark = pytest.mark.slow
 
 
 def double(number: int) -> int:
@@ -91,7 +94,9 @@ class ProcessesTest(unittest.TestCase, EngineCases):
         self.assertEqual(multiprocessing.active_children(), [])
 
 
-@unittest.skipIf(importlib.util.find_spec("distributed") is None, "Dask isn't installed")
+@pytest.mark.skipif(
+    importlib.util.find_spec("distributed") is None, reason="Dask isn't installed (Debian: python3-distributed)"
+)
 class DaskTest(unittest.TestCase, EngineCases):
     def engine(self) -> Engine:
         return Dask(None, 2, self.folder)
@@ -137,7 +142,3 @@ class ProgressTest(unittest.TestCase):
 
     def test_clock(self) -> None:
         self.assertEqual([clock(it) for it in (0.4, 59.6, 61, 3661)], ["0:00", "1:00", "1:01", "1:01:01"])
-
-
-if __name__ == "__main__":
-    unittest.main()

@@ -213,7 +213,3 @@ class FilesTest(unittest.TestCase):
         self.file(b"send\n")
         with self.assertRaisesRegex(Unreplayed, "it has become shorter"):
             list(lines_of(stretches(log, 0, 1000)[0], 1000))
-
-
-if __name__ == "__main__":
-    unittest.main()

@@ -8,6 +8,10 @@ import sys
 import unittest
 from pathlib import Path
 
+import pytest
+
+pytestmark = pytest.mark.slow
+
 TEXT = """
 import os, signal
 from osb_replay_log import signals
@@ -61,7 +65,3 @@ class SignalsTest(unittest.TestCase):
         """One that was ignored when the program was started isn't seen to."""
         ended = self.ran("signals.check()", True)
         self.assertEqual((ended.stdout, ended.returncode), ("held\nraised 2\n", -signal.SIGINT))
-
-
-if __name__ == "__main__":
-    unittest.main()

@@ -358,7 +358,3 @@ class GivenUp(Quiet):
     def test_expire(self) -> None:
         made = client("http://127.0.0.1:9", kept_as(State.POLLING))
         self.assertEqual((made.expire(ONE).state, made.record(ONE).state), (State.CLEANING, State.CLEANING))
-
-
-if __name__ == "__main__":
-    unittest.main()

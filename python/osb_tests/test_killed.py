@@ -11,11 +11,14 @@ import unittest
 from pathlib import Path
 from typing import Iterator
 
+import pytest
 from osb import Answer, Body, Holding, Record, State
 from osb.client import Client, Exchanged
 from osb.records import SqliteRecords
 from osb.stores import SqliteStore
 from osb_tests.support import ONE, PASSWORD, SERVICE, SYNC, USER
+
+pytestmark = pytest.mark.slow
 
 
 class Killed(unittest.TestCase):
@@ -83,7 +86,3 @@ class Killed(unittest.TestCase):
                 client.step(ONE),
                 Exchanged(Record(SERVICE, SYNC, 3, State.GONE, None), Answer(410, Body.OTHER_ERROR), None),
             )
-
-
-if __name__ == "__main__":
-    unittest.main()

@@ -154,7 +154,3 @@ class BothSides(unittest.TestCase):
         said = response.status, str(json.loads(response.read())["error"])
         connection.close()
         return said
-
-
-if __name__ == "__main__":
-    unittest.main()

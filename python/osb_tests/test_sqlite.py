@@ -142,7 +142,3 @@ class Refusing:
 
     def close(self) -> None:
         pass
-
-
-if __name__ == "__main__":
-    unittest.main()

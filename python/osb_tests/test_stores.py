@@ -159,7 +159,3 @@ class Locks(InFolder):
         locks = FileLocks(self.folder / "new")
         with locks(ONE), locks(TWO):
             self.assertEqual(sorted(it.name for it in (self.folder / "new").iterdir()), [str(ONE), str(TWO)])
-
-
-if __name__ == "__main__":
-    unittest.main()

@@ -321,7 +321,3 @@ class Holdings(unittest.TestCase):
             (holding_with_work(DEPROVISION), True),
         ):
             self.assertEqual(held.is_unfinished, is_it, held)
-
-
-if __name__ == "__main__":
-    unittest.main()

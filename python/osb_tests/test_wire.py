@@ -252,7 +252,3 @@ class Headers(unittest.TestCase):
         with self.assertRaises(OsbError) as raised:
             Refusal(Status.BUSY)
         self.assertEqual(raised.exception.status, Status.NOT_REFUSED)
-
-
-if __name__ == "__main__":
-    unittest.main()

@@ -498,7 +498,3 @@ class Memory(Quiet):
 
         reply = provision(application(Wanting()))
         self.assertEqual((reply.status, reply.error), (503, "ServiceUnavailable"))
-
-
-if __name__ == "__main__":
-    unittest.main()

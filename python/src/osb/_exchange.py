@@ -68,7 +68,7 @@ class Deadline:
 
 
 class _Reader(io.RawIOBase):
-    """What comes on a connection. Each read may take the time that is left, and no more, and all of them so many bytes."""
+    """What comes on a connection. All reads together may take the time that is left, and give so many bytes."""
 
     def __init__(self, connection: socket.socket, deadline: Deadline, most: int) -> None:
         self._connection, self._deadline, self._left = connection, deadline, most

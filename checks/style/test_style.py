@@ -1,0 +1,30 @@
+"""Formatting, lint and types of the whole repository: the parts of `make quick` that run no test."""
+from __future__ import annotations
+
+import shutil
+import subprocess
+from pathlib import Path
+
+import pytest
+
+pytestmark = pytest.mark.slow
+
+TOP = Path(__file__).resolve().parent.parent.parent
+NEEDED = {
+    "quick-format": ("black", "isort", "shfmt", "gofmt"),
+    "quick-lint": ("flake8",),
+    "quick-shell": ("shellcheck",),
+    "quick-go": ("go", "pkg-config", "cc"),
+    "quick-types": ("mypy",),
+}
+PACKAGES = {"gofmt": "golang-go", "go": "golang-go", "cc": "gcc"}
+
+
+@pytest.mark.parametrize("target", NEEDED)
+def test_make(target: str, library: Path) -> None:
+    missing = [it for it in NEEDED[target] if not shutil.which(it)]
+    if missing:
+        packages = " ".join(PACKAGES.get(it, it) for it in missing)
+        pytest.skip(f"{', '.join(missing)}: not installed (Debian: {packages})")
+    ran = subprocess.run(["make", "-s", target], cwd=TOP, stdout=subprocess.PIPE, stderr=subprocess.STDOUT, text=True)
+    assert ran.returncode == 0, ran.stdout
