@@ -1,3 +1,4 @@
+# shellcheck shell=bash
 # Python for the programs of programs/: sourced by their launchers and by their checks.
 
 # python_with MODULE[,MODULE ..]: prints the first Python, 3.9 or later, that has the modules; its status is 0 where
@@ -23,18 +24,20 @@ python_where() {
     return 1
 }
 
-# run_program NAME PYTHON TOP WORD ..: runs the program of this name over the proved library, in the place of this shell:
-# that of $LIBOSB, else build/libosb.so, which is made first where it isn't there. Where it can't be run the status is 70.
+# run_program NAME PYTHON TOP ARGUMENT ..: runs the program of this name in place of this shell, over the proved library:
+# the one that $LIBOSB names, else the one for this checkout's sources (scripts/artifacts.sh). If the program can't be
+# run, the status is 70.
 run_program() {
-    local name=$1 python=$2 top=$3
+    local who=$1 python=$2 top=$3 folder
     shift 3
     if [ -z "${LIBOSB:-}" ]; then
-        export LIBOSB=$top/build/libosb.so
-        [ -e "$LIBOSB" ] || "$top/libosb" build "$top/build" || refuse_program "$name" "the library can't be built"
+        . "$top/scripts/artifacts.sh" || exit 70
+        find_current library
+        export LIBOSB=$folder/libosb.so
     fi
-    [ -r "$LIBOSB" ] || refuse_program "$name" "the library $LIBOSB, which LIBOSB names, can't be read"
+    [ -r "$LIBOSB" ] || refuse_program "$who" "can't read the library $LIBOSB, which LIBOSB names"
     export PYTHONPATH=$top/programs:$top/python/src${PYTHONPATH:+:$PYTHONPATH}
-    exec "$python" "$top/programs/run.py" "${name//-/_}" "$@"
+    exec "$python" "$top/programs/run.py" "${who//-/_}" "$@"
 }
 
 # wants_postgresql WORD ..: whether one of the words names a server of PostgreSQL.

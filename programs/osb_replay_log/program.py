@@ -116,17 +116,18 @@ def _give(stdin: IO[bytes], given: Iterable[bytes]) -> None:
 
 
 def built() -> str:
-    """The program's file, which the launcher ./osb-replay builds where that is due; or that which OSB_REPLAY names."""
+    """The program's file: the one that OSB_REPLAY names, or the one for this checkout's sources, which is built if it
+    must be.
+    """
     named = os.environ.get("OSB_REPLAY")
     if named:
         _can_be_run(named)
         return os.path.abspath(named)
-    launcher = _TOP / "osb-replay"
+    where = _TOP / "scripts" / "where"
     try:
-        with open(os.devnull, "rb+") as nothing:
-            status = subprocess.run([launcher, "replay"], stdin=nothing, stdout=nothing, check=False).returncode
+        found = subprocess.run([where, "replay"], stdin=subprocess.DEVNULL, stdout=subprocess.PIPE, check=False)
     except OSError as error:
-        raise Unreplayed(UNABLE, f"{launcher} can't be run: {error}") from error
-    if status != 0:
-        raise Unreplayed(UNABLE, "the program osb-replay can't be built")
-    return str(_TOP / "crates" / "osb_replay" / "out" / "osb_replay")
+        raise Unreplayed(UNABLE, f"{where} can't be run: {error}") from error
+    if found.returncode != 0:
+        raise Unreplayed(UNABLE, "there is no program osb-replay, and it can't be built")
+    return os.fsdecode(found.stdout).removesuffix("\n")

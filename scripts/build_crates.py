@@ -1,10 +1,10 @@
 #!/usr/bin/env python3
 """Proves and builds crates with all that they stand on, several crates at once, by the command rt.
 
-    scripts/build.py WHO NAME,NAME archive      of each library, out/libNAME.a, as rt lib makes it of a static library
-    scripts/build.py WHO NAME program WORD ..   of a program, out/NAME, as rt run makes it and runs it on the words
+    build_crates.py WHO NAME,NAME archive          of each library, out/libNAME.a, as rt lib makes it of a static library
+    build_crates.py WHO NAME program ARGUMENT ..   of a program, out/NAME, as rt run makes it and runs it
 
-WHO stands before each line that is told. A crate begins when all below it are built. rt works in the folders of a
+WHO is put before each line of a report. A crate begins when all below it are built. rt works in the folders of a
 crate and of all below it, and lets nobody else in, so each crate has a room: a folder with a crates.txt and the files
 of those crates, as hard links. What rt makes there is then put where rt would have made it. The program itself is
 built in its own place, last and over what was put there.
@@ -207,27 +207,12 @@ class Build:
         self.ended = 0
         self.begun = time.monotonic()
         self.locks: list[int] = []
-        self.shows = False
 
     # ---- what is told
 
     def say(self, text: str) -> None:
-        """A line for good, below what is shown."""
-        self.leave_shown()
+        """Reports on standard error."""
         print(f"{self.who}: {text}", file=sys.stderr, flush=True)
-
-    def show(self, text: str) -> None:
-        """On a terminal, a line in the place of the one before."""
-        self.shows = True
-        columns = os.get_terminal_size(sys.stderr.fileno()).columns or 80
-        line = f"{self.who}: {text}, {self.clock()}"[: columns - 1]
-        print(f"\r\033[K{line}", end="", file=sys.stderr, flush=True)
-
-    def leave_shown(self) -> None:
-        """What is shown stays, and what follows stands below it."""
-        if self.shows:
-            print(file=sys.stderr, flush=True)
-        self.shows = False
 
     def clock(self) -> str:
         minutes, seconds = divmod(int(time.monotonic() - self.begun), 60)
@@ -241,22 +226,8 @@ class Build:
         proved = functions_proved(self.words_of(name))
         return f"crate {number} of {len(self.crates)}, {name}" + (f", {proved} functions proved" if proved else "")
 
-    def of_several(self) -> str:
-        proved = [(it.name, functions_proved(self.words_of(it.name))) for it in self.running]
-        each = [f"{name} {count} proved" if count else name for name, count in proved]
-        return f"crates {self.ended + 1} to {self.ended + len(each)} of {len(self.crates)}, {', '.join(each)}"
-
-    def tell_running(self) -> None:
-        if sys.stderr.isatty() and self.running:
-            one = len(self.running) == 1
-            self.show(self.of_one(self.ended + 1, self.running[0].name) if one else self.of_several())
-
     def tell_ended(self, name: str) -> None:
-        text = self.of_one(self.ended, name)
-        if sys.stderr.isatty():
-            self.show(text)
-        else:
-            self.say(f"{text}, {self.clock()}")
+        self.say(f"{self.of_one(self.ended, name)}, {self.clock()}")
 
     def keep_words(self, name: str) -> None:
         with open(self.log, "ab") as log:
@@ -374,7 +345,6 @@ class Build:
             ready = sorted([*ready, *order.get_ready()], key=self.way.__getitem__)
             while ready and self.may_begin():
                 self.begin(ready.pop())
-            self.tell_running()
             pause()
             for job in [it for it in self.running if it.process.poll() is not None]:
                 self.end(job)
@@ -406,7 +376,6 @@ class Build:
             self.stop()
             raise
         finally:
-            self.leave_shown()
             remove(self.rooms)
         return 0
 

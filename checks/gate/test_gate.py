@@ -1,0 +1,178 @@
+"""What ./check counts: each step's passed, failed and skipped, and that nothing passes on an empty run."""
+
+from __future__ import annotations
+
+import importlib.util
+import os
+import shutil
+import subprocess
+import sys
+from pathlib import Path
+
+import pytest
+
+TOP = Path(__file__).resolve().parents[2]
+
+spec = importlib.util.spec_from_file_location("gate", TOP / "scripts" / "gate.py")
+assert spec is not None and spec.loader is not None
+gate = importlib.util.module_from_spec(spec)
+sys.modules["gate"] = gate
+spec.loader.exec_module(gate)
+
+
+@pytest.mark.parametrize(
+    ("status", "lines", "passed", "failures", "skips"),
+    [
+        (0, ["2 passed, 0 failed"], 2, [], []),
+        (0, ["2 passed, 0 failed, 0 skipped"], 2, [], []),
+        (0, ["skipped: no cc", "2 passed, 0 failed"], 2, [], ["no cc"]),
+        (0, ["skipped: no cc", "2 passed, 0 failed, 1 skipped"], 2, [], ["no cc"]),
+        (0, ["skipped: no cc", "0 passed, 0 failed, 1 skipped"], 0, [], ["no cc"]),
+        (1, ["2 passed, 3 failed"], 2, ["3 failed"] * 3, []),
+        (0, ["2 passed, 3 failed"], 2, ["3 failed"] * 3, []),
+        (0, ["2 passed, 0 failed, 1 skipped"], 2, ["it counts 1 skipped, and names 0"], []),
+        (0, ["skipped: no cc", "2 passed, 0 failed, 0 skipped"], 2, ["it counts 0 skipped, and names 1"], ["no cc"]),
+    ],
+)
+def test_last_line(status: int, lines: list[str], passed: int, failures: list[str], skips: list[str]) -> None:
+    assert gate.by_last_line(gate.Ran(status, lines)) == (passed, failures, skips)
+
+
+@pytest.mark.parametrize(
+    ("status", "lines"),
+    [
+        (1, ["2 passed, 0 failed"]),
+        (-9, ["2 passed, 0 failed"]),
+        (0, ["0 passed, 0 failed"]),
+        (0, ["0 passed, 0 failed, 0 skipped"]),
+        (0, ["2 passed, 0 failed", "done"]),
+        (0, ["2 passed, 0 failed (of one crate)"]),
+        (0, ["12 tests passed"]),
+        (0, []),
+    ],
+)
+def test_run_without_counts_or_ended_badly_fails_once(status: int, lines: list[str]) -> None:
+    assert len(gate.by_last_line(gate.Ran(status, lines)).failures) == 1
+
+
+@pytest.mark.parametrize("text", [None, "", "<testsuites>", "<testsuites/>"])
+def test_report_without_tests_fails_once(tmp_path: Path, text: str | None) -> None:
+    if text is not None:
+        (tmp_path / "report.xml").write_text(text)
+    assert len(gate.by_report(gate.Ran(0, []), tmp_path / "report.xml").failures) == 1
+
+
+# ---- The whole, in a small repository
+
+
+class Repository:
+    """A small repository with the real gate. Scripts stand for rt and for the comparison of the prebuilt files."""
+
+    def __init__(self, top: Path) -> None:
+        self.top = top
+        (top / "scripts").mkdir()
+        for name in ("check", "scripts/gate.py", "scripts/python.sh"):
+            shutil.copy2(TOP / name, top / name)
+        (top / "crates.txt").write_text("osb_replay:\n")
+        self.script(
+            "bin/rt", "mkdir -p crates/osb_replay/out; : >crates/osb_replay/out/osb_replay; echo '5 passed, 0 failed'"
+        )
+        self.script("scripts/prebuilt", "echo '3 passed, 0 failed, 0 skipped'")
+        self.script("checks/one", "echo '2 passed, 0 failed'")
+        (top / "pytest.ini").write_text("[pytest]\naddopts = -p no:cacheprovider\nmarkers = alone\n")
+        self.tests("def test_one(): pass")
+        (top / "test_alone.py").write_text("import pytest\n\n@pytest.mark.alone\ndef test_clock(): pass\n")
+
+    def script(self, name: str, text: str) -> None:
+        path = self.top / name
+        path.parent.mkdir(parents=True, exist_ok=True)
+        path.write_text(f"#!/bin/sh\n{text}\n")
+        path.chmod(0o755)
+
+    def tests(self, text: str) -> None:
+        (self.top / "test_some.py").write_text(f"import pytest\n\n{text}\n")
+
+    def check(self, **given: str) -> tuple[int, str, list[str]]:
+        """The status, the last line, and the lines about failures and skips before it."""
+        python = f'#!/bin/sh\nexec "{sys.executable}" "$@"\n'
+        self.script("bin/python3", python.removeprefix("#!/bin/sh\n"))
+        environment = {**os.environ, **given, "PATH": f"{self.top}/bin:{os.environ['PATH']}"}
+        ran = subprocess.run(
+            [self.top / "check"],
+            env=environment,
+            stdout=subprocess.PIPE,
+            stderr=subprocess.STDOUT,
+            text=True,
+            timeout=100,
+        )
+        *lines, last = ran.stdout.partition("== all\n")[2].splitlines()
+        return ran.returncode, last, [it for it in lines if it.startswith(("FAILED: ", "skipped: "))]
+
+
+@pytest.fixture
+def repository(tmp_path: Path) -> Repository:
+    return Repository(tmp_path)
+
+
+@pytest.mark.slow
+def test_all_pass(repository: Repository) -> None:
+    assert repository.check() == (0, "12 passed, 0 failed, 0 skipped", [])
+
+
+@pytest.mark.slow
+def test_skips_are_named_and_do_not_fail(repository: Repository) -> None:
+    repository.tests(
+        """
+def test_one(): pass
+@pytest.mark.skip(reason="no sbatch:\\n  apt-get install slurm-client")
+def test_two(): pass
+"""
+    )
+    repository.script("scripts/prebuilt", "echo 'skipped: libosb.a: another kit'; echo '2 passed, 0 failed, 1 skipped'")
+    repository.script("checks/one", "echo 'skipped: no cc'; echo '2 passed, 0 failed'")
+    assert repository.check() == (
+        0,
+        "11 passed, 0 failed, 3 skipped",
+        [
+            "skipped: libosb.a: another kit",
+            "skipped: test_some::test_two: no sbatch: apt-get install slurm-client",
+            "skipped: no cc",
+        ],
+    )
+
+
+@pytest.mark.slow
+def test_failures_of_pytest(repository: Repository) -> None:
+    repository.tests(
+        """
+@pytest.fixture
+def broken(): raise RuntimeError
+def test_one(): pass
+def test_two(): assert False
+def test_three(broken): pass
+"""
+    )
+    status, last, lines = repository.check()
+    assert (status, last) == (1, "12 passed, 2 failed, 0 skipped")
+    assert [it.rpartition("::")[2] for it in lines] == ["test_two", "test_three"]
+
+
+@pytest.mark.slow
+def test_file_that_cannot_be_imported_fails_in_both_runs(repository: Repository) -> None:
+    repository.tests("import nothing_of_this_name")
+    status, last, _ = repository.check()
+    assert (status, last) == (1, "10 passed, 2 failed, 0 skipped")
+
+
+@pytest.mark.slow
+def test_no_tests_fail(repository: Repository) -> None:
+    (repository.top / "test_alone.py").unlink()
+    status, last, lines = repository.check()
+    assert (status, last, len(lines)) == (1, "11 passed, 1 failed, 0 skipped", 1)
+    assert "pytest -m alone: it ended with status 5, with 0 passed" in lines[0]
+
+
+@pytest.mark.slow
+def test_environment_names_no_other_library(repository: Repository) -> None:
+    repository.script("checks/one", 'echo "skipped: $LIBOSB$OSB_REPLAY"; echo "2 passed, 0 failed"')
+    assert repository.check(LIBOSB="elsewhere", OSB_REPLAY="elsewhere")[2] == ["skipped: "]

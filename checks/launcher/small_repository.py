@@ -1,0 +1,121 @@
+"""A small repository around the real launchers: its crates are a line each, and a script stands for the Rattle kit."""
+
+from __future__ import annotations
+
+import hashlib
+import os
+import shutil
+import subprocess
+import sys
+from pathlib import Path
+
+TOP = Path(__file__).resolve().parents[2]
+
+ROWS = """\
+# A comment.
+osb_world: uuid
+osb_replay: osb_world
+osb_c: osb_world
+osb_c_instance: osb_world
+osb_c_wire: osb_world
+"""
+
+# Stands for rt. It writes a line to `builds` for each crate, and takes as many seconds as the file `seconds` says.
+RT = """\
+#!/usr/bin/env bash
+name=${PWD##*/}
+home=${0%/*}/..
+cat >>"$home/stolen"
+case $1 in
+    version) cat "$home/version" ;;
+    lib | run)
+        echo "$$ $name" >>"$home/builds"
+        sleep "$(cat "$home/seconds")"
+        echo "functions=7"
+        grep -rq 'not proved' src && { echo "error: a goal is open"; exit 1; }
+        mkdir -p out/rlib
+        [ "$1" = lib ] || printf '#!/bin/sh\\necho "built: $*"\\ncat\\nexit 9\\n' >out/osb_replay
+        [ "$1" = lib ] || chmod +x out/osb_replay
+        ;;
+esac
+"""
+# Stands for scripts/link_library, which wants the kit's archives.
+LINK = """#!/bin/sh\necho built >"$1/libosb.so"\necho built >"$1/libosb.a"\n"""
+PROGRAM = """#!/bin/sh\necho "prebuilt: $*"\ncat\nexit 9\n"""
+
+
+class Repository:
+    """The repository, with prebuilt files that fit its sources."""
+
+    def __init__(self, folder: Path) -> None:
+        self.folder, self.top, self.kit = folder, folder / "repository", folder / "kit"
+        (self.top / "include").mkdir(parents=True)
+        shutil.copytree(TOP / "scripts", self.top / "scripts", ignore=shutil.ignore_patterns("__pycache__"))
+        for name in ("osb-replay", "libosb", "include/osb.h"):
+            shutil.copy2(TOP / name, self.top / name)
+        self.write("scripts/link_library", LINK)
+        (self.top / "crates.txt").write_text(ROWS)
+        for row in ROWS.splitlines()[1:]:
+            self.write(f"crates/{row.partition(':')[0]}/src/lib.rt", "fn step\n")
+        self.write("crates/osb_world/specs/Steps.antt", "applies\n")
+        self.world = self.top / "crates" / "osb_world"
+        self._stand_in_for_rt()
+        machine = os.uname()
+        self.prebuilt = self.top / "prebuilt" / f"{machine.machine}-{machine.sysname}".lower()
+        self.built = self.top / "out" / self.prebuilt.name
+        self._fill_prebuilt()
+
+    def write(self, name: str, text: str) -> None:
+        """A file that can be executed, in the place of what is there."""
+        path = self.top / name
+        path.parent.mkdir(parents=True, exist_ok=True)
+        path.write_text(text)
+        path.chmod(0o755)
+
+    def _stand_in_for_rt(self) -> None:
+        (self.kit / "bin").mkdir(parents=True)
+        (self.kit / "bin" / "rt").write_text(RT)
+        (self.kit / "bin" / "rt").chmod(0o755)
+        (self.kit / "version").write_text("kit 1\n")
+        (self.kit / "seconds").write_text("0\n")
+        (self.kit / "python3").write_text(f'#!/bin/sh\nexec "{sys.executable}" "$@"\n')
+        (self.kit / "python3").chmod(0o755)
+
+    def _fill_prebuilt(self) -> None:
+        for name, text in (("osb-replay", PROGRAM), ("libosb.so", "prebuilt\n"), ("libosb.a", "prebuilt\n")):
+            self.write(str(self.prebuilt.relative_to(self.top) / name), text)
+        lines = []
+        for target, names in (("replay", ["osb-replay"]), ("library", ["libosb.so", "libosb.a"])):
+            sources = self.digest_of_sources(target)
+            for name in names:
+                found = hashlib.sha256((self.prebuilt / name).read_bytes()).hexdigest()
+                lines.append(f"{name} {found} {sources} kit 1\n")
+        (self.prebuilt / "MANIFEST").write_text("# A comment.\n" + "".join(lines))
+
+    def digest_of_sources(self, target: str) -> str:
+        script = f"top=$PWD who=test; . scripts/artifacts.sh && digest_of_sources {target}"
+        return subprocess.run(
+            ["bash", "-c", script], cwd=self.top, check=True, capture_output=True, text=True
+        ).stdout.strip()
+
+    def environment(self, has_rt: bool = True) -> dict[str, str]:
+        """With the PATH of this process, on which no rt is but the one that stands for it."""
+        inherited = [it for it in os.environ["PATH"].split(":") if not (Path(it) / "rt").exists()]
+        path = [*([str(self.kit / "bin")] if has_rt else []), str(self.kit), *inherited]
+        return {**os.environ, "PATH": ":".join(path)}
+
+    def run(self, *command: str, has_rt: bool = True) -> subprocess.CompletedProcess[str]:
+        return subprocess.run(
+            [str(self.top / command[0]), *command[1:]],
+            cwd=self.folder,
+            env=self.environment(has_rt),
+            input="a schedule",
+            capture_output=True,
+            text=True,
+            timeout=60,
+        )
+
+    def builds(self) -> list[str]:
+        """The crates that were built, in this order."""
+        builds = self.kit / "builds"
+        return [it.split()[1] for it in builds.read_text().splitlines()] if builds.exists() else []

@@ -1,0 +1,357 @@
+"""Which osb-replay and which library run: the prebuilt ones, or those built from source, and what is reported."""
+
+from __future__ import annotations
+
+import os
+import signal
+import subprocess
+import time
+from pathlib import Path
+from typing import Callable
+
+import pytest
+from launcher.small_repository import Repository
+
+pytestmark = pytest.mark.slow
+
+PREBUILT = "prebuilt: replay --settle\na schedule"
+BUILT = "built: replay --settle\na schedule"
+
+
+@pytest.fixture
+def repository(tmp_path: Path) -> Repository:
+    return Repository(tmp_path)
+
+
+def replay(repository: Repository, *options: str, has_rt: bool = True) -> tuple[int, str, str]:
+    """The status, the output, and what was reported."""
+    run = repository.run("./osb-replay", *options, "replay", "--settle", has_rt=has_rt)
+    return run.returncode, run.stdout, run.stderr
+
+
+def test_prebuilt_program_runs_without_rt(repository: Repository) -> None:
+    assert replay(repository, has_rt=False) == (9, PREBUILT, "")
+
+
+def rewrite_at_another_time(repository: Repository) -> None:
+    os.utime(repository.world / "src" / "lib.rt", (1, 1))
+
+
+def add_file_that_is_no_source(repository: Repository) -> None:
+    (repository.world / "notes").write_text("fn other\n")
+
+
+def change_comment(repository: Repository) -> None:
+    rows = (repository.top / "crates.txt").read_text()
+    (repository.top / "crates.txt").write_text(rows.replace("A comment", "Another one") + "osb_other: uuid\n")
+
+
+def move_checkout(repository: Repository) -> None:
+    moved = repository.folder / "moved"
+    repository.top.rename(moved)
+    repository.top = moved
+
+
+@pytest.mark.parametrize("change", [rewrite_at_another_time, add_file_that_is_no_source, change_comment, move_checkout])
+def test_what_changes_no_source_builds_nothing(repository: Repository, change: Callable[[Repository], None]) -> None:
+    change(repository)
+    assert replay(repository) == (9, PREBUILT, "")
+
+
+def edit_keeping_time_and_length(repository: Repository) -> None:
+    source = repository.world / "src" / "lib.rt"
+    before = source.stat()
+    source.write_text("fn stop\n")
+    os.utime(source, ns=(before.st_atime_ns, before.st_mtime_ns))
+
+
+def add_source(repository: Repository) -> None:
+    (repository.world / "specs" / "More.antt").write_text("applies\n")
+
+
+def rename_source(repository: Repository) -> None:
+    (repository.world / "specs" / "Steps.antt").rename(repository.world / "specs" / "Other.antt")
+
+
+def remove_folder(repository: Repository) -> None:
+    (repository.world / "specs" / "Steps.antt").unlink()
+    (repository.world / "specs").rmdir()
+
+
+def change_row(repository: Repository) -> None:
+    rows = (repository.top / "crates.txt").read_text()
+    (repository.top / "crates.txt").write_text(rows.replace("osb_world: uuid", "osb_world: uuid clap"))
+
+
+@pytest.mark.parametrize("change", [edit_keeping_time_and_length, add_source, rename_source, remove_folder, change_row])
+def test_changed_source_is_built_once(repository: Repository, change: Callable[[Repository], None]) -> None:
+    change(repository)
+    status, out, reported = replay(repository)
+    assert (status, out, repository.builds()) == (9, BUILT, ["osb_world", "osb_replay"])
+    assert "was built from other sources" in reported and "crate 2 of 2, osb_replay, 7 functions proved" in reported
+    assert replay(repository) == (9, BUILT, "")
+    assert replay(repository, has_rt=False) == (9, BUILT, "")
+
+
+def test_changed_source_without_rt(repository: Repository) -> None:
+    add_source(repository)
+    status, out, reported = replay(repository, has_rt=False)
+    assert (status, out) == (70, "")
+    assert "was built from other sources. To build from source, put the command rt" in reported
+
+
+def test_from_source_builds_although_the_prebuilt_program_fits(repository: Repository) -> None:
+    status, out, reported = replay(repository, "--from-source")
+    assert (status, out) == (9, BUILT)
+    assert "--from-source was given" in reported
+    assert replay(repository, "--from-source") == (9, BUILT, "")
+    assert replay(repository) == (9, PREBUILT, "")
+
+
+def test_from_source_is_the_first_argument_alone(repository: Repository) -> None:
+    run = repository.run("./osb-replay", "replay", "--from-source", has_rt=False)
+    assert (run.stdout, run.stderr) == ("prebuilt: replay --from-source\na schedule", "")
+
+
+def test_from_source_builds_again_under_another_kit(repository: Repository) -> None:
+    replay(repository, "--from-source")
+    (repository.kit / "version").write_text("kit 2\n")
+    assert "proving and building" in replay(repository, "--from-source")[2]
+    assert "osb-replay" in (repository.built / "MANIFEST").read_text().partition("kit 2")[0]
+
+
+def damage(repository: Repository) -> None:
+    with open(repository.prebuilt / "osb-replay", "a") as program:
+        program.write("# More.\n")
+
+
+def make_unexecutable(repository: Repository) -> None:
+    (repository.prebuilt / "osb-replay").chmod(0o644)
+
+
+def make_manifest_unreadable(repository: Repository) -> None:
+    (repository.prebuilt / "MANIFEST").unlink()
+    (repository.prebuilt / "MANIFEST").mkdir()
+
+
+def make_folder_unreadable(repository: Repository) -> None:
+    """A file in its place: root could read a folder without permissions."""
+    repository.prebuilt.rename(repository.folder / "aside")
+    repository.prebuilt.write_text("")
+
+
+def remove_line(repository: Repository) -> None:
+    lines = (repository.prebuilt / "MANIFEST").read_text().splitlines(keepends=True)
+    (repository.prebuilt / "MANIFEST").write_text("".join(it for it in lines if not it.startswith("osb-replay")))
+
+
+@pytest.mark.parametrize(
+    ("change", "report"),
+    [
+        (damage, "osb-replay is damaged: its SHA-256 isn't the one in MANIFEST"),
+        (make_unexecutable, "osb-replay isn't executable"),
+        (make_manifest_unreadable, "MANIFEST can't be read, or has no line for osb-replay"),
+        (make_folder_unreadable, "MANIFEST can't be read, or has no line for osb-replay"),
+        (remove_line, "MANIFEST can't be read, or has no line for osb-replay"),
+    ],
+)
+def test_unusable_prebuilt_file_is_reported_and_not_used(
+    repository: Repository, change: Callable[[Repository], None], report: str
+) -> None:
+    change(repository)
+    status, out, reported = replay(repository, has_rt=False)
+    assert (status, out) == (70, "") and report in reported
+    status, out, reported = replay(repository)
+    assert (status, out) == (9, BUILT) and report in reported
+    status, out, reported = replay(repository)  # reported each time
+    assert (status, out) == (9, BUILT) and report in reported and "building" not in reported
+
+
+def test_machine_without_prebuilt_files(repository: Repository) -> None:
+    repository.prebuilt.rename(repository.prebuilt.with_name("pdp11-unix"))
+    status, out, reported = replay(repository)
+    assert (status, out) == (9, BUILT) and f"there is no prebuilt/{repository.prebuilt.name}" in reported
+
+
+def test_damaged_build_is_built_again(repository: Repository) -> None:
+    replay(repository, "--from-source")
+    (repository.built / "osb-replay").write_text("exit 8\n")
+    status, out, reported = replay(repository, "--from-source")
+    assert (status, out) == (9, BUILT) and "osb-replay is damaged" in reported
+
+
+def test_what_is_not_proved_does_not_run(repository: Repository) -> None:
+    (repository.world / "src" / "lib.rt").write_text("fn not proved\n")
+    status, out, reported = replay(repository)
+    assert (status, out) == (70, "")
+    assert "osb_world isn't proved and built; the end of crates/osb_replay/out/build.log:" in reported
+    assert "error: a goal is open" in reported
+    assert not (repository.built / "MANIFEST").exists()
+
+
+@pytest.mark.parametrize("name", ["crates.txt", "crates/osb_world/src/lost.rt"])
+def test_source_that_cannot_be_read(repository: Repository, name: str) -> None:
+    (repository.top / name).unlink(missing_ok=True)
+    (repository.top / name).symlink_to("nowhere")
+    status, out, reported = replay(repository)
+    assert (status, out) == (70, "") and "can't read the sources of the crates" in reported
+
+
+def test_two_starts_build_once(repository: Repository) -> None:
+    (repository.kit / "seconds").write_text("1\n")
+    starts = [
+        subprocess.Popen(
+            [repository.top / "osb-replay", "--from-source"],
+            env=repository.environment(),
+            stdin=subprocess.DEVNULL,
+            stdout=subprocess.PIPE,
+            stderr=subprocess.PIPE,
+            text=True,
+        )
+        for _ in range(2)
+    ]
+    ended = [it.communicate(timeout=60) for it in starts]
+    assert [out for out, _ in ended] == ["built: \n", "built: \n"]
+    assert sum("waiting for another start" in reported for _, reported in ended) == 1
+    assert repository.builds() == ["osb_world", "osb_replay"]
+
+
+@pytest.mark.parametrize("how", [signal.SIGTERM, signal.SIGKILL])
+def test_end_of_the_launcher_ends_its_build(repository: Repository, how: signal.Signals) -> None:
+    (repository.kit / "seconds").write_text("60\n")
+    start = subprocess.Popen(
+        [repository.top / "osb-replay", "--from-source"],
+        env=repository.environment(),
+        stdin=subprocess.DEVNULL,
+        stderr=subprocess.DEVNULL,
+    )
+    wait_until(lambda: bool(repository.builds()))
+    group = int((repository.kit / "builds").read_text().split()[0])
+    start.send_signal(how)
+    assert start.wait(10) == -how
+    wait_until(lambda: not is_alive(group))
+
+
+def is_alive(group: int) -> bool:
+    try:
+        os.killpg(group, 0)
+    except ProcessLookupError:
+        return False
+    return True
+
+
+def wait_until(reached: Callable[[], bool]) -> None:
+    end = time.monotonic() + 10
+    while not reached():
+        assert time.monotonic() < end
+        time.sleep(0.01)
+
+
+def test_build_leaves_standard_input_to_the_program(repository: Repository) -> None:
+    assert replay(repository, "--from-source")[1] == BUILT
+    assert (repository.kit / "stolen").read_text() == ""
+
+
+# ---- The library, and the path of each
+
+
+def test_where(repository: Repository) -> None:
+    run = repository.run("scripts/where", "replay", has_rt=False)
+    assert (run.stdout, run.stderr) == (f"{repository.prebuilt}/osb-replay\n", "")
+    run = repository.run("scripts/where", "library", has_rt=False)
+    assert (run.stdout, run.stderr) == (f"{repository.top}/out/library\n", "")
+    assert (repository.top / "out" / "library" / "libosb.so").read_text() == "prebuilt\n"
+    run = repository.run("scripts/where", "--from-source", "replay")
+    assert run.stdout == f"{repository.built}/osb-replay\n" and "proving and building" in run.stderr
+    assert repository.run("scripts/where", "program").returncode == 2
+
+
+def test_library_is_copied(repository: Repository) -> None:
+    assert repository.run("./libosb", "build", "there", has_rt=False).stderr == ""
+    there = repository.folder / "there"
+    texts = {it.name: it.read_text() for it in there.iterdir()}
+    pc = texts.pop("osb.pc")
+    assert texts == {"libosb.a": "prebuilt\n", "libosb.so": "prebuilt\n", "libosb.so.0": "prebuilt\n"}
+    assert f"libdir={there}\nincludedir={repository.top}/include\n" in pc
+
+
+def test_library_is_built_if_its_sources_differ(repository: Repository) -> None:
+    repository.run("./libosb", "build", "there")
+    (repository.top / "crates" / "osb_c_wire" / "src" / "lib.rt").write_text("fn stop\n")
+    run = repository.run("./libosb", "build", "there")
+    assert (run.returncode, run.stdout) == (0, "") and "was built from other sources" in run.stderr
+    assert sorted(repository.builds()) == ["osb_c", "osb_c_instance", "osb_c_wire", "osb_world"]
+    assert (repository.folder / "there" / "libosb.so.0").read_text() == "built\n"
+    assert replay(repository) == (9, PREBUILT, "")  # which doesn't stand on osb_c_wire
+
+
+def test_library_from_source(repository: Repository) -> None:
+    run = repository.run("./libosb", "build", "--from-source", "there")
+    assert run.returncode == 0 and "--from-source was given" in run.stderr
+    assert (repository.folder / "there" / "libosb.a").read_text() == "built\n"
+
+
+def test_library_is_installed(repository: Repository) -> None:
+    repository.run("./libosb", "build", "there")
+    to = repository.folder / "usr"
+    assert repository.run("./libosb", "install", "there", str(to)).returncode == 0
+    found = sorted(str(it.relative_to(to)) for it in to.rglob("*") if not it.is_dir())
+    wanted = ["include/osb.h", "lib/libosb.a", "lib/libosb.so", "lib/libosb.so.0", "lib/pkgconfig/osb.pc"]
+    assert found == wanted and (to / "lib" / "libosb.so").readlink() == Path("libosb.so.0")
+
+
+# ---- The prebuilt files, written and compared
+
+
+def compare(repository: Repository, *program: str, has_rt: bool = True) -> tuple[int, str, list[str]]:
+    """The status, the last line, and the lines that aren't ok."""
+    run = repository.run("scripts/prebuilt", "--compare", *program, has_rt=has_rt)
+    *lines, last = run.stdout.splitlines()
+    return run.returncode, last, [it for it in lines if not it.startswith("ok: ")]
+
+
+def test_prebuilt_files_that_differ_from_the_build_fail(repository: Repository) -> None:
+    status, last, lines = compare(repository)
+    assert (status, last, len(lines)) == (1, "0 passed, 3 failed, 0 skipped", 3)
+    assert all("differ" in it for it in lines)
+
+
+def test_written_files_pass(repository: Repository) -> None:
+    (repository.top / "out").mkdir()
+    (repository.top / "out" / "old").touch()
+    assert repository.run("scripts/prebuilt").returncode == 0
+    assert not (repository.top / "out" / "old").exists()
+    assert compare(repository) == (0, "3 passed, 0 failed, 0 skipped", [])
+    assert replay(repository, has_rt=False) == (9, BUILT, "")
+    before = (repository.prebuilt / "MANIFEST").read_bytes()
+    assert repository.run("scripts/prebuilt").returncode == 0
+    assert (repository.prebuilt / "MANIFEST").read_bytes() == before
+
+
+def test_given_program_saves_the_build_if_it_is_the_same(repository: Repository) -> None:
+    status, last, lines = compare(repository, str(repository.prebuilt / "osb-replay"))
+    assert (status, last) == (1, "1 passed, 2 failed, 0 skipped")
+    assert "osb_replay" not in repository.builds() and "osb_c" in repository.builds()
+    assert compare(repository, "/dev/null")[1] == "0 passed, 3 failed, 0 skipped"
+    assert "osb_replay" in repository.builds()
+
+
+def test_stale_prebuilt_files_fail(repository: Repository) -> None:
+    add_source(repository)
+    status, last, lines = compare(repository)
+    assert (status, last) == (1, "0 passed, 3 failed, 0 skipped")
+    assert all("it was built from other sources. Run make prebuilt" in it for it in lines)
+
+
+def test_another_kit_skips_the_comparison_by_name(repository: Repository) -> None:
+    (repository.kit / "version").write_text("kit 2\n")
+    status, last, lines = compare(repository)
+    assert (status, last) == (0, "0 passed, 0 failed, 3 skipped")
+    assert [it.partition("prebuilt/")[0] for it in lines] == ["skipped: "] * 3
+    assert all(
+        "built by another kit, kit 1, and this one is kit 2. Run make prebuilt under that kit" in it for it in lines
+    )
+
+
+def test_comparison_without_rt_fails(repository: Repository) -> None:
+    assert compare(repository, has_rt=False)[:2] == (1, "0 passed, 3 failed, 0 skipped")

@@ -1,0 +1,191 @@
+#!/usr/bin/env python3
+"""Proves and tests everything from nothing, and counts: the gate, which ./check starts.
+
+    scripts/gate.py PYTHON
+
+PYTHON is the Python that has pytest. The steps, one after another:
+
+1. `rt ci`: all proofs, the mutants that the prover must reject, and the tests and programs of the crates.
+2. `scripts/prebuilt --compare`: the prebuilt files are what these sources give.
+3. pytest, several tests at once; then by themselves those that go by the clock.
+4. Each executable in checks/.
+"""
+
+from __future__ import annotations
+
+import fcntl
+import os
+import re
+import resource
+import shutil
+import signal
+import subprocess
+import sys
+import tempfile
+import time
+import xml.etree.ElementTree
+from functools import partial
+from pathlib import Path
+from typing import Callable, NamedTuple
+
+TOP = Path(__file__).resolve().parent.parent
+COUNTS = re.compile(r"(\d+) passed, (\d+) failed(?:, (\d+) skipped)?")
+SKIPPED = "skipped: "
+# What would make the tests take another library, program or database than this checkout's.
+OURS = ("LIBOSB", "LIBOSB_FOLDER", "OSB_REPLAY", "OSB_TEST_POSTGRESQL", "PYTHONPATH", "PYTEST_ADDOPTS")
+
+
+class Result(NamedTuple):
+    """What a step counted: how many passed, a line for each failure, and a name with a reason for each skip."""
+
+    passed: int
+    failures: list[str]
+    skips: list[str]
+
+
+class Ran(NamedTuple):
+    """How a command ended, and the lines that it wrote."""
+
+    status: int
+    lines: list[str]
+
+
+def run(command: list[str]) -> Ran:
+    """Runs a command, and shows its output as it comes. Whatever it started ends with it."""
+    lines = []
+    environment = {name: value for name, value in os.environ.items() if name not in OURS}
+    process = subprocess.Popen(
+        command,
+        cwd=TOP,
+        env=environment,
+        stdin=subprocess.DEVNULL,
+        stdout=subprocess.PIPE,
+        stderr=subprocess.STDOUT,
+        start_new_session=True,
+    )
+    assert process.stdout is not None
+    try:
+        for line in process.stdout:
+            sys.stdout.buffer.write(line)
+            sys.stdout.flush()
+            lines.append(line.decode(errors="replace").rstrip("\n"))
+        return Ran(process.wait(), lines)
+    finally:
+        try:
+            os.killpg(process.pid, signal.SIGKILL)
+        except ProcessLookupError:
+            pass
+        process.wait()
+
+
+def counted(passed: int, failures: list[str], skips: list[str], status: int) -> Result:
+    """The counts of a step that ended with this status. One that counted nothing, or ended badly without a failure, has
+    failed once.
+    """
+    if not failures and (status != 0 or passed + len(skips) == 0):
+        failures = [f"it ended with status {status}, with {passed} passed, no failure and {len(skips)} skipped"]
+    return Result(passed, failures, skips)
+
+
+def by_last_line(ran: Ran) -> Result:
+    """Reads `N passed, M failed` or `N passed, M failed, K skipped` in the last line. A skip is a line that begins with
+    `skipped: `; if the last line counts them too, there must be as many.
+    """
+    last = ran.lines[-1] if ran.lines else ""
+    found = COUNTS.fullmatch(last)
+    skips = [line.removeprefix(SKIPPED) for line in ran.lines if line.startswith(SKIPPED)]
+    if not found:
+        return Result(0, [f"it ended with status {ran.status}, and its last line has no counts: {last!r}"], skips)
+    failures = [f"{found[2]} failed"] * int(found[2])
+    if found[3] is not None and int(found[3]) != len(skips):
+        failures.append(f"it counts {found[3]} skipped, and names {len(skips)}")
+    return counted(int(found[1]), failures, skips, ran.status)
+
+
+def by_report(ran: Ran, report: Path) -> Result:
+    """Reads pytest's JUnit XML."""
+    try:
+        cases = xml.etree.ElementTree.parse(report).iter("testcase")
+    except (OSError, xml.etree.ElementTree.ParseError) as error:
+        return Result(0, [f"pytest ended with status {ran.status} and left no report: {error}"], [])
+    passed, failures, skips = 0, [], []
+    for case in cases:
+        name = f"{case.get('classname')}::{case.get('name')}"
+        skip = case.find("skipped")
+        if case.find("failure") is not None or case.find("error") is not None:
+            failures.append(name)
+        elif skip is not None:
+            skips.append(f"{name}: {' '.join((skip.get('message') or '').split())}")
+        else:
+            passed += 1
+    return counted(passed, failures, skips, ran.status)
+
+
+def prove() -> Result:
+    """`rt ci`. Meanwhile the launchers build nothing, and it finds nothing that an ended build left."""
+    with open(TOP / "crates.txt") as crates:
+        fcntl.flock(crates, fcntl.LOCK_EX)
+        for left in [TOP / "out", *TOP.glob("crates/*/out/room")]:
+            shutil.rmtree(left, ignore_errors=True)
+        return check("rt", "ci")
+
+
+def compare() -> Result:
+    """The comparison of the prebuilt files. `rt ci` leaves the program that it built, and none that was there before."""
+    program = "crates/osb_replay/out/osb_replay"
+    return check("scripts/prebuilt", "--compare", *([program] if (TOP / program).exists() else []))
+
+
+def check(*command: str) -> Result:
+    return by_last_line(run([*command]))
+
+
+def test(python: str, *options: str) -> Result:
+    with tempfile.TemporaryDirectory() as folder:
+        report = Path(folder, "report.xml")
+        return by_report(run([python, "-m", "pytest", "-q", f"--junitxml={report}", *options]), report)
+
+
+def steps(python: str) -> dict[str, Callable[[], Result]]:
+    found: dict[str, Callable[[], Result]] = {
+        "rt ci": prove,
+        "scripts/prebuilt --compare": compare,
+        "pytest -n auto -m 'not alone'": partial(test, python, "-n", "auto", "-m", "not alone"),
+        "pytest -m alone": partial(test, python, "-m", "alone"),
+    }
+    for file in sorted((TOP / "checks").iterdir()):
+        if file.is_file() and os.access(file, os.X_OK):
+            found[f"checks/{file.name}"] = partial(check, str(file))
+    return found
+
+
+def processor_seconds() -> float:
+    used = resource.getrusage(resource.RUSAGE_CHILDREN)
+    return used.ru_utime + used.ru_stime
+
+
+def summary(results: list[Result]) -> str:
+    passed = sum(it.passed for it in results)
+    failed = sum(len(it.failures) for it in results)
+    return f"{passed} passed, {failed} failed, {sum(len(it.skips) for it in results)} skipped"
+
+
+def main() -> int:
+    signal.signal(signal.SIGTERM, lambda *_: sys.exit(128 + signal.SIGTERM))
+    results: list[Result] = []
+    report: list[str] = []
+    for name, step in steps(sys.argv[1]).items():
+        print(f"== {name}", flush=True)
+        begun, used = time.monotonic(), processor_seconds()
+        result = step()
+        results.append(result)
+        seconds = f"{time.monotonic() - begun:.0f} s, {processor_seconds() - used:.0f} processor seconds"
+        report.append(f"{name}: {summary([result])} ({seconds})")
+        report += [f"FAILED: {name}: {it}" for it in dict.fromkeys(result.failures)]
+    report += [f"{SKIPPED}{it}" for result in results for it in result.skips]
+    print("== all", *report, summary(results), sep="\n", flush=True)
+    return 1 if any(it.failures for it in results) else 0
+
+
+if __name__ == "__main__":
+    sys.exit(main())
