@@ -67,7 +67,7 @@ def test_platform(texts: list[str], workdir: Workdir, port: int) -> None:
     """An instance is ordered, seen at the broker, and removed."""
     life, look = (moved(it, port) for it in texts)
     before, remove, after = life.partition("./osb-platform remove")
-    out = workdir.run(f"{before}{look}; echo\n{remove}{after}\nwait %1; wait %2\n")
+    out = workdir.run(f"{before}{look.strip()}; echo\n{remove}{after}\nwait %1; wait %2\n")
     lines = [line.split("\t") for line in out.splitlines()]
     assert ['{"state":"succeeded"}'] in lines
     assert [line[1] for line in lines if len(line) > 3] == ["ready", "gone"]

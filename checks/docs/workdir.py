@@ -20,23 +20,11 @@ _OWN = re.compile("LIBOSB|OSB_|PYTHON|PKG_CONFIG|LD_|CGO_|GO[A-Z]|PG|PIP_|CC$|XD
 # What Debian calls the package of a command, if the two names differ.
 _PACKAGES = {"go": "golang-go", "cc": "gcc"}
 
-# In place of ./libosb and ./osb-replay: they give what was built before.
-_LIBOSB = """\
-#!/bin/sh
-set -e
-[ "$1" = build ] || exec '{top}/libosb' "$@"
-mkdir -p "$2"
-cp '{lib}/libosb.a' '{lib}/libosb.so' "$2"
-cp '{lib}/libosb.so' "$2/libosb.so.0"
-described=$(mktemp -d)
-DESTDIR= '{top}/libosb' install "$2" "$described"
-sed "s|^libdir=.*|libdir=$(readlink -f "$2")|; s|^includedir=.*|includedir=$PWD/include|" \
-    "$described/lib/pkgconfig/osb.pc" >"$2/osb.pc"
-rm -r "$described"
-"""
-_REPLAY = """\
-#!/bin/sh
-exec crates/osb_replay/out/osb_replay "$@"
+# The copy has no crates. Instead of looking for what fits their sources, it takes what the tests were given.
+_GIVEN = """
+find_current() {{
+    folder='{folder}'
+}}
 """
 
 # Nothing is done as root. A library that is installed below DESTDIR has to be found there by ldconfig.
@@ -59,13 +47,21 @@ class Workdir:
 
     def __init__(self, folder: Path, library: Path, replay: Path) -> None:
         self.folder, self.top = folder, folder / "pippinterm"
-        left_out = {".git", "build", "crates", "prebuilt"}
+        left_out = {".git", "build", "out", "crates", "prebuilt"}
         shutil.copytree(TOP, self.top, ignore=lambda at, names: left_out & set(names) if Path(at) == TOP else [])
-        program = self.top / "crates" / "osb_replay" / "out" / "osb_replay"
+        given = folder / "given"
+        given.mkdir()
+        for name, path in (
+            ("osb-replay", replay),
+            ("libosb.so", library / "libosb.so"),
+            ("libosb.a", library / "libosb.a"),
+        ):
+            (given / name).symlink_to(path)
+        program = self.top / "crates" / "osb_replay" / "out" / "osb_replay"  # docs/reliability.md names it so
         program.parent.mkdir(parents=True)
         program.symlink_to(replay)
-        _put(self.top / "libosb", _LIBOSB.format(top=TOP, lib=library))
-        _put(self.top / "osb-replay", _REPLAY)
+        with open(self.top / "scripts" / "artifacts.sh", "a", encoding="utf-8") as script:
+            script.write(_GIVEN.format(folder=given))
         (folder / "bin").mkdir()
         for name, text in _STAND_INS.items():
             _put(folder / "bin" / name, text)

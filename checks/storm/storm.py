@@ -26,6 +26,7 @@ from storm.proxy import Proxy
 
 _TOP = str(Path(__file__).resolve().parents[2])
 _LATE = 7.0  # by then what was late has arrived
+_LONGEST = 120.0  # a shorter storm goes on until then, if something that is wanted hasn't happened
 
 # What `--without` names that is no part of the design, but a whole side of it.
 OTHER_BROKERS = ("broker", "both")
@@ -98,6 +99,7 @@ class Storm:
             thread.join()
         self._settle()
         self._proxy.shutdown()
+        self._proxy.server_close()
         for program in (self.platform, *self.brokers):
             program.end()
 
@@ -112,10 +114,24 @@ class Storm:
         """Whether this one is killed again and again."""
         return self._asked.kills in ("both", "platform" if program is self.platform else "brokers")
 
+    def untried(self) -> list[str]:
+        """What has to happen in every storm, and hasn't yet, or too seldom."""
+        looks, kinds, ordered = self.audit.looks, self.faults.counts, len(self.operator.orders)
+        found = [f"{kind} was compared {looks[kind]} times only" for kind in ("ready", "gone") if looks[kind] < 20]
+        found += [f"no request met {kind!r}" for kind in KINDS if self._asked.faults != 0 and kinds[kind] == 0]
+        if ordered < self._asked.instances // 2:
+            found.append(f"{ordered} of {self._asked.instances} instances were ordered")
+        for program in (self.platform, *self.brokers):
+            if self.is_killed(program) and program.kills < 2:
+                found.append(f"a program was killed {program.kills} times only")
+        return found
+
     def _goes_on(self, began: float) -> bool:
-        """Whether it goes on a while because of crash points that weren't hit yet."""
-        is_wanted = self._asked.points and any(it.left() for it in (self.platform, *self.brokers))
-        return is_wanted and time.monotonic() < began + 2 * self._asked.seconds
+        """Whether it goes on for a while, because something that is wanted hasn't happened yet."""
+        if time.monotonic() > began + max(2 * self._asked.seconds, _LONGEST):
+            return False
+        is_point_left = any(it.left() for it in (self.platform, *self.brokers))
+        return self._asked.points and is_point_left or self._asked.without is None and self.untried() != []
 
     def _disturb(self, stop: threading.Event) -> None:
         """Ends a session with PostgreSQL every few seconds: so commits break off of which nobody knows the result."""
@@ -241,7 +257,7 @@ def _report(asked: Namespace, storm: Storm) -> Report:
     counted = storm.audit.count()
     faults = _ends(storm)
     if asked.without is None:
-        faults += _left_behind(storm, counted) + _untried(asked, storm)
+        faults += _left_behind(storm, counted) + storm.untried()
         if asked.points and asked.kills != "none":
             faults += [f"this crash point wasn't hit: {it}" for it in storm.left()]
     elif not (storm.audit.orphans() or storm.audit.wrong or storm.at.together()):
@@ -281,19 +297,6 @@ def _left_behind(storm: Storm, counted: list[str]) -> list[str]:
     ends = [f"wrong at the end: {line}" for line in counted]
     undone = [f"an order without a record, or a removal that isn't done: {it}" for it in storm.operator.undone()[:3]]
     return wrong + ends + undone + [f"two workers at one instance: {it}" for it in storm.at.together()[:3]]
-
-
-def _untried(asked: Namespace, storm: Storm) -> list[str]:
-    """What has to happen in every storm and hasn't, or too seldom."""
-    looks, kinds, ordered = storm.audit.looks, storm.faults.counts, len(storm.operator.orders)
-    found = [f"{kind} was compared {looks[kind]} times only" for kind in ("ready", "gone") if looks[kind] < 20]
-    found += [f"no request met {kind!r}" for kind in KINDS if asked.faults != 0 and kinds[kind] == 0]
-    if ordered < asked.instances // 2:
-        found.append(f"{ordered} of {asked.instances} instances were ordered")
-    for program in (storm.platform, *storm.brokers):
-        if storm.is_killed(program) and program.kills < 2:
-            found.append(f"a program was killed {program.kills} times only")
-    return found
 
 
 def _free_ports(count: int) -> list[int]:

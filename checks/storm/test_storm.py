@@ -29,14 +29,16 @@ def assert_calm_after(*arguments: str) -> None:
 
 @pytest.mark.usefixtures("library")
 def test_over_files() -> None:
-    """A minute over SQLite and folders, or up to two, until each crash point of both programs was hit."""
+    """A minute over SQLite and folders, or up to two, until each crash point was hit and each fault met a request."""
     assert_calm_after()
 
 
 @pytest.mark.postgres
 @pytest.mark.usefixtures("library", "postgresql")
 def test_over_postgresql() -> None:
-    """Half a minute of two brokers behind HAProxy. PostgreSQL is the store and the backend; sessions end at random."""
+    """Half a minute, or up to two, of two brokers behind HAProxy. PostgreSQL is the store and the backend, and sessions
+    end at random.
+    """
     if shutil.which("haproxy", path="/usr/sbin:/usr/local/sbin:/usr/bin") is None:
         pytest.skip("haproxy isn't installed (Debian: apt-get install haproxy)")
     places = ("--store", "postgresql", "--backend", "postgresql")
