@@ -5,8 +5,8 @@ MAKEFLAGS += --no-builtin-rules --output-sync=target --jobs=$(shell nproc)
 PYTHON = $(or $(shell . scripts/python.sh && python_with pytest,xdist),/usr/bin/python3)
 FAST = not slow and not postgres and not browser and not alone
 LIBRARY = $${LIBOSB_FOLDER:-$$(scripts/where library)}
-# A folder with staticcheck, if it isn't on the PATH.
-STATICCHECK = staticcheck
+# Debian has staticcheck as sources only (golang-honnef-go-tools-dev). The first `make quick` builds it, in half a minute.
+STATICCHECK = $(CURDIR)/build/staticcheck
 
 .PHONY: help quick test check one prebuilt format
 .PHONY: quick-format quick-lint quick-shell quick-go quick-types quick-tests
@@ -48,10 +48,10 @@ quick-lint:
 quick-shell:
 	scripts/files bash | xargs shellcheck
 
-quick-go:
+quick-go: $(if $(wildcard /usr/share/gocode/src/honnef.co/go/tools/cmd/staticcheck),$(STATICCHECK))
 	export PKG_CONFIG_PATH="$(LIBRARY)" LD_LIBRARY_PATH="$(LIBRARY)" GOFLAGS='-mod=readonly -buildvcs=false' GOPROXY=off
 	for module in go examples/go; do
-	    (cd $$module && go vet ./... && if command -v $(STATICCHECK) >/dev/null; then $(STATICCHECK) ./...; fi)
+	    (cd $$module && go vet ./... && if [ -x $(STATICCHECK) ]; then $(STATICCHECK) ./...; fi)
 	done
 
 quick-types:
@@ -59,5 +59,8 @@ quick-types:
 
 quick-tests:
 	$(PYTHON) -m pytest -q -n 4 -m '$(FAST)'
+
+$(STATICCHECK):
+	GO111MODULE=off GOFLAGS= GOPATH=/usr/share/gocode go build -o $@ honnef.co/go/tools/cmd/staticcheck
 
 .ONESHELL:

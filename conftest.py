@@ -17,7 +17,9 @@ import pytest
 TOP = Path(__file__).resolve().parent
 PATHS = [str(TOP / name) for name in ("python/src", "python", "programs", "checks")]
 FOLDER = "OSB_TEST_SERVER"
-"""The environment variable with the folder of the PostgreSQL server."""
+"""The environment variable with the folder of the PostgreSQL server of this run."""
+KEEPER = pytest.StashKey["subprocess.Popen[bytes]"]()
+"""The process that ends the server."""
 
 
 def pytest_configure(config: pytest.Config) -> None:
@@ -26,8 +28,11 @@ def pytest_configure(config: pytest.Config) -> None:
     os.environ["PYTHONPATH"] = os.pathsep.join([*PATHS, *(it for it in before if it and it not in PATHS)])
     with contextlib.suppress(LookupError):
         os.environ["LIBOSB"] = str(_where("LIBOSB_FOLDER", "library") / "libosb.so")
-    if not is_worker(config) and has_postgresql() and "OSB_TEST_POSTGRESQL" not in os.environ:
-        os.environ[FOLDER] = str(_prepare_server())
+    is_given = (
+        "OSB_TEST_POSTGRESQL" in os.environ and FOLDER not in os.environ
+    )  # else an outer run of pytest has set it
+    if not is_worker(config) and has_postgresql() and not is_given:
+        config.stash[KEEPER] = _prepare_server()
     if FOLDER in os.environ:
         worker = getattr(config, "workerinput", {}).get("workerid", "main")
         os.environ["OSB_TEST_POSTGRESQL"] = f"{os.environ['OSB_TEST_URL']}/osb_{worker}"
@@ -35,11 +40,8 @@ def pytest_configure(config: pytest.Config) -> None:
 
 def pytest_unconfigure(config: pytest.Config) -> None:
     """Ends the PostgreSQL server."""
-    if FOLDER in os.environ and not is_worker(config):
-        folder = Path(os.environ[FOLDER])
-        if (folder / "data" / "postmaster.pid").exists():
-            _as_postgres("pg_ctl", "stop", "-D", str(folder / "data"), "-m", "immediate")
-        shutil.rmtree(folder)
+    if KEEPER in config.stash:
+        config.stash[KEEPER].communicate()
 
 
 def is_worker(config: pytest.Config) -> bool:
@@ -94,7 +96,16 @@ def has_postgresql() -> bool:
     return _programs() is not None
 
 
-def _prepare_server() -> Path:
+# Once its standard input ends, which also happens if pytest is killed, it ends the server and removes the folder.
+_KEEP = """
+cat
+pid=$(head -n 1 "$1/data/postmaster.pid" 2>/dev/null) && kill -QUIT "$pid"
+while [ -n "$pid" ] && kill -0 "$pid" 2>/dev/null; do sleep 0.05; done
+rm -rf "$1"
+"""
+
+
+def _prepare_server() -> subprocess.Popen[bytes]:
     """Makes the folder of a server that doesn't run yet, and sets its address and password in the environment."""
     with socket.create_server(("127.0.0.1", 0)) as free:
         port = free.getsockname()[1]
@@ -102,7 +113,8 @@ def _prepare_server() -> Path:
     if os.geteuid() == 0:
         shutil.chown(folder, "postgres")
     os.environ.update(OSB_TEST_URL=f"postgresql://postgres@127.0.0.1:{port}", PGPASSWORD=secrets.token_hex(16))
-    return folder
+    os.environ[FOLDER] = str(folder)
+    return subprocess.Popen(["sh", "-c", _KEEP, "sh", str(folder)], stdin=subprocess.PIPE, start_new_session=True)
 
 
 def _as_postgres(program: str, *arguments: str) -> None:

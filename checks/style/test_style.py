@@ -1,4 +1,4 @@
-"""Formatting, lint and types of the whole repository: the parts of `make quick` that run no test."""
+"""Formatting, lint and types of the whole repository, as `make quick` checks them. checks/go has those of Go."""
 from __future__ import annotations
 
 import shutil
@@ -14,10 +14,9 @@ NEEDED = {
     "quick-format": ("black", "isort", "shfmt", "gofmt"),
     "quick-lint": ("flake8",),
     "quick-shell": ("shellcheck",),
-    "quick-go": ("go", "pkg-config", "cc"),
     "quick-types": ("mypy",),
 }
-PACKAGES = {"gofmt": "golang-go", "go": "golang-go", "cc": "gcc"}
+PACKAGES = {"gofmt": "golang-go"}
 
 
 @pytest.mark.parametrize("target", NEEDED)

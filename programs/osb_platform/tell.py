@@ -5,22 +5,39 @@ import json
 import sys
 import threading
 import time
-from typing import TextIO
+from typing import Callable, NamedTuple, TextIO
 
 from osb_platform.instances import Instance
 
-_HEAD = ("id", "state", "since", "service", "plan")
 _ASKED = "removal is asked for"
 
 
+class Column(NamedTuple):
+    """A column of `osb-platform list`."""
+
+    name: str
+    width: int
+    """Its least width on a terminal."""
+    cell: Callable[[Instance], str]
+
+
+COLUMNS = (
+    Column("id", 36, lambda row: str(row.id)),
+    Column("state", 16, lambda row: row.state),
+    Column("since", 20, lambda row: moment(row.since)),
+    Column("service", 36, lambda row: str(row.service)),
+    Column("plan", 36, lambda row: str(row.plan)),
+)
+"""The columns of `osb-platform list`, in their order. docs/platform-guide.md names them too; a test compares them."""
+
+
 def lines(rows: list[Instance], is_terminal: bool) -> list[str]:
-    """A line for each row: with columns and a head on a terminal, else parted by tabs."""
-    cells = [(str(row.id), row.state, moment(row.since), str(row.service), str(row.plan)) for row in rows]
+    """A line for each row: on a terminal below a head and in columns, else with tabs between the cells."""
+    cells = [[it.cell(row) for it in COLUMNS] for row in rows]
     if not is_terminal:
         return ["\t".join(it) for it in cells]
-    return [
-        " ".join(cell.ljust(width) for cell, width in zip(it, (36, 16, 20, 36, 36))).rstrip() for it in [_HEAD, *cells]
-    ]
+    head = [it.name for it in COLUMNS]
+    return [" ".join(cell.ljust(it.width) for cell, it in zip(line, COLUMNS)).rstrip() for line in [head, *cells]]
 
 
 def waiting(rows: list[Instance]) -> str | None:

@@ -7,6 +7,7 @@ import re
 import socket
 from pathlib import Path
 
+from osb_platform.tell import COLUMNS
 from osb_program.addresses import address_of
 from osb_program.words import count_up_to, id_of, refusal, seconds_up_to
 
@@ -59,7 +60,8 @@ def _parser() -> argparse.ArgumentParser:
 
     _create(command("create", "order an instance, and print its id"))
     command("remove", "have an instance deleted").add_argument("id", type=id_of, metavar="ID")
-    listed = command("list", "list the instances, tab-parted into a pipe: id, state, since, service, plan")
+    columns = ", ".join(it.name for it in COLUMNS)
+    listed = command("list", f"list the instances, in a pipe separated by tabs: {columns}")
     listed.add_argument("--state", metavar="STATE", choices=STATES, help="those alone that are in this state")
     command("show", "show what is known of an instance").add_argument("id", type=id_of, metavar="ID")
     run = command("run", "send what is due, until SIGTERM")

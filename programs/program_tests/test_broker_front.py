@@ -3,12 +3,13 @@ from __future__ import annotations
 
 import json
 import logging
+import re
 from typing import Any, Callable, Iterable
 
 from osb import Id
 from osb_broker.front import Front
 from osb_broker.logs import Lines
-from program_tests.broker_support import ONE, InFolder
+from program_tests.broker_support import ONE, TOP, InFolder
 
 PATH = f"/v2/service_instances/{ONE}"
 
@@ -100,5 +101,7 @@ class OfFront(InFolder):
             (line["request"], line["instance"], line["status"], line["method"], line["level"]),
             ("an-id", str(ONE), 200, "PUT", "info"),
         )
-        self.assertTrue({"time", "event", "milliseconds"} <= set(line))
+        table = (TOP / "docs" / "broker-guide.md").read_text().partition("| line | members |\n")[2].partition("\n\n")[0]
+        members = [name for it in table.splitlines() for name in re.findall("`([a-z]+)`", it.split("|")[2])]
+        self.assertEqual(set(line), set(members), "docs/broker-guide.md, the table of the log")
         self.assertNotIn("secret", lines[0])

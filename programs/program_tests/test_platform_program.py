@@ -7,6 +7,7 @@ import time
 
 import pytest
 from osb import Id
+from osb_platform.tell import COLUMNS
 from program_tests.broker_support import AT_ONCE, ONE, SERVICE, TWO, InFolder
 from program_tests.platform_support import Said, far_end, platform, ran
 
@@ -14,6 +15,13 @@ pytestmark = pytest.mark.slow
 
 ORDER = ("--service", str(SERVICE), "--plan", str(AT_ONCE))
 NOWHERE = "http://127.0.0.1:9"
+
+
+def listed(line: str) -> dict[str, str]:
+    """The cells of a line of `osb-platform list`, by the names of their columns."""
+    cells = line.rstrip("\n").split("\t")
+    assert len(cells) == len(COLUMNS), line
+    return dict(zip((it.name for it in COLUMNS), cells))
 
 
 class ProgramTest(InFolder):
@@ -28,9 +36,8 @@ class ProgramTest(InFolder):
             self.assertRegex(out, rf"^\d{{4}}-\d\d-\d\dT\d\d:\d\d:\d\dZ\t{id}\tready\n$")
             status, out, err = ran(self.folder, "list")
             self.assertEqual((status, err, out.count("\n")), (0, "", 1))
-            self.assertEqual(
-                [out.split("\t")[at].strip() for at in (0, 1, 3, 4)], [id, "ready", str(SERVICE), str(AT_ONCE)]
-            )
+            cells = listed(out)
+            self.assertEqual([cells[it] for it in ("id", "state", "service", "plan")], [id, "ready", *ORDER[1::2]])
             self.assertIn('"state":"ready"', ran(self.folder, "show", id)[1])
             self.assertEqual(ran(self.folder, "remove", id), (0, "", ""))
             self.assertIn("\tgone\n", ran(self.folder, "run", "--once", "--broker", end.url)[1])
@@ -43,7 +50,7 @@ class ProgramTest(InFolder):
         with far_end(Said(409, b'{"description":"another has this id"}')) as end:
             ran(self.folder, "run", "--once", "--broker", end.url)
         status, out, err = ran(self.folder, "list")
-        self.assertEqual((status, out.split("\t")[1]), (0, "unsettled"))
+        self.assertEqual((status, listed(out)["state"]), (0, "unsettled"))
         self.assertRegex(
             err,
             r"^1 unsettled, the first since [0-9TZ:-]+: ask the broker what it has of each, and "
@@ -97,7 +104,7 @@ class ProgramTest(InFolder):
                 status, out, err = ran(self.folder, "run", "--once", "--broker", end.url, "--seconds", "0.5")
                 self.assertEqual((status, out), (1, ""))
                 self.assertEqual(err.splitlines()[-1], f"osb-platform: the broker {end.url}: {why}; nothing was sent")
-            self.assertEqual((end.came, ran(self.folder, "list")[1].split("\t")[1]), ([], "ordered"))
+            self.assertEqual((end.came, listed(ran(self.folder, "list")[1])["state"]), ([], "ordered"))
             end.catalogue = Said(200, b'{"services":[]}')
             self.assertIn(f"{id}\tready\n", ran(self.folder, "run", "--once", "--broker", end.url)[1])
 

@@ -8,6 +8,7 @@ import unittest
 from pathlib import Path
 from typing import Callable
 
+import pytest
 from osb_replay_log.faults import Unreplayed
 from osb_replay_log.head import body_of, head_of
 from osb_replay_log.lines import Kind, blocks, is_head, kind_of, name_in, split
@@ -140,6 +141,7 @@ class FilesTest(unittest.TestCase):
             path = self.file(gzip.compress(data) if case % 2 else data)
             self.assertEqual(self.read(path, chunk), split(data), (data, chunk))
 
+    @pytest.mark.slow
     def test_long_lines(self) -> None:
         """Of a line that is too long so much is kept that it is too long; and the others are as they were."""
         for size in (513, 1024, 1025, 5000, 70_000):

@@ -10,6 +10,7 @@ import unittest
 from pathlib import Path
 from typing import Sequence
 
+import pytest
 from osb_replay_log import reports, spool
 from osb_replay_log.faults import Unreplayed
 from osb_replay_log.lines import name_in
@@ -153,6 +154,7 @@ class ReportsTest(InRoom):
         path.write_text(text, encoding="utf-8")
         return str(path)
 
+    @pytest.mark.slow
     def test_merged(self) -> None:
         """Many reports are merged to what one of all would be, in steps where they are many, with empty ones."""
         chance = random.Random(1)

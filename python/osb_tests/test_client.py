@@ -11,6 +11,7 @@ import unittest
 from typing import Any, Callable, Iterator
 from unittest import mock
 
+import pytest
 from osb import Answer, Body, Id, Kind, OsbError, Record, State, Status
 from osb.client import Client, Exchanged
 from osb.records import Kept, MemoryRecords
@@ -218,6 +219,7 @@ CHUNKED = b"HTTP/1.1 201 Said\r\nTransfer-Encoding: chunked\r\n\r\n"
 
 
 class NoAnswer(Quiet):
+    @pytest.mark.slow
     def test_to_a_provision(self) -> None:
         whole = response(201)
         for what, said in (
@@ -272,6 +274,7 @@ class NoAnswer(Quiet):
             url = f"http://127.0.0.1:{server.getsockname()[1]}"
         self.assertEqual(client(url).create(ONE, SERVICE, SYNC), exchanged(State.CLEANING, None))
 
+    @pytest.mark.slow
     def test_time_of_the_whole(self) -> None:
         """Each piece comes in time, and the whole doesn't; 100 Continue for ever; and nothing at all."""
         again = slowly(b"HTTP/1.1 100 Continue\r\n\r\n" * 50)
