@@ -1,8 +1,8 @@
 #!/usr/bin/env python3
 """Proves and builds crates with all that they stand on, several crates at once, by the command rt.
 
-    build_crates.py WHO NAME,NAME archive          of each library, out/libNAME.a, as rt lib makes it of a static library
-    build_crates.py WHO NAME program ARGUMENT ..   of a program, out/NAME, as rt run makes it and runs it
+    build_crates.py WHO NAME,NAME archive          each library as out/libNAME.a, as rt lib makes it of a static library
+    build_crates.py WHO NAME program ARGUMENT ..   a program as out/NAME, as rt run makes it and runs it
 
 WHO is put before each line of a report. A crate begins when all below it are built. rt works in the folders of a
 crate and of all below it, and lets nobody else in, so each crate has a room: a folder with a crates.txt and the files

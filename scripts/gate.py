@@ -1,9 +1,9 @@
 #!/usr/bin/env python3
 """Proves and tests everything from nothing, and counts: the gate, which ./check starts.
 
-    scripts/gate.py PYTHON
+    scripts/gate.py PYTHON [--tests]
 
-PYTHON is the Python that has pytest. The steps, one after another:
+PYTHON is the Python that has pytest. The steps, one after another; with --tests, only the last two:
 
 1. `rt ci`: all proofs, the mutants that the prover must reject, and the tests and programs of the crates.
 2. `scripts/prebuilt --compare`: the prebuilt files are what these sources give.
@@ -31,8 +31,8 @@ from typing import Callable, NamedTuple
 TOP = Path(__file__).resolve().parent.parent
 COUNTS = re.compile(r"(\d+) passed, (\d+) failed(?:, (\d+) skipped)?")
 SKIPPED = "skipped: "
-# What would make the tests take another library, program or database than this checkout's.
-OURS = ("LIBOSB", "LIBOSB_FOLDER", "OSB_REPLAY", "OSB_TEST_POSTGRESQL", "PYTHONPATH", "PYTEST_ADDOPTS")
+# With these set, the tests would take another library, program or database than this checkout's.
+NAMED = ("LIBOSB", "LIBOSB_FOLDER", "OSB_REPLAY", "OSB_TEST_POSTGRESQL", "PYTHONPATH", "PYTEST_ADDOPTS")
 
 
 class Result(NamedTuple):
@@ -53,11 +53,9 @@ class Ran(NamedTuple):
 def run(command: list[str]) -> Ran:
     """Runs a command, and shows its output as it comes. Whatever it started ends with it."""
     lines = []
-    environment = {name: value for name, value in os.environ.items() if name not in OURS}
     process = subprocess.Popen(
         command,
         cwd=TOP,
-        env=environment,
         stdin=subprocess.DEVNULL,
         stdout=subprocess.PIPE,
         stderr=subprocess.STDOUT,
@@ -131,7 +129,7 @@ def prove() -> Result:
 
 
 def compare() -> Result:
-    """The comparison of the prebuilt files. `rt ci` leaves the program that it built, and none that was there before."""
+    """Compares the prebuilt files. `rt ci` leaves the program that it built, and none that was there before."""
     program = "crates/osb_replay/out/osb_replay"
     return check("scripts/prebuilt", "--compare", *([program] if (TOP / program).exists() else []))
 
@@ -146,13 +144,13 @@ def test(python: str, *options: str) -> Result:
         return by_report(run([python, "-m", "pytest", "-q", f"--junitxml={report}", *options]), report)
 
 
-def steps(python: str) -> dict[str, Callable[[], Result]]:
-    found: dict[str, Callable[[], Result]] = {
-        "rt ci": prove,
-        "scripts/prebuilt --compare": compare,
-        "pytest -n auto -m 'not alone'": partial(test, python, "-n", "auto", "-m", "not alone"),
-        "pytest -m alone": partial(test, python, "-m", "alone"),
-    }
+def steps(python: str, *options: str) -> dict[str, Callable[[], Result]]:
+    found: dict[str, Callable[[], Result]] = {}
+    if "--tests" not in options:
+        found["rt ci"] = prove
+        found["scripts/prebuilt --compare"] = compare
+    found["pytest -n auto -m 'not alone'"] = partial(test, python, "-n", "auto", "-m", "not alone")
+    found["pytest -m alone"] = partial(test, python, "-m", "alone")
     for file in sorted((TOP / "checks").iterdir()):
         if file.is_file() and os.access(file, os.X_OK):
             found[f"checks/{file.name}"] = partial(check, str(file))
@@ -172,9 +170,13 @@ def summary(results: list[Result]) -> str:
 
 def main() -> int:
     signal.signal(signal.SIGTERM, lambda *_: sys.exit(128 + signal.SIGTERM))
+    found = steps(*sys.argv[1:])
+    if "rt ci" in found:
+        for name in NAMED:
+            os.environ.pop(name, None)
     results: list[Result] = []
     report: list[str] = []
-    for name, step in steps(sys.argv[1]).items():
+    for name, step in found.items():
         print(f"== {name}", flush=True)
         begun, used = time.monotonic(), processor_seconds()
         result = step()

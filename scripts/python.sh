@@ -35,7 +35,7 @@ run_program() {
         find_current library
         export LIBOSB=$folder/libosb.so
     fi
-    [ -r "$LIBOSB" ] || refuse_program "$who" "can't read the library $LIBOSB, which LIBOSB names"
+    [ -r "$LIBOSB" ] || refuse_program "$who" "the library $LIBOSB, which LIBOSB names, can't be read"
     export PYTHONPATH=$top/programs:$top/python/src${PYTHONPATH:+:$PYTHONPATH}
     exec "$python" "$top/programs/run.py" "${who//-/_}" "$@"
 }

@@ -92,13 +92,13 @@ class Repository:
     def tests(self, text: str) -> None:
         (self.top / "test_some.py").write_text(f"import pytest\n\n{text}\n")
 
-    def check(self, **given: str) -> tuple[int, str, list[str]]:
+    def check(self, *options: str, **given: str) -> tuple[int, str, list[str]]:
         """The status, the last line, and the lines about failures and skips before it."""
         python = f'#!/bin/sh\nexec "{sys.executable}" "$@"\n'
         self.script("bin/python3", python.removeprefix("#!/bin/sh\n"))
         environment = {**os.environ, **given, "PATH": f"{self.top}/bin:{os.environ['PATH']}"}
         ran = subprocess.run(
-            [self.top / "check"],
+            [self.top / "check", *options],
             env=environment,
             stdout=subprocess.PIPE,
             stderr=subprocess.STDOUT,
@@ -154,7 +154,7 @@ def test_three(broken): pass
     )
     status, last, lines = repository.check()
     assert (status, last) == (1, "12 passed, 2 failed, 0 skipped")
-    assert [it.rpartition("::")[2] for it in lines] == ["test_two", "test_three"]
+    assert sorted(it.rpartition("::")[2] for it in lines) == ["test_three", "test_two"]
 
 
 @pytest.mark.slow
@@ -176,3 +176,10 @@ def test_no_tests_fail(repository: Repository) -> None:
 def test_environment_names_no_other_library(repository: Repository) -> None:
     repository.script("checks/one", 'echo "skipped: $LIBOSB$OSB_REPLAY"; echo "2 passed, 0 failed"')
     assert repository.check(LIBOSB="elsewhere", OSB_REPLAY="elsewhere")[2] == ["skipped: "]
+
+
+@pytest.mark.slow
+def test_tests_alone(repository: Repository) -> None:
+    repository.script("bin/rt", "exit 1")
+    repository.script("scripts/prebuilt", "exit 1")
+    assert repository.check("--tests") == (0, "4 passed, 0 failed, 0 skipped", [])
