@@ -15,32 +15,76 @@ ONE = "00000000-0000-0000-0000-000000000001"
 pytestmark = pytest.mark.slow
 
 
-def packages(path: str) -> set[str]:
-    """The packages that the file names after apt-get install."""
-    found = re.findall(r"apt-get install((?: -\S+)*)((?: [a-z0-9.+-]+)+)", read(path))
+def packages(text: str) -> set[str]:
+    """The packages that the text names after apt-get install."""
+    found = re.findall(r"apt-get install((?: -\S+)*)((?: [a-z0-9.+-]+)+)", text.replace("\\\n", ""))
     return {name for _, names in found for name in names.split()}
 
 
-@covers("README.md", "sudo apt-get install ", "./osb-broker serve &\n")
-def test_readme(texts: list[str], workdir: Workdir, port: int) -> None:
-    """The packages are enough for the commands below them, which do what the page says."""
+def installed_by_ci() -> set[str]:
+    """The packages that .ci/run installs."""
+    listed = re.search(r"^packages=\((.*?)^\)", read(".ci/run"), re.MULTILINE | re.DOTALL)
+    assert listed is not None
+    return set(re.sub("#.*", "", listed[1]).split())
+
+
+@covers("README.md", "sudo apt-get install ")
+def test_packages_of_the_programs(texts: list[str]) -> None:
+    """They are those that the programs ask for, and curl; the gate installs them."""
+    named = packages(texts[0])
+    assert named == packages(read("osb-broker")) | packages(read("osb-platform")) | {"curl"}
+    assert named - installed_by_ci() <= {"python3"}
+
+
+@covers("CONTRIBUTING.md", "sudo apt-get install ")
+def test_packages_of_the_tests(texts: list[str]) -> None:
+    assert packages(texts[0]) - installed_by_ci() == set()
+
+
+@covers("README.md", "OSB_BROKER_PASSWORD=secret ./osb-broker serve &\n")
+def test_programs(texts: list[str], workdir: Workdir, port: int) -> None:
+    """An instance is created, seen at the broker, and removed."""
     needs("curl")
-    begin, four = texts
-    # curl is in the commands, and binutils has the ld, objcopy and ar of libosb
-    wanted = packages("osb-broker") | packages("osb-platform") | packages("checks/c") | {"curl", "binutils"}
-    assert sorted(begin.partition("\n")[0].split()[3:]) == sorted(wanted)
-    moved = four.replace("serve &", f"serve --listen 127.0.0.1:{port} &").replace(":8080", f":{port}")
-    end = "echo; ls -A $XDG_STATE_HOME/osb-broker/instances\n./osb-platform list\nkill %1\nwait %1"
-    made, seen, *left = workdir.run(begin + moved + end).split("\n")
+    moved = texts[0].replace("serve &", f"serve --listen 127.0.0.1:{port} &").replace(":8080", f":{port}")
+    end = "echo; ls -A $XDG_STATE_HOME/osb-broker/instances\n./osb-platform list\nkill %1; wait $!"
+    made, seen, *left = workdir.run(moved + end).split("\n")
     assert (made.split("\t")[2:], re.sub("}.*", "}", seen)) == (["ready"], '{"state":"succeeded"}')
     assert [line for line in left if line.endswith("locks")] == [".locks"]
     assert [line.split("\t")[1] for line in left if line.count("\t") >= 4] == ["gone"]
 
 
+@covers("README.md", "make test\n", "make prebuilt\ngit diff --exit-code\n")
+def test_tasks(texts: list[str]) -> None:
+    """Each is a task of the Makefile."""
+    for task in re.findall("^make (.*)$", "".join(texts), re.MULTILINE):
+        subprocess.run(["make", "-n", task], cwd=TOP, check=True, stdout=subprocess.DEVNULL)
+
+
+@covers("CONTRIBUTING.md", "make one T=the_columns\n", "make one T=test_terminal ")
+def test_names_of_tests(texts: list[str]) -> None:
+    """Each names a file, a class in a file, or a test."""
+    tests = "".join(it.read_text(encoding="utf-8") for it in TOP.glob("*/*/test_*.py"))
+    names = re.findall(r"def (test_\w+)\(", tests)
+    for given in re.findall(r"^make one T=(\S+)", "".join(texts), re.MULTILINE):
+        file, _, inside = given.partition("::")
+        if file.endswith(".py"):
+            assert (TOP / file).is_file() and f"class {inside}" in read(file), given
+        else:
+            assert any(given in name for name in names), given
+
+
+@covers("CONTRIBUTING.md", "LIBOSB=$(scripts/where library)")
+def test_program_under_the_debugger(texts: list[str], workdir: Workdir) -> None:
+    """The command runs the program; here without the debugger."""
+    assert "-m pdb " in texts[0]
+    workdir.run(texts[0].replace("-m pdb ", ""))
+
+
 @covers("README.md", "./check")
 def test_gate(texts: list[str]) -> None:
     """What README runs is what the gate runs."""
-    assert read(".ci/run").splitlines()[-1] == f'exec "$top/{texts[0].strip()[2:]}"'
+    assert f" {texts[0].strip()} " in read(".ci/run")
+    assert os.access(TOP / texts[0].strip(), os.X_OK)
 
 
 @covers("docs/reliability.md", "checks/refusals")
@@ -51,8 +95,9 @@ def test_refusals(texts: list[str]) -> None:
 
 
 @covers("README.md", "./osb-replay replay --settle ")
-def test_replay(texts: list[str], workdir: Workdir) -> None:
-    assert workdir.run(texts[0]) == read("examples/unanswered.settled")
+def test_replay_and_trace(texts: list[str], workdir: Workdir) -> None:
+    """They print what stands below them."""
+    assert workdir.run(texts[0]) == read("examples/unanswered.settled") + read("examples/unanswered.trace")
 
 
 @covers("docs/reliability.md", "cc -shared ")
@@ -67,11 +112,6 @@ def test_out_of_memory(texts: list[str], workdir: Workdir) -> None:
 def test_argument_that_is_not_utf_8(texts: list[str], workdir: Workdir) -> None:
     workdir.run("./osb-replay $'\\xff' && exit 1 || [ $? -eq 2 ]")
     assert workdir.errors() == texts[0]
-
-
-@covers("README.md", "./osb-replay trace ")
-def test_trace(texts: list[str], workdir: Workdir) -> None:
-    assert workdir.run(texts[0]) == read("examples/unanswered.trace")
 
 
 _TRACE = f"./osb-replay trace --instance {ONE} < examples/crash.schedule"

@@ -45,14 +45,14 @@ def test_broker(texts: list[str], workdir: Workdir, port: int) -> None:
     poll = "ask $two/last_operation"
     assert poll in asynchronous
     polled = asynchronous.replace(poll, f"until {poll} | grep succeeded; do sleep 0.1; done")
-    out = workdir.run(f"{serve.strip()} &\n{healthy(port)}{synchronous}\n{polled}\nkill %1; wait %1\n")
+    out = workdir.run(f"{serve.strip()} &\n{healthy(port)}{synchronous}\n{polled}\nkill %1; wait $!\n")
     assert re.findall(r"HTTP/1.1 (\d+)", out) == ["201", "200", "202", "202"]
     assert out.count(f"{ONE}\n") == 1  # what ls lists
 
 
 @covers(BROKER, "OSB_BROKER_PASSWORD=secret ./osb-broker serve --state build/databases ")
 def test_backend_of_a_reader(texts: list[str], workdir: Workdir, port: int) -> None:
-    workdir.run(f"{moved(texts[0], port).strip()} &\n{healthy(port)}kill %1; wait %1\n")
+    workdir.run(f"{moved(texts[0], port).strip()} &\n{healthy(port)}kill %1; wait $!\n")
     assert (workdir.top / "build" / "databases" / "holdings.sqlite").exists()
 
 
@@ -67,7 +67,7 @@ def test_platform(texts: list[str], workdir: Workdir, port: int) -> None:
     """An instance is ordered, seen at the broker, and removed."""
     life, look = (moved(it, port) for it in texts)
     before, remove, after = life.partition("./osb-platform remove")
-    out = workdir.run(f"{before}{look.strip()}; echo\n{remove}{after}\nwait %1; wait %2\n")
+    out = workdir.run(f"{before}{look.strip()}; echo\n{remove}{after}\nwait\n")
     lines = [line.split("\t") for line in out.splitlines()]
     assert ['{"state":"succeeded"}'] in lines
     assert [line[1] for line in lines if len(line) > 3] == ["ready", "gone"]
@@ -77,7 +77,7 @@ def test_platform(texts: list[str], workdir: Workdir, port: int) -> None:
 def test_page(texts: list[str], workdir: Workdir, port: int, other_port: int) -> None:
     ask = f"until curl -sf http://127.0.0.1:{other_port}/ | grep -o '<title>.*</title>'; do sleep 0.1; done"
     run = moved(texts[0], port, other_port).strip()
-    out = workdir.run(f"{run} &\n{ask}\nkill %1; wait %1\n", OSB_PLATFORM_PASSWORD="x")
+    out = workdir.run(f"{run} &\n{ask}\nkill %1; wait $!\n", OSB_PLATFORM_PASSWORD="x")
     assert out.count("<title>") == 1
 
 
@@ -136,7 +136,7 @@ def test_broker_over_postgresql(texts: list[str], workdir: Workdir, port: int, s
     started = moved(start, port).replace("postgresql://broker@db/brokers", url).strip()
     create = moved(block(BROKER, CREATE).text, port).replace("ls build/broker/instances", password)
     given = {"OSB_BROKER_PASSWORD": "secret", "OSB_BACKEND_KEY": "a key", "PGPASSWORD": "secret"}
-    script = f"{started} &\n{healthy(port)}{create}\nkill %1; wait %1\n".replace(ONE, server.instance)
+    script = f"{started} &\n{healthy(port)}{create}\nkill %1; wait $!\n".replace(ONE, server.instance)
     out = workdir.run(script, **given)
     assert re.findall(r"HTTP/1.1 (\d+)", out) == ["201", "200"]
     assert re.search(r"(?m)\{\}[\w-]{43}$", out)
@@ -157,6 +157,6 @@ def test_platform_over_postgresql(texts: list[str], workdir: Workdir, port: int,
     )
     serve = f"OSB_BROKER_PASSWORD=x ./osb-broker serve --listen 127.0.0.1:{port} &\n{healthy(port)}"
     out = workdir.run(
-        f"{serve}{order}\n{started} --once\nkill %1; wait %1\n", OSB_PLATFORM_PASSWORD="x", PGPASSWORD="secret"
+        f"{serve}{order}\n{started} --once\nkill %1; wait $!\n", OSB_PLATFORM_PASSWORD="x", PGPASSWORD="secret"
     )
     assert re.search(r"\tready\n", out)

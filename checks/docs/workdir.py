@@ -57,9 +57,6 @@ class Workdir:
             ("libosb.a", library / "libosb.a"),
         ):
             (given / name).symlink_to(path)
-        program = self.top / "crates" / "osb_replay" / "out" / "osb_replay"  # docs/reliability.md names it so
-        program.parent.mkdir(parents=True)
-        program.symlink_to(replay)
         with open(self.top / "scripts" / "artifacts.sh", "a", encoding="utf-8") as script:
             script.write(_GIVEN.format(folder=given))
         (folder / "bin").mkdir()
