@@ -80,6 +80,7 @@ def embed(page: Path, *arguments: str) -> tuple[int, str, str]:
     return done.returncode, done.stdout, done.stderr
 
 
+@pytest.mark.slow
 def test_embed(page: Path) -> None:
     """A page that differs is named by --check, and mended without it."""
     named = f"{page}: differs from what it embeds. Run scripts/embed.py.\n"
@@ -91,6 +92,7 @@ def test_embed(page: Path) -> None:
     assert embed(page, "--check") == (0, "", "")
 
 
+@pytest.mark.slow
 @pytest.mark.parametrize(
     "wrong",
     [
@@ -108,6 +110,7 @@ def test_what_cannot_be_embedded(page: Path, wrong: str) -> None:
     assert page.read_text(encoding="utf-8") == wrong
 
 
+@pytest.mark.slow
 def test_file_with_a_fence(page: Path) -> None:
     """It would end the block early."""
     (page.parent / "words.txt").write_text("```\n", encoding="utf-8")

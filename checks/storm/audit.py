@@ -1,4 +1,4 @@
-"""What is compared: the platform's records, the broker's holdings, and the things themselves."""
+"""What is compared: the platform's records, the broker's holdings, and the resources."""
 from __future__ import annotations
 
 from collections import Counter
@@ -43,7 +43,7 @@ class Audit:
         held, things = self._holdings(), self._things()
         after = dict(self._instances.states())
         for id in (things.some | set(held)) - set(after):
-            self._found(id, "a thing or a holding without a record")
+            self._found(id, "a resource or a holding without a record")
         for id, row in before.items():
             if row.kept is not None and row.kept.record.state.name.lower().replace("_", "-") != row.state:
                 self._found(id, f"{row.state}, and its record says {row.kept.record.state.name}")
@@ -63,17 +63,17 @@ class Audit:
         useless = {id for id in ready & things.whole if not self._is_usable(rows[id])}
         found = [
             ("records that aren't at rest", {id for id, row in rows.items() if row.state not in REST}),
-            ("things that no record has", things.some - ready),
-            ("records without a thing", ready - things.whole),
+            ("resources without a record", things.some - ready),
+            ("records without a resource", ready - things.whole),
             ("holdings that no record has", held - ready),
             ("records without a holding", ready - held),
             ("holdings of another plan, or not ready", other),
-            ("things that can't be used", useless),
+            ("resources that can't be used", useless),
         ]
         return [f"{len(ids)} {what}: {' '.join(sorted(ids)[:3])}" for what, ids in found if ids]
 
     def orphans(self) -> int:
-        """How many things there are that no record has, at the end."""
+        """How many resources there are without a record, at the end."""
         return len(self._things().some - {id for id, state in self._instances.states() if state == "ready"})
 
     def _found(self, id: str, what: str) -> None:
@@ -84,10 +84,10 @@ def _why_not(row: Instance, holding: Holding, is_whole: bool, is_there: bool) ->
     """What a record that is ready, or gone, is belied by."""
     if row.state == "gone":
         if is_there:
-            return "the thing is there"
+            return "the resource exists"
         return None if holding.row is None and holding.work is None else "the broker holds it"
     if not is_whole:
-        return "the thing isn't there, whole"
+        return "the resource doesn't exist, or not as a whole"
     return None if _is_ready(holding, row) else "the broker says something else"
 
 
