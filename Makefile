@@ -24,7 +24,7 @@ check: ## everything from nothing, proofs included: hours
 
 one: ## one test by its name or file: make one T=test_locks, make one T=... A="-x --pdb"
 	@[ -n "$(T)" ] || { echo 'usage: make one T=NAME or T=FILE[::TEST] [A="arguments of pytest"]' >&2; exit 2; }
-	$(PYTHON) -m pytest -v $(if $(findstring .py,$(T)),'$(T)',-k '$(T)') $(A)
+	$(PYTHON) -m pytest -v $(if $(or $(findstring /,$(T)),$(findstring .py,$(T))),'$(T)',-k '$(T)') $(A)
 
 prebuilt: ## prove and build the library and osb-replay, and write prebuilt/
 	scripts/prebuilt

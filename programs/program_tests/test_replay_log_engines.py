@@ -94,6 +94,7 @@ class ProcessesTest(unittest.TestCase, EngineCases):
         self.assertEqual(multiprocessing.active_children(), [])
 
 
+@pytest.mark.alone  # Dask gives up a worker that a busy machine restarts too slowly
 @pytest.mark.skipif(
     importlib.util.find_spec("distributed") is None, reason="Dask isn't installed (Debian: python3-distributed)"
 )
