@@ -36,9 +36,9 @@ def test_packages_of_the_programs(texts: list[str]) -> None:
     assert named - installed_by_ci() <= {"python3"}
 
 
-@covers("CONTRIBUTING.md", "sudo apt-get install ")
+@covers("CONTRIBUTING.md", "sudo apt-get install make ", "sudo apt-get install chromium ")
 def test_packages_of_the_tests(texts: list[str]) -> None:
-    assert packages(texts[0]) - installed_by_ci() == set()
+    assert packages("".join(texts)) - installed_by_ci() == set()
 
 
 @covers("README.md", "OSB_BROKER_PASSWORD=secret ./osb-broker serve &\n")
