@@ -123,7 +123,7 @@ def prove() -> Result:
     """`rt ci`. Meanwhile the launchers build nothing, and it finds nothing that an ended build left."""
     with open(TOP / "crates.txt") as crates:
         fcntl.flock(crates, fcntl.LOCK_EX)
-        for left in [TOP / "out", *TOP.glob("crates/*/out/room")]:
+        for left in [TOP / "out", *TOP.glob("crates/*/out/workdirs")]:
             shutil.rmtree(left, ignore_errors=True)
         return check("rt", "ci")
 
