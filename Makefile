@@ -17,7 +17,7 @@ help: ## print this list
 quick: quick-format quick-lint quick-shell quick-go quick-types quick-tests ## format, lint, types, and tests that start no process: under a minute
 
 test: ## everything but the proofs, over the prebuilt library: some minutes
-	scripts/run_tests
+	./check --tests
 
 check: ## everything from nothing, proofs included: hours
 	./check

@@ -1,20 +1,17 @@
 package osb_test
 
 import (
-	"fmt"
 	"testing"
 
 	"pippinterm/osb"
 )
 
-// How long each step takes from Go: go test -bench . -run none. Beside the values stand the same step through a handle
-// that has 1,000 instances, and a save and a load of these.
+// How long each call takes from Go: go test -bench . -run none.
 func Benchmark(b *testing.B) {
 	s := newSteps(b)
 	for _, step := range append(append(s.ofRecords(), s.ofHoldings()...), s.ofTheWire()...) {
 		b.Run(step.name, func(b *testing.B) { repeat(b, step.call) })
 	}
-	benchmarkHandle(b, s.failed)
 }
 
 // A step that is timed.
@@ -121,43 +118,4 @@ func repeat(b *testing.B, call func() error) {
 			b.Fatal(err)
 		}
 	}
-}
-
-func benchmarkHandle(b *testing.B, answer osb.Answer) {
-	platform, err := osb.NewPlatformHandle()
-	if err != nil {
-		b.Fatal(err)
-	}
-	defer platform.Close()
-	for at := 0; at < 1000; at++ {
-		id := osb.MustParseID(fmt.Sprintf("00000000-0000-0000-0000-%012d", at))
-		if _, err := platform.Create(id, service, plan, true); err != nil {
-			b.Fatal(err)
-		}
-	}
-	if err := platform.Answer(instance, answer); err != nil {
-		b.Fatal(err)
-	}
-	saved, err := platform.Save()
-	if err != nil {
-		b.Fatal(err)
-	}
-	b.Run("handle: Send and Answer", func(b *testing.B) {
-		repeat(b, func() error {
-			if _, err := platform.Send(instance); err != nil {
-				return err
-			}
-			return platform.Answer(instance, answer)
-		})
-	})
-	b.Run("handle: Save", func(b *testing.B) { repeat(b, func() error { return second(platform.Save()) }) })
-	b.Run("handle: Load", func(b *testing.B) {
-		repeat(b, func() error {
-			loaded, err := osb.LoadPlatformHandle(saved)
-			if err == nil {
-				loaded.Close()
-			}
-			return err
-		})
-	})
 }

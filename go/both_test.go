@@ -326,7 +326,7 @@ func TestGiveUp(t *testing.T) {
 	p.stands(standing, err, osb.StateGone, marked, 0)
 }
 
-// An answer that comes after its request was given up isn't taken.
+// An answer that arrives after its request was given up isn't taken, and isn't reported.
 func TestLateAnswer(t *testing.T) {
 	p, ctx := newPair(t), context.Background()
 	p.become(func(w http.ResponseWriter, r *http.Request, broker http.Handler) {
@@ -336,8 +336,8 @@ func TestLateAnswer(t *testing.T) {
 		broker.ServeHTTP(w, r)
 	})
 	standing, err := p.client.Create(ctx, instance, service, plan)
-	if !errors.Is(err, osb.ErrNotInFlight) {
-		t.Error(err)
+	if !errors.Is(err, osb.ErrNotInFlight) || standing.Answer != (osb.Answer{}) {
+		t.Error(standing, err)
 	}
 	p.stands(standing, nil, osb.StateCleaning, ready, 1)
 }

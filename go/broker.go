@@ -159,7 +159,7 @@ func (b *Broker) workAt(ctx context.Context, task Task) (Answer, error) {
 	if err != nil {
 		return Answer{}, err
 	}
-	return b.end(detached{ctx}, task.Request, outcome) // it is known now: it is written whoever has gone
+	return b.end(withoutCancel(ctx), task.Request, outcome) // it is known now: it is written whoever has gone
 }
 
 // outcome calls the worker. One that panics has left nobody who knows how the work went.

@@ -70,14 +70,6 @@ func (c catalogue) fits(id ID, h Holding) bool {
 	return h.Fits(mode) && (!ok || work.ID == id)
 }
 
-func (p Plan) c() C.struct_osb_plan {
-	return C.struct_osb_plan{
-		service:         p.Service.c(),
-		plan:            p.Plan.c(),
-		is_asynchronous: C.bool(p.IsAsynchronous),
-	}
-}
-
 func planOf(p C.struct_osb_plan) Plan {
 	return Plan{Service: idOf(p.service), Plan: idOf(p.plan), IsAsynchronous: bool(p.is_asynchronous)}
 }

@@ -6,7 +6,14 @@ import (
 	"time"
 )
 
-// Below 1.0 each 0.x has an interface of its own: a library of another one is refused.
+// The library that is linked has the version of the header over which the package was compiled.
+func TestLinkedVersion(t *testing.T) {
+	if Version() != HeaderVersion || HeaderVersion < 300 {
+		t.Errorf("the library has the version %d, and the header %d", Version(), HeaderVersion)
+	}
+}
+
+// Below 1.0 each 0.x has an interface of its own: a library of another one is rejected.
 func TestVersion(t *testing.T) {
 	first := HeaderVersion / 100 * 100 // 0.x.0
 	for version, fits := range map[uint32]bool{

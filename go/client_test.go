@@ -61,21 +61,6 @@ func TestSwitchingProtocols(t *testing.T) {
 	p.stands(standing, err, osb.StateCleaning, none, 0)
 }
 
-// An answer that comes once its request was given up isn't taken, and isn't told.
-func TestGivenUpMeanwhile(t *testing.T) {
-	p, ctx := newPair(t), context.Background()
-	p.become(func(w http.ResponseWriter, r *http.Request, broker http.Handler) {
-		if _, err := p.client.GiveUp(ctx, instance); err != nil {
-			t.Error(err)
-		}
-		broker.ServeHTTP(w, r)
-	})
-	standing, err := p.client.Create(ctx, instance, service, plan)
-	if !errors.Is(err, osb.ErrNotInFlight) || standing.State != osb.StateCleaning || standing.Answer != (osb.Answer{}) {
-		t.Error(standing, err)
-	}
-}
-
 // A request is sent once: no redirect is followed.
 func TestNoRedirect(t *testing.T) {
 	p := newPair(t)

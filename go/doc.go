@@ -11,7 +11,6 @@
 //   - [Record] and [Holding] are values with the whole of both rules, for programs with a shape of their own; beside
 //     them stand the wire ([ReadRequest], [WriteAnswer], [WriteTarget], [ReadAnswer] ..) and the platform's tables
 //     ([Mitigates], [DecideProvision] ..).
-//   - [PlatformHandle] and [BrokerHandle] keep many instances in memory, and save a platform whole.
 //
 // What is promised holds where the user keeps what docs/instance.md and docs/agreement.md of the repository ask: a
 // transaction that locks its row, one worker at a time at an instance, outcomes that are told truly, ids that are used

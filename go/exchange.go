@@ -110,7 +110,7 @@ func retryAfter(header http.Header) time.Duration {
 // take is the last transaction of a request: its answer is taken under its number, or a timeout. It is written though
 // the context has been cancelled meanwhile, as the one that ended the exchange.
 func (c *Client) take(ctx context.Context, sent Sent, in incoming) (Standing, error) {
-	standing, err := c.change(detached{ctx}, sent.Request.ID, func(s Stored) (next Stored, err error) {
+	standing, err := c.change(withoutCancel(ctx), sent.Request.ID, func(s Stored) (next Stored, err error) {
 		if in.lost != nil {
 			s.Record, err = s.Record.Timeout(sent.Attempt)
 			return s, err

@@ -6,7 +6,7 @@ package osb
 */
 import "C"
 
-// Version is the version of the library that is linked, as OSB_VERSION of osb.h has it: 200 for 0.2.0.
+// Version is the version of the library that is linked, as OSB_VERSION of osb.h has it: 300 for 0.3.0.
 func Version() uint32 { return uint32(C.osb_version()) }
 
 // HeaderVersion is that of the osb.h over which this package was compiled. NewBroker and NewClient compare it with

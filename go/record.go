@@ -15,7 +15,7 @@ type Record struct {
 	inFlight      Kind
 }
 
-// A PlatformRow is what a PlatformHandle records of an instance.
+// A PlatformRow is an instance as a saved record of version 0.2 or earlier names it (docs/saved-record.md).
 type PlatformRow struct {
 	Service, Plan ID
 	State         State
@@ -32,9 +32,9 @@ func Create(id, service, plan ID, acceptsIncomplete bool) (Record, Sent) {
 	return recordOf(record), Sent{Request: requestOf(request), Attempt: uint64(record.attempt)}
 }
 
-// RecordFromRow is the first record of an instance that a PlatformHandle has recorded until now, as after a restart:
-// wanted becomes cleaning, nothing is in flight, and the attempt is 0. It is called once for an instance, as a platform
-// moves to a database.
+// RecordFromRow returns the first record of an instance that a saved record names, as after a restart: wanted becomes
+// cleaning, nothing is in flight, and the attempt is 0. Call it once for each instance, when a platform moves from a
+// saved record to a database.
 //
 // Errors: ErrBadRow.
 func RecordFromRow(row PlatformRow) (Record, error) {
@@ -189,14 +189,5 @@ func (row PlatformRow) c() C.struct_osb_platform_row {
 		plan:    row.Plan.c(),
 		state:   C.uint8_t(row.State),
 		out:     C.uint8_t(row.InFlight),
-	}
-}
-
-func platformRowOf(row C.struct_osb_platform_row) PlatformRow {
-	return PlatformRow{
-		Service:  idOf(row.service),
-		Plan:     idOf(row.plan),
-		State:    State(row.state),
-		InFlight: Kind(row.out),
 	}
 }

@@ -59,7 +59,7 @@ func (b *Broker) reply(r *http.Request) (given reply) {
 	if err != nil {
 		return b.refused(err, target)
 	}
-	return b.answer(detached{r.Context()}, asked, body)
+	return b.answer(withoutCancel(r.Context()), asked, body)
 }
 
 // admit judges the headers: who asks, and which version is spoken. A header that stands twice is judged as one with

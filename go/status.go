@@ -6,7 +6,8 @@ import "C"
 import "fmt"
 
 // A Status is what became of a call that wasn't done. It is an error, a value that may be compared, and what errors.Is
-// looks for: errors.Is(err, osb.ErrBusy). Each has one meaning, whichever call returns it, and no number ever changes.
+// looks for: errors.Is(err, osb.ErrBusy). Each has one meaning, whichever call returns it, and no number ever changes or
+// is used again.
 type Status uint32
 
 // The statuses that are errors.
@@ -14,26 +15,11 @@ const (
 	// ErrMemory: out of memory: an allocation failed.
 	ErrMemory Status = C.OSB_MEMORY
 
-	// ErrEmptyHandle: the handle is empty.
-	ErrEmptyHandle Status = C.OSB_EMPTY_HANDLE
-
-	// ErrFullHandle: the handle isn't empty.
-	ErrFullHandle Status = C.OSB_FULL_HANDLE
-
-	// ErrIDUsed: the id is recorded already, in any state.
-	ErrIDUsed Status = C.OSB_ID_USED
-
-	// ErrUnknown: the id isn't recorded.
-	ErrUnknown Status = C.OSB_UNKNOWN
-
 	// ErrBusy: a request is in flight.
 	ErrBusy Status = C.OSB_BUSY
 
 	// ErrNothingDue: in ready, gone and unsettled no request is due.
 	ErrNothingDue Status = C.OSB_NOTHING_DUE
-
-	// ErrNoRequest: no request of the instance is in flight.
-	ErrNoRequest Status = C.OSB_NO_REQUEST
 
 	// ErrNotPolling: none is in flight, and the state isn't polling.
 	ErrNotPolling Status = C.OSB_NOT_POLLING
@@ -43,9 +29,6 @@ const (
 
 	// ErrNothingRunning: the instance is neither being made nor being deleted.
 	ErrNothingRunning Status = C.OSB_NOTHING_RUNNING
-
-	// ErrNotHeld: the broker has no row of the instance.
-	ErrNotHeld Status = C.OSB_NOT_HELD
 
 	// ErrPlanTwice: two of the plans have the same service and plan.
 	ErrPlanTwice Status = C.OSB_PLAN_TWICE
@@ -76,9 +59,6 @@ const (
 
 	// ErrBadOuter: the members of the object aren't those of its format.
 	ErrBadOuter Status = C.OSB_BAD_OUTER
-
-	// ErrBadKey: some instance's name isn't the text of an id in lower case.
-	ErrBadKey Status = C.OSB_BAD_KEY
 
 	// ErrBadMember: some member isn't what its format has there.
 	ErrBadMember Status = C.OSB_BAD_MEMBER
@@ -187,17 +167,11 @@ func (s Status) Error() string {
 
 var meanings = map[Status]string{
 	ErrMemory:                   "out of memory: an allocation failed",
-	ErrEmptyHandle:              "the handle is empty",
-	ErrFullHandle:               "the handle isn't empty",
-	ErrIDUsed:                   "the id is recorded already, in any state",
-	ErrUnknown:                  "the id isn't recorded",
 	ErrBusy:                     "a request is in flight",
 	ErrNothingDue:               "in ready, gone and unsettled no request is due",
-	ErrNoRequest:                "no request of the instance is in flight",
 	ErrNotPolling:               "none is in flight, and the state isn't polling",
 	ErrNotRemovable:             "none is in flight, and the state isn't polling, ready or unsettled",
 	ErrNothingRunning:           "the instance is neither being made nor being deleted",
-	ErrNotHeld:                  "the broker has no row of the instance",
 	ErrPlanTwice:                "two of the plans have the same service and plan",
 	ErrBadKind:                  "the number stands for no kind of request",
 	ErrBadOutcome:               "the number stands for no outcome",
@@ -208,7 +182,6 @@ var meanings = map[Status]string{
 	ErrNotAnObject:              "the value isn't an object",
 	ErrBadVersion:               "the version in the text isn't that of its format",
 	ErrBadOuter:                 "the members of the object aren't those of its format",
-	ErrBadKey:                   "some instance's name isn't the text of an id in lower case",
 	ErrBadMember:                "some member isn't what its format has there",
 	ErrBadRecord:                "the value is no record that a call gives",
 	ErrBadHolding:               "the value is no holding that a call gives",

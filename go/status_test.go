@@ -3,16 +3,16 @@ package osb
 import (
 	"errors"
 	"fmt"
-	"strings"
 	"testing"
 )
 
-// Each status has words of its own, and errors.Is tells it from each other one.
+// Each status has words of its own, and errors.Is tells it from each other one. Some numbers aren't used any more.
 func TestStatuses(t *testing.T) {
+	unused := map[Status]bool{2: true, 3: true, 4: true, 5: true, 8: true, 12: true, 23: true}
 	said := map[string]bool{}
 	for status := ErrMemory; status <= ErrBadPlanMode; status++ {
 		text := status.Error()
-		if strings.HasSuffix(text, fmt.Sprint(uint32(status))) || said[text] {
+		if unused[status] != (text == fmt.Sprintf("osb: status %d", uint32(status))) || said[text] {
 			t.Errorf("%d: %q", status, text)
 		}
 		said[text] = true
@@ -23,10 +23,7 @@ func TestStatuses(t *testing.T) {
 			}
 		}
 	}
-	if text := Status(99).Error(); text != "osb: status 99" {
-		t.Error(text)
-	}
-	if len(meanings) != int(ErrBadPlanMode) {
+	if len(meanings) != int(ErrBadPlanMode)-len(unused) {
 		t.Errorf("%d statuses have words", len(meanings))
 	}
 }

@@ -81,6 +81,15 @@ type Locker interface {
 	Lock(ctx context.Context, id ID) (locked context.Context, unlock func(), err error)
 }
 
+// Errors of a RecordStore.
+var (
+	// ErrIDUsed reports that the id is recorded already, in any state. An id is never used twice.
+	ErrIDUsed = errors.New("osb: the id is recorded already, in any state")
+
+	// ErrUnknown reports that the id isn't recorded.
+	ErrUnknown = errors.New("osb: the id isn't recorded")
+)
+
 // Errors of a Broker, beside those of the library.
 var (
 	// ErrDoesNotFit is that what a Store gave can't come about with the catalogue: a hand has changed the row, or the

@@ -1,35 +1,28 @@
-/* The life of a service instance under the Open Service Broker API 2.17, for both ends: the platform and the
- * broker, behind handles that keep many instances, or as a value for one instance, which a database keeps; and what
- * both say, as HTTP and JSON have it. The library behind this header is proved; docs/c.md says what that means, and
- * how to build and link it. C99 or later, and C++.
+/* The life of a service instance under the Open Service Broker API 2.17, for a platform and for a broker: what each
+ * keeps of one instance, as a value for a row of a database, and what both send, as HTTP and JSON have it. The library
+ * behind this header is proved; docs/c.md says what that means, and how to build and link it. C99 or later, and C++.
  *
- * What C has to keep. None of it is checked, and what is proved holds only where it is kept.
+ * What the caller is responsible for. The library checks none of it, and the proofs assume all of it.
  *
- *   - No pointer is null, not even one to a buffer, a text or a list of length 0; each is aligned for its type, and
- *     points to as much as its length says. Nothing that a call writes to overlaps anything else that the call is
- *     given.
- *   - A handle (struct osb_platform, struct osb_broker) is zeroed before its first call, as by
- *     `struct osb_platform p = {0};`. Its pointer is made, read and freed by this library alone: no
- *     program sets it, follows it, or copies the handle to use both. A handle may be moved, by a copy after
- *     which the old one isn't used again.
- *   - Everything else is set before it is handed in, also what is only written to: each member of a struct and
- *     each number (`= {0}` does), and all of a buffer (as calloc sets it). A bool is 0 or 1.
- *   - A handle, and whatever else a running call was given, is used by one call at a time. Different handles and
- *     different structs are independent, and a handle may pass from one thread to another, where a lock, a thread's
- *     start or join, or a sequentially consistent atomic orders that.
+ *   - No pointer is null, not even a pointer to a buffer, a text or a list of length 0. Each pointer is aligned for its
+ *     type, and points to as much as its length says. Nothing that a call writes to overlaps anything else that the
+ *     call is given.
+ *   - Everything is initialized before the call, also what is only written to: each member of a struct and each number
+ *     (`= {0}` does), and all of a buffer (as calloc sets it). A bool is 0 or 1.
+ *   - A struct or buffer that a running call was given is used by that call alone. Calls on different structs are
+ *     independent, and any number of threads may make them at once.
  *   - No call is made from a signal handler, or in the forked child of a process with threads.
- *   - malloc, realloc and free are one allocator's, and blocks are aligned as C has it.
- *   - There is stack enough. How much a call takes isn't proved; in the tests 128 KiB are enough for each.
+ *   - malloc, realloc and free are one allocator's, and blocks are aligned as C requires.
+ *   - There is enough stack. How much a call takes isn't proved; in the tests 128 KiB are enough for each.
  *
- * What the library keeps. A call that returns another status than OSB_DONE has changed nothing, but for what its
- * comment names. One that returns OSB_DONE has changed no other instance's record or row, and no broker's plans; row,
- * ids, save and osb_broker_row change nothing of the handle. No call prints, ends the process or keeps a pointer that
- * it was given, and none waits but within malloc, realloc and free.
+ * What the library is responsible for. A call that returns another status than OSB_DONE has changed nothing, but for
+ * what its comment names. No call prints, ends the process or keeps a pointer that it was given. No call waits, except
+ * within malloc, realloc and free.
  *
- * A text that a call writes goes to the front of a buffer, `bytes` long, with no NUL after it, and its length to
- * *needed. Where the buffer is too short the call returns OSB_TOO_SMALL, *needed is written all the same, and the
- * buffer is as before: so a call with 0 bytes asks for the length. What is behind the text in the buffer is as
- * before. Where the call returns anything else, neither is written. */
+ * A text that a call writes goes to the front of a buffer, `bytes` long, with no NUL after it, and the text's length
+ * goes to *needed. If the buffer is too short, the call returns OSB_TOO_SMALL, writes *needed all the same, and leaves
+ * the buffer as before: so a call with 0 bytes asks for the length. What is behind the text in the buffer is as before.
+ * If the call returns anything else, neither is written. */
 #ifndef OSB_H
 #define OSB_H
 
@@ -43,33 +36,30 @@ extern "C" {
 
 /* The version of this header. */
 #define OSB_VERSION_MAJOR 0
-#define OSB_VERSION_MINOR 2
+#define OSB_VERSION_MINOR 3
 #define OSB_VERSION_PATCH 0
 #define OSB_VERSION (OSB_VERSION_MAJOR * 10000 + OSB_VERSION_MINOR * 100 + OSB_VERSION_PATCH)
 
 /* The version of the library, as OSB_VERSION has it. A program that is linked to a shared library compares. */
 uint32_t osb_version(void);
 
-/* ---- Statuses: what became of a call. Each has one meaning, and no number ever changes. The comment of a call
- *      names OSB_DONE, and then in their order those that it returns where it isn't done: of several that fit, the
- *      first. But where an allocation failed, OSB_MEMORY may come in place of every other that the text or the list
- *      itself decides: OSB_PLAN_TWICE, OSB_TOO_SMALL, OSB_NOT_JSON to OSB_BAD_MEMBER, OSB_IMPOSSIBLE, OSB_NO_ANSWER,
- *      OSB_NO_OPERATION, OSB_UNAUTHORIZED, OSB_REFUSED_REPEATED to OSB_BAD_PLAN_MODE. */
+/* ---- Statuses: what became of a call. Each has one meaning. No number ever changes, and none is used again: 2, 3, 4,
+ *      5, 8, 12 and 23 were statuses of calls that version 0.3.0 removed.
+ *
+ *      The comment of a call names OSB_DONE, and then, in their order, the statuses that it returns if it isn't done.
+ *      If several of them fit, the call returns the first. But if an allocation failed, OSB_MEMORY may come in place of
+ *      every status that the text or the list itself decides: OSB_PLAN_TWICE, OSB_TOO_SMALL, OSB_NOT_JSON to
+ *      OSB_BAD_MEMBER, OSB_IMPOSSIBLE, OSB_NO_ANSWER, OSB_NO_OPERATION, OSB_UNAUTHORIZED, OSB_REFUSED_REPEATED to
+ *      OSB_BAD_PLAN_MODE. */
 
 enum osb_status {
     OSB_DONE = 0,                        /* it was done */
     OSB_MEMORY = 1,                      /* out of memory: an allocation failed */
-    OSB_EMPTY_HANDLE = 2,                /* the handle is empty */
-    OSB_FULL_HANDLE = 3,                 /* the handle isn't empty */
-    OSB_ID_USED = 4,                     /* the id is recorded already, in any state */
-    OSB_UNKNOWN = 5,                     /* the id isn't recorded */
     OSB_BUSY = 6,                        /* a request is in flight */
     OSB_NOTHING_DUE = 7,                 /* in ready, gone and unsettled no request is due */
-    OSB_NO_REQUEST = 8,                  /* no request of the instance is in flight */
     OSB_NOT_POLLING = 9,                 /* none is in flight, and the state isn't polling */
     OSB_NOT_REMOVABLE = 10,              /* none is in flight, and the state isn't polling, ready or unsettled */
     OSB_NOTHING_RUNNING = 11,            /* the instance is neither being made nor being deleted */
-    OSB_NOT_HELD = 12,                   /* the broker has no row of the instance */
     OSB_PLAN_TWICE = 13,                 /* two of the plans have the same service and plan */
     OSB_BAD_KIND = 14,                   /* the number stands for no kind of request */
     OSB_BAD_OUTCOME = 15,                /* the number stands for no outcome */
@@ -80,7 +70,6 @@ enum osb_status {
     OSB_NOT_AN_OBJECT = 20,              /* the value isn't an object */
     OSB_BAD_VERSION = 21,                /* the version in the text isn't that of its format */
     OSB_BAD_OUTER = 22,                  /* the members of the object aren't those of its format */
-    OSB_BAD_KEY = 23,                    /* some instance's name isn't the text of an id in lower case */
     OSB_BAD_MEMBER = 24,                 /* some member isn't what its format has there */
     OSB_BAD_RECORD = 25,                 /* the struct is no record that a call gives */
     OSB_BAD_HOLDING = 26,                /* the struct is no holding that a call gives */
@@ -166,8 +155,8 @@ struct osb_answer {
  * OSB_BODY_SUCCEEDED or OSB_BODY_FAILED. False where the kind is none. */
 bool osb_well_formed(uint8_t kind, struct osb_answer answer);
 
-/* ---- The platform's tables, which take any answer. They are for those who keep records of their own form; a
- *      struct osb_platform and a struct osb_record apply them themselves. */
+/* ---- The platform's tables, which take any answer. They are for platforms that keep records of their own form. The
+ *      calls on a struct osb_record apply them themselves. */
 
 enum osb_state {
     OSB_STATE_WANTED = 0,           /* a Provision was sent, and nothing is known yet */
@@ -196,140 +185,12 @@ uint8_t osb_decide_poll(uint8_t state, struct osb_answer answer);
 uint8_t osb_decide_timeout(uint8_t state);
 uint8_t osb_decide_restart(uint8_t state);
 
-/* ---- The platform: what it records of its instances, and the requests that it makes. Save it after each
- *      call that changes it, before anything is sent or shown (docs/saved-record.md). */
-
-/* A handle, empty where it is zeroes. */
-struct osb_platform {
-    void *at;
-};
-
-/* What is recorded of an instance. */
-struct osb_platform_row {
-    struct osb_id service, plan;
-    uint8_t state; /* an enum osb_state */
-    uint8_t out;   /* the enum osb_kind of the request in flight, or OSB_KIND_NONE */
-};
-
-/* Makes a platform with no instances, in an empty handle.
- * OSB_DONE, OSB_FULL_HANDLE, OSB_MEMORY. */
-uint32_t osb_platform_new(struct osb_platform *platform);
-
-/* Frees the platform, if there is one. The handle is empty then, and a second call does nothing. */
-void osb_platform_free(struct osb_platform *platform);
-
-/* Records a new instance as wanted, and gives its Provision, which is then in flight and accepts an
- * asynchronous operation where `accepts_incomplete` says so.
- * OSB_DONE, OSB_EMPTY_HANDLE, OSB_ID_USED, OSB_MEMORY. */
-uint32_t osb_platform_create(struct osb_platform *platform, struct osb_id id, struct osb_id service,
-                             struct osb_id plan, bool accepts_incomplete, struct osb_request *request);
-
-/* Gives the request that is due, which is then in flight: a Poll in polling and cleaning-polling, a Deprovision
- * in cleaning. It has the recorded service and plan, and always accepts an asynchronous operation.
- * OSB_DONE, OSB_EMPTY_HANDLE, OSB_UNKNOWN, OSB_BUSY, OSB_NOTHING_DUE. */
-uint32_t osb_platform_send(struct osb_platform *platform, struct osb_id id, struct osb_request *request);
-
-/* Takes the answer to the request in flight: the state becomes what the table of its kind gives
- * (docs/platform.md), and nothing is in flight.
- * OSB_DONE, OSB_EMPTY_HANDLE, OSB_NO_REQUEST (also where the id isn't recorded). */
-uint32_t osb_platform_answer(struct osb_platform *platform, struct osb_id id, struct osb_answer answer);
-
-/* Gives up the request in flight: wanted becomes cleaning, every other state stays, and nothing is in flight.
- * OSB_DONE, OSB_EMPTY_HANDLE, OSB_NO_REQUEST (also where the id isn't recorded). */
-uint32_t osb_platform_timeout(struct osb_platform *platform, struct osb_id id);
-
-/* Gives up polling, as the maximum polling duration has passed: polling becomes cleaning.
- * OSB_DONE, OSB_EMPTY_HANDLE, OSB_UNKNOWN, OSB_BUSY, OSB_NOT_POLLING. */
-uint32_t osb_platform_expire(struct osb_platform *platform, struct osb_id id);
-
-/* Has an instance deleted, as an operator asks: polling, ready and unsettled become cleaning.
- * OSB_DONE, OSB_EMPTY_HANDLE, OSB_UNKNOWN, OSB_BUSY, OSB_NOT_REMOVABLE. */
-uint32_t osb_platform_remove(struct osb_platform *platform, struct osb_id id);
-
-/* Gives what is recorded of the instance.
- * OSB_DONE, OSB_EMPTY_HANDLE, OSB_UNKNOWN. */
-uint32_t osb_platform_row(struct osb_platform *platform, struct osb_id id, struct osb_platform_row *row);
-
-/* Writes the recorded ids, ascending, to the front of `buffer`, which has `places`, and how many they are to
- * *needed. What is behind them in the buffer is as before.
- * OSB_DONE, OSB_EMPTY_HANDLE, OSB_TOO_SMALL (*needed is then written, and the buffer as before), OSB_MEMORY. */
-uint32_t osb_platform_ids(struct osb_platform *platform, struct osb_id *buffer, size_t places, size_t *needed);
-
-/* Writes the saved record, JSON in UTF-8.
- * OSB_DONE, OSB_EMPTY_HANDLE, OSB_TOO_SMALL, OSB_MEMORY. */
-uint32_t osb_platform_save(struct osb_platform *platform, uint8_t *buffer, size_t bytes, size_t *needed);
-
-/* Makes the platform that a saved record of format 1 or 2 names (docs/saved-record.md), after a restart, in an
- * empty handle: wanted becomes cleaning, every other state stays, and nothing is in flight.
- * OSB_DONE, OSB_FULL_HANDLE, OSB_NOT_UTF8, OSB_NOT_JSON, OSB_NOT_AN_OBJECT, OSB_BAD_VERSION, OSB_BAD_OUTER,
- * OSB_BAD_KEY, OSB_BAD_MEMBER, OSB_MEMORY. In an empty handle, what osb_platform_save wrote gives OSB_DONE or
- * OSB_MEMORY. */
-uint32_t osb_platform_load(struct osb_platform *platform, const uint8_t *text, size_t length);
-
-/* ---- The broker: what it answers, and what it holds. */
-
-/* How the work behind a request goes. It counts where the work would be done at all. Work that is half done is none of
- * these: undo it and say BEFORE, finish it and say DONE, or say nothing until it is known. */
-enum osb_outcome {
-    OSB_OUTCOME_DONE = 0,   /* it is done, or at an asynchronous plan started */
-    OSB_OUTCOME_BEFORE = 1, /* it failed, and all is as it was: nothing was made, or nothing was deleted */
-    OSB_OUTCOME_AFTER = 2   /* it failed, and yet all of it was done: the whole thing is there, or nothing is left */
-};
-
-enum osb_phase {
-    OSB_PHASE_MAKING = 0,       /* it is being made */
-    OSB_PHASE_READY = 1,        /* it is there, complete */
-    OSB_PHASE_FAILED = 2,       /* it could not be made */
-    OSB_PHASE_DELETING = 3,     /* it is being deleted */
-    OSB_PHASE_DELETE_FAILED = 4 /* it could not be deleted */
-};
-
-/* A handle, empty where it is zeroes. */
-struct osb_broker {
-    void *at;
-};
-
-/* A plan on sale. */
-struct osb_plan {
-    struct osb_id service, plan;
-    bool is_asynchronous; /* whether its operations are only begun when the broker answers */
-};
-
-/* What the broker holds of an instance. */
-struct osb_broker_row {
-    struct osb_id service, plan;
-    uint8_t phase; /* an enum osb_phase */
-};
-
-/* Makes a broker that sells these plans and holds no instance, in an empty handle.
- * OSB_DONE, OSB_FULL_HANDLE, OSB_PLAN_TWICE, OSB_MEMORY. */
-uint32_t osb_broker_new(struct osb_broker *broker, const struct osb_plan *plans, size_t count);
-
-/* Frees the broker, if there is one. The handle is empty then, and a second call does nothing. */
-void osb_broker_free(struct osb_broker *broker);
-
-/* Handles a request, with the outcome of the work behind it, and gives the answer to send, by the tables of
- * docs/broker.md.
- * OSB_DONE, OSB_EMPTY_HANDLE, OSB_BAD_KIND, OSB_BAD_OUTCOME, OSB_MEMORY (only of a Provision that makes a row). */
-uint32_t osb_broker_handle(struct osb_broker *broker, const struct osb_request *request, uint8_t outcome,
-                           struct osb_answer *answer);
-
-/* Ends the operation that runs on the instance, well (ok) or badly. One that is being made is there then, or
- * could not be made; one that is being deleted has no row, or could not be deleted.
- * OSB_DONE, OSB_EMPTY_HANDLE, OSB_NOTHING_RUNNING. */
-uint32_t osb_broker_finish(struct osb_broker *broker, struct osb_id id, bool ok);
-
-/* Gives what the broker holds of the instance.
- * OSB_DONE, OSB_EMPTY_HANDLE, OSB_NOT_HELD. */
-uint32_t osb_broker_row(struct osb_broker *broker, struct osb_id id, struct osb_broker_row *row);
-
-/* ---- One instance as a value, for a row of a database. A struct osb_record is what a platform keeps of an instance,
- *      a struct osb_holding what a broker keeps. They own nothing, and may be copied and compared; their calls take no
- *      memory, but for those of the texts, and any number of threads may make them at once, on different structs.
- *      docs/instance.md says what is written to the database, and when.
+/* ---- One instance as a value, for a row of a database. A platform keeps a struct osb_record of each instance, and a
+ *      broker keeps a struct osb_holding. They own nothing, and may be copied and compared. Their calls take no memory,
+ *      except those of the texts. docs/instance.md says what is written to the database, and when.
  *
- *      A struct that no call gives is refused, and so is never acted on: a number that stands for nothing, a wanted
- *      record without its Provision in flight, a row beside a mark, and the like. */
+ *      A call rejects a struct that no call gives: one with a number that stands for nothing, a wanted record without
+ *      its Provision in flight, a row beside a tombstone, and the like. */
 
 /* What a platform records of an instance. */
 struct osb_record {
@@ -345,9 +206,15 @@ struct osb_record {
 void osb_record_create(struct osb_id id, struct osb_id service, struct osb_id plan, bool accepts_incomplete,
                        struct osb_record *record, struct osb_request *request);
 
-/* The first record of an instance that a struct osb_platform has recorded until now, as after a restart: wanted becomes
- * cleaning, nothing is in flight, and the attempt is 0. It is called once for an instance, as a platform moves to a
- * database.
+/* An entry of a saved record, the file that a platform of a version before 0.3.0 kept (docs/saved-record.md). */
+struct osb_platform_row {
+    struct osb_id service, plan;
+    uint8_t state; /* an enum osb_state */
+    uint8_t out;   /* the enum osb_kind of the request in flight, or OSB_KIND_NONE */
+};
+
+/* The first record of an instance from its entry in a saved record, as after a restart: wanted becomes cleaning,
+ * nothing is in flight, and the attempt is 0. Call it once for each instance, when a platform moves to a database.
  * OSB_DONE, OSB_BAD_ROW. */
 uint32_t osb_record_from_row(const struct osb_platform_row *row, struct osb_record *record);
 
@@ -383,6 +250,12 @@ uint32_t osb_record_to_text(const struct osb_record *record, uint8_t *buffer, si
  * OSB_IMPOSSIBLE, OSB_MEMORY. */
 uint32_t osb_record_from_text(const uint8_t *text, size_t length, struct osb_record *record);
 
+/* A plan on sale. */
+struct osb_plan {
+    struct osb_id service, plan;
+    bool is_asynchronous; /* whether its operations are only begun when the broker answers */
+};
+
 /* How the plan of a request works. It is looked up in the catalogue by the request's service and plan. */
 enum osb_mode {
     OSB_MODE_SYNC = 0,  /* an instance is made or deleted before the broker answers */
@@ -397,6 +270,28 @@ enum osb_work {
     OSB_WORK_START_MAKING = 2,  /* its making is started, and goes on after the answer */
     OSB_WORK_DELETE = 3,        /* the instance is deleted before the answer */
     OSB_WORK_START_DELETING = 4 /* its deletion is started, and goes on after the answer */
+};
+
+/* How the work behind a request goes. It counts where the work would be done at all. Work that is half done is none of
+ * these: undo it and say BEFORE, finish it and say DONE, or say nothing until it is known. */
+enum osb_outcome {
+    OSB_OUTCOME_DONE = 0,   /* it is done, or at an asynchronous plan started */
+    OSB_OUTCOME_BEFORE = 1, /* it failed, and all is as it was: nothing was made, or nothing was deleted */
+    OSB_OUTCOME_AFTER = 2   /* it failed, and yet all of it was done: the whole resource exists, or nothing is left */
+};
+
+enum osb_phase {
+    OSB_PHASE_MAKING = 0,       /* it is being made */
+    OSB_PHASE_READY = 1,        /* it exists, complete */
+    OSB_PHASE_FAILED = 2,       /* it could not be made */
+    OSB_PHASE_DELETING = 3,     /* it is being deleted */
+    OSB_PHASE_DELETE_FAILED = 4 /* it could not be deleted */
+};
+
+/* The row of an instance that a broker holds. */
+struct osb_broker_row {
+    struct osb_id service, plan;
+    uint8_t phase; /* an enum osb_phase */
 };
 
 /* What a broker holds of an instance. One of zeroes holds nothing: an id that no request has come for has that. In what
@@ -432,7 +327,8 @@ uint32_t osb_holding_begin(struct osb_holding *holding, uint8_t mode, const stru
  * OSB_DONE, OSB_BAD_HOLDING, OSB_BAD_MODE, OSB_BAD_OUTCOME, OSB_NOTHING_BEGUN. */
 uint32_t osb_holding_end(struct osb_holding *holding, uint8_t mode, uint8_t outcome, struct osb_answer *answer);
 
-/* Ends the operation that runs on the instance, well (ok) or badly, as osb_broker_finish does.
+/* Ends the operation that runs on the instance, well (ok) or badly. An instance that is being made is ready then, or
+ * has failed; one that is being deleted is gone and leaves the tombstone, or could not be deleted.
  * OSB_DONE, OSB_BAD_HOLDING, OSB_NOTHING_RUNNING. */
 uint32_t osb_holding_finish(struct osb_holding *holding, bool ok);
 

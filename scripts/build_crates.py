@@ -1,13 +1,13 @@
 #!/usr/bin/env python3
-"""Proves and builds crates with all that they stand on, several crates at once, by the command rt.
+"""Proves and builds crates and all crates below them, several at once, with the command rt.
 
     build_crates.py WHO NAME,NAME archive          each library as out/libNAME.a, as rt lib makes it of a static library
     build_crates.py WHO NAME program ARGUMENT ..   a program as out/NAME, as rt run makes it and runs it
 
-WHO is put before each line of a report. A crate begins when all below it are built. rt works in the folders of a
-crate and of all below it, and lets nobody else in, so each crate has a room: a folder with a crates.txt and the files
-of those crates, as hard links. What rt makes there is then put where rt would have made it. The program itself is
-built in its own place, last and over what was put there.
+WHO is put before each line of a report. A crate is started when all below it are built. rt locks the folders of a crate
+and of all below it, so each crate has a work directory: a folder with a crates.txt and the files of those crates, as
+hard links. What rt makes there is then moved to where rt would have made it. The program itself is built in its own
+folder, last, from what was moved there.
 """
 from __future__ import annotations
 
@@ -25,18 +25,18 @@ from typing import NamedTuple
 
 TOP = Path(__file__).resolve().parent.parent
 SOURCES = ("src", "specs", "proofs")
-# What rt keeps of a crate for its next proof.
+# What rt stores about a crate for its next proof.
 KEPT = "out/incremental"
-# A crate isn't begun beside another where less memory than this is free, in bytes.
+# No second crate is started if less memory than this is free, in bytes.
 MEMORY = 5 << 30
 PROCESSORS = len(os.sched_getaffinity(0))
 LANES = max(1, 3 * PROCESSORS // 4)
-# This process is to end. What whoever started it ignores, as nohup does, stays ignored.
+# These end this process. A signal that is ignored at the start, as under nohup, stays ignored.
 ENDS = [it for it in (signal.SIGINT, signal.SIGTERM, signal.SIGHUP) if signal.getsignal(it) != signal.SIG_IGN]
-# They wait, each until it is asked for: a child has ended, or this process is to end.
+# They are blocked until `pause` asks for them: a child has ended, or this process must end.
 SIGNALS = [signal.SIGCHLD, *ENDS]
 PARENT = os.getppid()
-PROGRESS = re.compile(r"^so far: (\d+ of \d+) functions checked|\bfunctions=(\d+)", re.MULTILINE)
+PROVED = re.compile(r"\bfunctions=(\d+)")
 
 
 class Crate(NamedTuple):
@@ -48,7 +48,7 @@ class Crate(NamedTuple):
 
 
 class Job(NamedTuple):
-    """A crate that rt is at work on, in its room or in its own place."""
+    """A crate that rt is building, in its work directory or in its own folder."""
 
     name: str
     process: subprocess.Popen[bytes]
@@ -59,7 +59,7 @@ class NotBuilt(Exception):
 
 
 class Ended(Exception):
-    """This process is to end, by a signal or since whoever started it has ended."""
+    """This process must end: it got a signal, or its parent has ended."""
 
 
 def rows() -> list[tuple[str, str, list[str]]]:
@@ -120,7 +120,7 @@ def longest_way(crates: dict[str, Crate], way: dict[str, int]) -> set[str]:
 
 
 def free_memory() -> int:
-    """The bytes of memory that are free, or enough where that isn't told."""
+    """The bytes of memory that are free, or enough if the system doesn't say."""
     try:
         found = re.search(r"MemAvailable:\s+(\d+) kB", Path("/proc/meminfo").read_text())
     except OSError:
@@ -187,62 +187,52 @@ def pause() -> None:
         raise Ended
 
 
-def functions_proved(log: Path) -> str:
-    """How many functions rt says it has proved, or nothing."""
-    found = [*PROGRESS.finditer(log.read_text(errors="replace"))]
-    return found[-1][1] or found[-1][2] if found else ""
-
-
 class Build:
-    """The wanted crates, and how far their build is."""
+    """The build of the wanted crates."""
 
-    def __init__(self, who: str, wanted: list[str], kind: str, words: list[str]) -> None:
-        self.who, self.wanted, self.kind, self.words = who, wanted, kind, words
+    def __init__(self, who: str, wanted: list[str], kind: str, arguments: list[str]) -> None:
+        self.who, self.wanted, self.kind, self.arguments = who, wanted, kind, arguments
         self.crates = crates_of(wanted)
         self.way = ways(self.crates)
         self.longest = longest_way(self.crates, self.way)
         self.out = TOP / "crates" / wanted[0] / "out"
-        self.rooms, self.log = self.out / "room", self.out / "build.log"
+        self.workdirs, self.log = self.out / "workdirs", self.out / "build.log"
         self.running: list[Job] = []
         self.ended = 0
         self.begun = time.monotonic()
         self.locks: list[int] = []
 
-    # ---- what is told
+    # ---- reports
 
     def say(self, text: str) -> None:
         """Reports on standard error."""
         print(f"{self.who}: {text}", file=sys.stderr, flush=True)
 
-    def clock(self) -> str:
+    def output_of(self, name: str) -> Path:
+        """The file for rt's output about the crate, until the log has it."""
+        return self.workdirs / f"{name}.output"
+
+    def report_built(self, name: str) -> None:
+        proved = PROVED.findall(self.output_of(name).read_text(errors="replace"))
+        functions = f", {proved[-1]} functions proved" if proved else ""
         minutes, seconds = divmod(int(time.monotonic() - self.begun), 60)
-        return f"{minutes}:{seconds:02}"
+        self.say(f"crate {self.ended} of {len(self.crates)}, {name}{functions}, {minutes}:{seconds:02}")
 
-    def words_of(self, name: str) -> Path:
-        """The file for what rt says of the crate, until the log has it."""
-        return self.rooms / f"{name}.words"
-
-    def of_one(self, number: int, name: str) -> str:
-        proved = functions_proved(self.words_of(name))
-        return f"crate {number} of {len(self.crates)}, {name}" + (f", {proved} functions proved" if proved else "")
-
-    def tell_ended(self, name: str) -> None:
-        self.say(f"{self.of_one(self.ended, name)}, {self.clock()}")
-
-    def keep_words(self, name: str) -> None:
-        with open(self.log, "ab") as log:
-            log.write(f"== {name}\n".encode() + self.words_of(name).read_bytes())
-
-    def tell_failed(self, name: str) -> None:
+    def report_failed(self, name: str) -> None:
         self.say(f"{name} isn't proved and built; the end of {self.log.relative_to(TOP)}:")
-        for line in self.words_of(name).read_text(errors="replace").splitlines()[-20:]:
+        for line in self.output_of(name).read_text(errors="replace").splitlines()[-20:]:
             print(line[:300], file=sys.stderr)
 
-    # ---- rooms
+    def log_output(self, name: str) -> None:
+        with open(self.log, "ab") as log:
+            log.write(f"== {name}\n".encode() + self.output_of(name).read_bytes())
+
+    # ---- work directories
 
     def hold(self) -> None:
-        """Waits until no other build and no other rt is at work on these crates, and keeps both out. rt holds the
-        folders of the crates, in the order of their names."""
+        """Waits until no other build and no other rt works on these crates, and locks both out. rt locks the folders of
+        the crates, in the order of their names.
+        """
         folders = [TOP / "crates" / name for name in sorted(self.crates)]
         for path in [TOP / "crates.txt", *filter(Path.is_dir, folders)]:
             self.locks.append(os.open(path, os.O_RDONLY))
@@ -252,7 +242,7 @@ class Build:
                     pause()
 
     def let_rt_in(self) -> None:
-        """Keeps other builds out alone."""
+        """Locks out other builds only."""
         while len(self.locks) > 1:
             os.close(self.locks.pop())
 
@@ -261,36 +251,36 @@ class Build:
         return {name}.union(*(self.below(it) for it in self.crates[name].uses))
 
     def row(self, name: str) -> str:
-        """The crate's line, in which an archive's says so."""
+        """The crate's line; in that of an archive, the word staticlib."""
         row = self.crates[name].row
         is_archive = name in self.wanted and self.kind == "archive"
         return row.replace(name, f"{name} staticlib", 1) if is_archive else row
 
     def furnish(self, name: str) -> Path:
-        """Makes the crate's room, and returns its folder there."""
-        room = self.rooms / name
+        """Makes the crate's work directory, and returns its folder there."""
+        workdir = self.workdirs / name
         names = self.below(name)
         for it in names:
             for part in (*SOURCES, "out/rlib"):
-                lay(TOP / "crates" / it / part, room / "crates" / it / part)
-        lay(TOP / "crates" / name / KEPT, room / "crates" / name / KEPT)
-        (room / "crates.txt").write_text("".join(f"{self.row(it)}\n" for it in self.crates if it in names))
-        return room / "crates" / name
+                lay(TOP / "crates" / it / part, workdir / "crates" / it / part)
+        lay(TOP / "crates" / name / KEPT, workdir / "crates" / name / KEPT)
+        (workdir / "crates.txt").write_text("".join(f"{self.row(it)}\n" for it in self.crates if it in names))
+        return workdir / "crates" / name
 
     def empty(self, name: str) -> None:
-        """Puts what rt made in the crate's room where rt would have made it, and removes the room."""
-        room = self.rooms / name
+        """Moves what rt made in the crate's work directory to the crate's own folder, and removes the directory."""
+        workdir = self.workdirs / name
         out = TOP / "crates" / name / "out"
-        for made in [*(room / "crates" / name / "out").glob("*")]:
+        for made in [*(workdir / "crates" / name / "out").glob("*")]:
             out.mkdir(exist_ok=True)
             if (out / made.name).exists():
-                (out / made.name).rename(room / f"old-{made.name}")
+                (out / made.name).rename(workdir / f"old-{made.name}")
             made.rename(out / made.name)
-        remove(room)
+        remove(workdir)
 
     def leave(self, name: str) -> None:
-        """Of a room in which rt was killed, keeps what it had proved alone: of the rest nobody knows how far it is."""
-        for made in [*(self.rooms / name / "crates" / name / "out").glob("*")]:
+        """Of a work directory in which rt was killed, keeps only what rt had proved: the rest may be incomplete."""
+        for made in [*(self.workdirs / name / "crates" / name / "out").glob("*")]:
             if made.name != Path(KEPT).name:
                 remove_any(made)
         self.empty(name)
@@ -298,17 +288,17 @@ class Build:
     # ---- the crates
 
     def command(self, name: str) -> tuple[Path, list[str]]:
-        """Where rt is started for the crate, and how: a program is built only to be run."""
+        """The folder in which rt is started for the crate, and the command. rt builds a program only to run it."""
         if name in self.wanted and self.kind == "program":
             self.let_rt_in()
-            return TOP / "crates" / name, ["rt", "run", "--", *self.words]
+            return TOP / "crates" / name, ["rt", "run", "--", *self.arguments]
         return self.furnish(name), ["rt", "lib", *([] if name in self.longest else ["--jobs", "2"])]
 
     def begin(self, name: str) -> None:
-        """A crate on the longest way takes the processors that rt chooses, another one what they leave."""
-        with open(self.words_of(name), "wb") as words:
+        """Starts rt for a crate. On the longest way it uses all processors, elsewhere those that are left."""
+        with open(self.output_of(name), "wb") as output:
             if not (TOP / "crates" / name).is_dir():
-                words.write(f"there is no folder crates/{name}\n".encode())
+                output.write(f"there is no folder crates/{name}\n".encode())
                 raise NotBuilt(name)
             folder, command = self.command(name)
             how = unblocked if name in self.longest else unblocked_and_nice
@@ -316,7 +306,7 @@ class Build:
                 command,
                 cwd=folder,
                 stdin=subprocess.DEVNULL,
-                stdout=words,
+                stdout=output,
                 stderr=subprocess.STDOUT,
                 start_new_session=True,
                 preexec_fn=how,
@@ -333,11 +323,11 @@ class Build:
         if job.process.returncode:
             raise NotBuilt(job.name)
         self.ended += 1
-        self.tell_ended(job.name)
-        self.keep_words(job.name)
+        self.report_built(job.name)
+        self.log_output(job.name)
 
     def build(self) -> None:
-        """Begins each crate when all below it are built, first those with the most work behind them."""
+        """Starts each crate when all below it are built, first those with the most work after them."""
         order = graphlib.TopologicalSorter({name: it.uses for name, it in self.crates.items()})
         order.prepare()
         ready: list[str] = []
@@ -351,42 +341,42 @@ class Build:
                 order.done(job.name)
 
     def stop(self) -> None:
-        """Ends what still runs."""
+        """Ends all crates that are being built."""
         for job in self.running:
             if job.process.poll() is None:
                 os.killpg(job.process.pid, signal.SIGKILL)
         for job in self.running:
             job.process.wait()
             self.leave(job.name)
-            self.keep_words(job.name)
+            self.log_output(job.name)
 
     def run(self) -> int:
         self.hold()
         try:
-            remove(self.rooms)
-            self.rooms.mkdir(parents=True)
+            remove(self.workdirs)
+            self.workdirs.mkdir(parents=True)
             self.log.write_bytes(b"")
             self.build()
         except NotBuilt as failed:
             self.stop()
-            self.keep_words(str(failed))
-            self.tell_failed(str(failed))
+            self.log_output(str(failed))
+            self.report_failed(str(failed))
             return 1
         except BaseException:
             self.stop()
             raise
         finally:
-            remove(self.rooms)
+            remove(self.workdirs)
         return 0
 
 
 def main() -> int:
-    who, names, kind, *words = sys.argv[1:]
+    who, names, kind, *arguments = sys.argv[1:]
     for it in SIGNALS:
         signal.signal(it, lambda *_: None)
     signal.pthread_sigmask(signal.SIG_BLOCK, SIGNALS)
     try:
-        return Build(who, names.split(","), kind, words).run()
+        return Build(who, names.split(","), kind, arguments).run()
     except Ended:
         return 1
     except (OSError, ValueError) as error:

@@ -123,7 +123,7 @@ def prove() -> Result:
     """`rt ci`. Meanwhile the launchers build nothing, and it finds nothing that an ended build left."""
     with open(TOP / "crates.txt") as crates:
         fcntl.flock(crates, fcntl.LOCK_EX)
-        for left in [TOP / "out", *TOP.glob("crates/*/out/room")]:
+        for left in [TOP / "out", *TOP.glob("crates/*/out/workdirs")]:
             shutil.rmtree(left, ignore_errors=True)
         return check("rt", "ci")
 
@@ -170,6 +170,7 @@ def summary(results: list[Result]) -> str:
 
 def main() -> int:
     signal.signal(signal.SIGTERM, lambda *_: sys.exit(128 + signal.SIGTERM))
+    os.environ.pop("MAKEFLAGS", None)  # of a `make` that started this: it isn't for those that the tests start
     found = steps(*sys.argv[1:])
     if "rt ci" in found:
         for name in NAMED:

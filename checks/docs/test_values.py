@@ -2,24 +2,26 @@
 from __future__ import annotations
 
 import re
+import subprocess
+from pathlib import Path
 
-from docs.pages import covers, read
+import pytest
+from docs.pages import TOP, covers, read
 from docs.values import ONE, PLAN, SERVICE, request
-from osb import Answer, Body, Holding, Kind, Mode, Outcome, Platform, Record, State
+from osb import Holding, Kind, Mode, Outcome, Record
 
 
+@pytest.mark.slow
 @covers("docs/saved-record.md", '{"instances"', '{"0000')
-def test_saved_record(texts: list[str]) -> None:
-    """What the library saves of a platform with one instance, which is ready; and what it loads."""
+def test_saved_record(texts: list[str], replay: Path) -> None:
+    """What osb-replay saves of a platform with one instance, which is ready; and what versions before it saved."""
     now, before = texts
-    with Platform() as platform:
-        platform.create(ONE, SERVICE, PLAN, True)
-        platform.answer(ONE, Answer(201, Body.EMPTY))
-        text = platform.save()
-    assert now == text.decode() + "\n"
-    with Platform(before.rstrip("\n").encode()) as platform:
-        assert (platform.row(ONE).state, platform.save()) == (State.READY, text)
-    assert f'{{"instances":{before.rstrip()},"version":2}}' == text.decode()
+    with open(TOP / "examples" / "first.schedule", encoding="ascii") as schedule:
+        line = [str(replay), "replay", "--saved"]
+        done = subprocess.run(line, stdin=schedule, capture_output=True, text=True, check=True)
+    text = done.stdout.splitlines()[-1]
+    assert now == text + "\n"
+    assert f'{{"instances":{before.rstrip()},"version":2}}' == text
     lengths = re.findall(r"it has (\d+) bytes|in (\d+) bytes", read("docs/saved-record.md"))
     assert lengths == [(str(len(text)), ""), ("", str(len(before) - 1))]
 

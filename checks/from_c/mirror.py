@@ -20,7 +20,6 @@ PLAIN = {
     "u64": "uint64_t",
     "usize": "size_t",
     "bool": "bool",
-    "*mut u8": "void *",
 }
 
 # How the header's names of an enum's numbers begin, by the enum in the sources. `LastState` and `ErrorCode` stand in
@@ -119,8 +118,7 @@ def structs(text: str) -> list[tuple[str, list[tuple[str, str]]]]:
     found = re.findall(r"#\[repr\(C\)\]\s*(?:#\[derive[^\n]*\]\s*)?pub struct (\w+) \{(.*?)\n\}", text, re.S)
     if text.count("repr(C)") != len(found) or not found:
         sys.exit("mirror.py: some struct has a form that isn't read here")
-    fields = [(name, re.findall(r"^\s*(?:pub(?:\(crate\))? )?(\w+): ([^,{}]+),$", body, re.M)) for name, body in found]
-    return [(name, [(it, kind) for it, kind in those if kind != "Global"]) for name, those in fields]
+    return [(name, re.findall(r"^\s*(?:pub(?:\(crate\))? )?(\w+): ([^,{}]+),$", body, re.M)) for name, body in found]
 
 
 def check_struct(name: str, fields: list[tuple[str, str]], header: str) -> list[str]:

@@ -1,22 +1,9 @@
-// The header in C++: a handle in a class that frees it, a record as a value, a text in a string.
+// The header in C++: a record as a value, a text in a string.
 #include "osb.h"
 #include <cstdio>
 #include <string>
 
 namespace {
-class Platform {
-public:
-    Platform() = default;
-    ~Platform() { osb_platform_free(&handle); }
-    Platform(const Platform &) = delete;
-    Platform &operator=(const Platform &) = delete;
-    uint32_t make() { return osb_platform_new(&handle); }
-    uint32_t timeout(osb_id id) { return osb_platform_timeout(&handle, id); }
-
-private:
-    osb_platform handle{};
-};
-
 std::string text_of(const osb_record &record)
 {
     uint8_t text[179] = {};
@@ -39,9 +26,6 @@ bool is_a_record()
 
 int main()
 {
-    Platform platform;
-    if (platform.make() != OSB_DONE || platform.timeout(osb_id{0, 1}) != OSB_NO_REQUEST)
-        return 1;
     if (osb_version() != OSB_VERSION || !is_a_record())
         return 1;
     std::puts("ok");

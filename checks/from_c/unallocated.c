@@ -54,86 +54,10 @@ static void look(const char *call, unsigned long before, unsigned returned, unsi
         wrong |= allocations == before;                         \
     } while (0)
 
-static const struct osb_id service = {0, 0xa0}, plan = {0, 0xb1}, first = {0, 1}, none = {0, 2};
+static const struct osb_id service = {0, 0xa0}, plan = {0, 0xb1}, first = {0, 1};
 
-static struct osb_platform platform, no_platform;
-static struct osb_broker broker, no_broker;
 static struct osb_request request;
 static struct osb_answer answer;
-
-static void refused_everywhere(struct osb_platform *of, struct osb_id id, uint32_t why, uint32_t no_request)
-{
-    NONE(why, osb_platform_send(of, id, &request));
-    NONE(no_request, osb_platform_answer(of, id, answer));
-    NONE(no_request, osb_platform_timeout(of, id));
-    NONE(why, osb_platform_expire(of, id));
-    NONE(why, osb_platform_remove(of, id));
-}
-
-/* Delivers the request in flight, and lets the platform take the answer. */
-static void answer_to(uint16_t status, uint8_t body)
-{
-    NONE(OSB_DONE, osb_broker_handle(&broker, &request, OSB_OUTCOME_DONE, &answer));
-    if (answer.status != status || answer.body != body) {
-        fprintf(stderr, "the broker answered %u %u\n", (unsigned)answer.status, (unsigned)answer.body);
-        wrong = 1;
-    }
-    NONE(OSB_DONE, osb_platform_answer(&platform, first, answer));
-}
-
-static void refusals(void)
-{
-    struct osb_platform_row row = {0};
-    struct osb_broker_row held = {0};
-    refused_everywhere(&no_platform, first, OSB_EMPTY_HANDLE, OSB_EMPTY_HANDLE);
-    refused_everywhere(&platform, none, OSB_UNKNOWN, OSB_NO_REQUEST);
-    NONE(OSB_FULL_HANDLE, osb_platform_new(&platform));
-    NONE(OSB_UNKNOWN, osb_platform_row(&platform, none, &row));
-    NONE(OSB_EMPTY_HANDLE, osb_broker_row(&no_broker, first, &held));
-    NONE(OSB_NOT_HELD, osb_broker_row(&broker, none, &held));
-    NONE(OSB_NOTHING_RUNNING, osb_broker_finish(&broker, none, true));
-}
-
-/* An instance of an asynchronous plan, from its Provision to the end of its deletion. */
-static void life(void)
-{
-    struct osb_platform_row row = {0};
-    struct osb_broker_row held = {0};
-    SOME(osb_platform_create(&platform, first, service, plan, true, &request));
-    NONE(OSB_ID_USED, osb_platform_create(&platform, first, service, plan, true, &request));
-    NONE(OSB_BUSY, osb_platform_send(&platform, first, &request));
-    NONE(OSB_BUSY, osb_platform_expire(&platform, first));
-    NONE(OSB_BUSY, osb_platform_remove(&platform, first));
-    SOME(osb_broker_handle(&broker, &request, OSB_OUTCOME_DONE, &answer));
-    answer_to(202, OSB_BODY_EMPTY);
-    NONE(OSB_DONE, osb_platform_send(&platform, first, &request));
-    NONE(OSB_DONE, osb_platform_timeout(&platform, first));
-    NONE(OSB_DONE, osb_platform_send(&platform, first, &request));
-    answer_to(200, OSB_BODY_IN_PROGRESS);
-    NONE(OSB_DONE, osb_platform_expire(&platform, first));
-    NONE(OSB_NOT_POLLING, osb_platform_expire(&platform, first));
-    NONE(OSB_NOT_REMOVABLE, osb_platform_remove(&platform, first));
-    NONE(OSB_DONE, osb_broker_finish(&broker, first, true));
-    NONE(OSB_DONE, osb_broker_row(&broker, first, &held));
-    NONE(OSB_DONE, osb_platform_send(&platform, first, &request));
-    answer_to(202, OSB_BODY_EMPTY);
-    NONE(OSB_DONE, osb_broker_finish(&broker, first, true));
-    NONE(OSB_DONE, osb_platform_send(&platform, first, &request));
-    answer_to(410, OSB_BODY_OTHER_ERROR);
-    NONE(OSB_DONE, osb_platform_row(&platform, first, &row));
-    NONE(OSB_STATE_GONE, row.state);
-    NONE(OSB_NOTHING_DUE, osb_platform_send(&platform, first, &request));
-}
-
-/* An instance that is ready is removed. Its record may find room where the first one is. */
-static void removal(void)
-{
-    struct osb_id third = {0, 3};
-    struct osb_answer made = {201, OSB_BODY_EMPTY};
-    wrong |= osb_platform_create(&platform, third, service, plan, true, &request) != OSB_DONE;
-    NONE(OSB_DONE, osb_platform_answer(&platform, third, made));
-    NONE(OSB_DONE, osb_platform_remove(&platform, third));
-}
 
 static void pure_calls(void)
 {
@@ -254,20 +178,13 @@ static void wire(void)
 
 int main(void)
 {
-    struct osb_plan plans[1] = {{{0, 0xa0}, {0, 0xb1}, true}};
-    unsigned long before;
-    SOME(osb_platform_new(&platform));
-    SOME(osb_broker_new(&broker, plans, 1));
-    refusals();
-    life();
-    removal();
+    struct osb_record record = {{0, 0xa0}, {0, 0xb1}, 1, OSB_STATE_CLEANING, OSB_KIND_NONE};
+    uint8_t text[179] = {0};
+    size_t length = 0;
+    SOME(osb_record_to_text(&record, text, sizeof text, &length));
     pure_calls();
     records();
     holdings();
     wire();
-    before = allocations;
-    osb_platform_free(&platform);
-    osb_broker_free(&broker);
-    look("free", before, 0, 0);
     return wrong;
 }

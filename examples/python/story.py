@@ -1,40 +1,98 @@
-"""One instance, by both sides: the answer to its Provision gets lost, the platform crashes, is loaded again, and
-cleans up. What it prints stands in story.out beside it. LIBOSB names the library where the system doesn't find it.
+"""Two instances, by both sides. The answer to the first Provision is lost, so the platform deletes the instance; the
+second instance becomes ready. Each side keeps one value for each instance, and requests and answers are written and
+read as HTTP and JSON have them. story.out has what this program prints. LIBOSB names the library if the system doesn't
+find it.
 """
-from osb import Broker, Id, OsbError, Outcome, Plan, Platform, Status
+from __future__ import annotations
 
-INSTANCE = Id.of("00000000-0000-0000-0000-000000000001")
+from osb import Answer, Holding, Id, Mode, Outcome, Record, Request, Work
+from osb.wire import read_answer, read_request, write_answer, write_body, write_method, write_target
+
 SERVICE = Id.of("00000000-0000-0000-0000-0000000000a0")
 PLAN = Id.of("00000000-0000-0000-0000-0000000000b1")
+MODE = Mode.SYNC  # how the plan works, as the broker's catalogue has it
+
+Sent = tuple[str, bytes, bytes]  # a request as HTTP has it: the method, the target and the body
+Given = tuple[int, bytes]  # an answer: the status and the body
 
 
-def show(platform: Platform, broker: Broker) -> None:
-    print(f"recorded: {platform.row(INSTANCE).state}, held: {'no' if broker.row(INSTANCE) is None else 'yes'}")
+class Story:
+    """One instance: what the platform keeps, and what the broker keeps. A real program writes each value to its
+    database where this one prints a line.
+    """
+
+    record: Record
+    holding: Holding = Holding.NONE
+
+    def __init__(self, text: str) -> None:
+        self.id = Id.of(text)
+        print(f"instance {self.id}")
+
+    def step(self, who: str, what: str) -> None:
+        """Prints a step, and what both sides keep after it."""
+        print(f"{who:9} {what:21} record {self.record.state:9} holding {held(self.holding)}")
+
+    def create(self) -> Request:
+        """Creates the instance's record, and returns its Provision."""
+        self.record, request = Record.create(self.id, SERVICE, PLAN, False)
+        return request
+
+    def due(self) -> Request:
+        """Returns the request that is due."""
+        self.record, request = self.record.send(self.id)
+        return request
+
+    def send(self, request: Request) -> Sent:
+        """Writes a request. Its record is stored before the request is sent."""
+        method, target = write_method(request.kind), write_target(request)
+        self.step("platform", f"sends {method}")
+        return method, target.encode(), write_body(request, "an organization", "a space")
+
+    def handle(self, sent: Sent) -> Given:
+        """The broker: the work that is due is stored before it begins, and its end before the answer is sent."""
+        method, target, body = sent
+        row = self.holding.row
+        asked = read_request(method, target, body, 1000)
+        request = asked.request(None if row is None else (row.service, row.plan))
+        self.holding, begun = self.holding.begin(MODE, request)
+        if isinstance(begun, Answer):
+            return begun.status, write_answer(begun)
+        self.step("broker", "stores the work")
+        self.holding, answer = self.holding.end(MODE, Outcome.DONE)
+        self.step("broker", {Work.MAKE: "creates the resource", Work.DELETE: "deletes the resource"}[begun])
+        return answer.status, write_answer(answer)
+
+    def exchange(self, request: Request) -> None:
+        """Sends a request, and takes the answer under the request's number."""
+        attempt = self.record.attempt
+        status, body = self.handle(self.send(request))
+        answer = read_answer(request.kind, status, body)
+        if answer is None:
+            self.time_out()
+            return
+        self.record = self.record.answer(attempt, answer)
+        self.step("platform", f"receives {status}")
+
+    def time_out(self) -> None:
+        """Gives up the request in flight."""
+        self.record = self.record.timeout(self.record.attempt)
+        self.step("platform", "times out")
 
 
-with Broker([Plan(SERVICE, PLAN, False)]) as broker:
-    with Platform() as platform:
-        # The Provision is recorded and saved before it is sent.
-        request = platform.create(INSTANCE, SERVICE, PLAN, False)
-        saved = platform.save()
-        answer = broker.handle(request, Outcome.DONE)
-        print(f"{request.kind.name.capitalize()}: {answer.status}, and the answer gets lost")
-        show(platform, broker)
+def held(holding: Holding) -> str:
+    """The state of a holding in one word."""
+    if holding.work is not None:
+        return "pending"
+    if holding.row is not None:
+        return str(holding.row.phase)
+    return "tombstone" if holding.is_marked else "empty"
 
-    print("the platform crashes, and is loaded again")
-    with Platform(saved) as platform:
-        show(platform, broker)
-        try:
-            # The platform is saved before a request is sent, and before an answer is shown.
-            while True:
-                request = platform.send(INSTANCE)
-                saved = platform.save()
-                answer = broker.handle(request, Outcome.DONE)
-                platform.answer(INSTANCE, answer)
-                saved = platform.save()
-                print(f"{request.kind.name.capitalize()}: {answer.status}")
-        except OsbError as end:
-            if end.status != Status.NOTHING_DUE:
-                raise
-        show(platform, broker)
-        print(saved.decode())
+
+lost = Story("00000000-0000-0000-0000-000000000001")
+status, _ = lost.handle(lost.send(lost.create()))
+lost.step("network", f"loses the answer {status}")
+lost.time_out()
+lost.exchange(lost.due())
+
+good = Story("00000000-0000-0000-0000-000000000002")
+good.exchange(good.create())

@@ -13,8 +13,9 @@ import sys
 from pathlib import Path
 from typing import Iterator
 
-from osb import Id, Kind, OsbError, Request, Status
+from osb import Id, Kind, OsbError, Request
 from osb.client import Client
+from osb.records import IdUsed, UnknownId
 from osb.wire import write_body
 from osb_platform import tell, words
 from osb_platform.instances import Database, Instances
@@ -45,19 +46,18 @@ def main(given: list[str]) -> int:
     os.umask(0o077)  # what it keeps is its own: parameters may be secrets
     try:
         return command(asked)
+    except UnknownId as error:
+        raise words.refuse("no such instance", 1) from error
+    except IdUsed as error:
+        raise words.refuse("this id is used already, and none is used twice", 1) from error
     except OsbError as error:
-        raise words.refuse(_said(error), 1) from error
+        raise words.refuse(str(error), 1) from error
     except (sqlite3.Error, queue.Empty) as error:
         raise words.refuse(f"the store {asked.store} can't be used: {str(error) or 'no session is free'}", 1) from error
     except Exception as error:
         if not pg.is_error(error):
             raise
         raise words.refuse(f"the store can't be used: {pg.reason(error)}", 1) from error
-
-
-def _said(error: OsbError) -> str:
-    told = {Status.UNKNOWN: "no such instance", Status.ID_USED: "this id is used already, and none is used twice"}
-    return told.get(error.status, str(error))
 
 
 def _create(asked: argparse.Namespace) -> int:

@@ -13,8 +13,8 @@ from __future__ import annotations
 from dataclasses import dataclass
 from typing import Any, Callable, ContextManager, Protocol, Sequence, TypeVar
 
-from osb import Id, Kind, OsbError, Record, State, Status
-from osb.records import Kept
+from osb import Id, Kind, Record, State
+from osb.records import IdUsed, Kept, UnknownId
 from osb_program.crash import crash, crash_soon
 
 T = TypeVar("T")
@@ -119,7 +119,7 @@ class Instances:
         return str(kept)
 
     def order(self, id: Id, service: Id, plan: Id, further: str) -> None:
-        """Writes a new order, which is due. Raises ID_USED where the id has a row, which stays as it was."""
+        """Writes a new order, which is due. Raises `IdUsed` if the id has a row, which stays as it was."""
         now = self.now()
         crash("order-next")
         try:
@@ -132,12 +132,12 @@ class Instances:
         except Exception as error:
             if not self._database.is_taken(error):
                 raise
-            raise OsbError(Status.ID_USED, str(id)) from error
+            raise IdUsed(id) from error
         crash("order-written")
 
     def ask_removal(self, id: Id) -> str:
         """Writes down that an instance is to be removed, and gives its state. A worker sees to it as soon as no request
-        of it is in flight. Raises UNKNOWN.
+        of it is in flight. Raises `UnknownId`.
         """
         now = self.now()
         with self._database.transaction() as execute:
@@ -189,7 +189,7 @@ class Instances:
             execute("UPDATE osb_instances SET worker = NULL, leased_until = NULL WHERE worker = ?", [worker])
 
     def withdraw(self, id: Id) -> None:
-        """An order that wasn't sent yet is never sent. Every other row stays as it is. Raises UNKNOWN."""
+        """An order that wasn't sent yet is never sent. Every other row stays as it is. Raises `UnknownId`."""
         now = self.now()
         with self._database.transaction() as execute:
             row = self._locked(execute, id)
@@ -204,7 +204,7 @@ class Instances:
         return self._database.only(worker)
 
     def row(self, id: Id) -> Instance:
-        """The row. Raises UNKNOWN."""
+        """The row. Raises `UnknownId`."""
         with self._database.transaction() as execute:
             found = execute(f"SELECT {_COLUMNS} FROM osb_instances WHERE id = ?", [str(id)])
         return _one(found, id)
@@ -243,7 +243,7 @@ class Instances:
         with self._database.transaction() as execute:
             row = self._locked(execute, id)
             if row.kept is not None or row.state != ORDERED:
-                raise OsbError(Status.ID_USED, str(id))
+                raise IdUsed(id)
             _leave(execute, row)
             execute(
                 "UPDATE osb_instances SET record = ?, operation = ?, state = ?, since = ?, sent_until = ? "
@@ -254,12 +254,12 @@ class Instances:
         _sent()
 
     def update(self, id: Id, change: Callable[[Kept], tuple[Kept, T]]) -> T:
-        """As `RecordStore` says. Raises UNKNOWN of an order too."""
+        """As `RecordStore` says. Raises `UnknownId` of an order too."""
         now = self.now()
         with self._database.transaction() as execute:
             row = self._locked(execute, id)
             if row.kept is None:
-                raise OsbError(Status.UNKNOWN, str(id))
+                raise UnknownId(id)
             before = row.kept
             after, given = change(before)
             if after != before:
@@ -282,7 +282,7 @@ class Instances:
 
 def _one(found: list[tuple[Any, ...]], id: Id) -> Instance:
     if not found:
-        raise OsbError(Status.UNKNOWN, str(id))
+        raise UnknownId(id)
     return _instance(found[0])
 
 

@@ -6,8 +6,8 @@ from __future__ import annotations
 from concurrent.futures import ThreadPoolExecutor
 
 import pytest
-from osb import Answer, Body, Id, OsbError, Record, Status
-from osb.records import Kept
+from osb import Answer, Body, Id, Record
+from osb.records import IdUsed, Kept, UnknownId
 from osb_platform.instances import Database, Instances
 from osb_platform.pg_database import PgDatabase
 from osb_platform.sqlite_database import SqliteDatabase
@@ -31,12 +31,6 @@ class InstancesTest(InFolder):
         self.instances.insert(self.instance, Kept(record))
         return record
 
-    def raises(self, status: Status, call: object, *given: object) -> None:
-        assert callable(call)
-        with self.assertRaises(OsbError) as raised:
-            call(*given)
-        self.assertEqual(raised.exception.status, status)
-
     def claimed(self, worker: str, seconds: float = 60.0) -> bool:
         return self.instance in self.instances.claim(worker, 10**6, seconds)
 
@@ -48,17 +42,17 @@ class InstancesTest(InFolder):
 
     def test_an_id_is_used_once(self) -> None:
         self.order()
-        self.raises(Status.ID_USED, self.instances.order, self.instance, SERVICE, AT_ONCE, "{}")
+        self.assertRaises(IdUsed, self.instances.order, self.instance, SERVICE, AT_ONCE, "{}")
         self.send()
         record, _ = Record.create(self.instance, SERVICE, AT_ONCE, True)
-        self.raises(Status.ID_USED, self.instances.insert, self.instance, Kept(record))
+        self.assertRaises(IdUsed, self.instances.insert, self.instance, Kept(record))
 
     def test_unknown(self) -> None:
         for call in (self.instances.row, self.instances.ask_removal, self.instances.withdraw):
-            self.raises(Status.UNKNOWN, call, self.instance)
-        self.raises(Status.UNKNOWN, self.instances.update, self.instance, lambda kept: (kept, None))
+            self.assertRaises(UnknownId, call, self.instance)
+        self.assertRaises(UnknownId, self.instances.update, self.instance, lambda kept: (kept, None))
         self.order()
-        self.raises(Status.UNKNOWN, self.instances.update, self.instance, lambda kept: (kept, None))
+        self.assertRaises(UnknownId, self.instances.update, self.instance, lambda kept: (kept, None))
 
     def test_one_worker_has_it(self) -> None:
         self.order()
@@ -133,7 +127,7 @@ class InstancesTest(InFolder):
         self.instances.withdraw(self.instance)
         self.assertEqual(self.instances.row(self.instance).state, "withdrawn")
         record, _ = Record.create(self.instance, SERVICE, AT_ONCE, True)
-        self.raises(Status.ID_USED, self.instances.insert, self.instance, Kept(record))
+        self.assertRaises(IdUsed, self.instances.insert, self.instance, Kept(record))
         self.instance = Id.new()
         self.order()
         self.send()

@@ -23,7 +23,14 @@ UNSOLD = Id.of("00000000-0000-0000-0000-0000000000b3")
 USER, PASSWORD = "platform", "a password: with a colon"
 
 CATALOGUE = json.dumps(
-    {"services": [{"id": str(SERVICE), "plans": [{"id": str(SYNC)}, {"id": str(ASYNC), "asynchronous": True}]}]}
+    {
+        "services": [
+            {
+                "id": str(SERVICE),
+                "plans": [{"id": str(SYNC)}, {"id": str(ASYNC), "asynchronous": True}],
+            }
+        ]
+    }
 ).encode()
 
 
@@ -34,7 +41,11 @@ def request(kind: Kind, plan: Id = SYNC, accepts: bool = True, id: Id = ONE) -> 
 class Things:
     """A worker. `things` are those that are there; `before` is called before any work is done."""
 
-    def __init__(self, before: Callable[[Task], None] | None = None, outcome: Outcome = Outcome.DONE) -> None:
+    def __init__(
+        self,
+        before: Callable[[Task], None] | None = None,
+        outcome: Outcome = Outcome.DONE,
+    ) -> None:
         self.things: set[Id] = set()
         self.done: list[Work] = []
         self.before, self.outcome = before, outcome
@@ -76,11 +87,21 @@ def provision_body(plan: Id = SYNC) -> bytes:
 
 
 def target(id: Id = ONE, plan: Id | None = SYNC, end: str = "") -> str:
-    query = "" if plan is None else f"?service_id={SERVICE}&plan_id={plan}&accepts_incomplete=true"
+    query = (
+        ""
+        if plan is None
+        else f"?service_id={SERVICE}&plan_id={plan}&accepts_incomplete=true"
+    )
     return f"/v2/service_instances/{id}{end}{query}"
 
 
-def call(application: BrokerApplication, method: str, target: str, body: bytes = b"", **environ: Any) -> Reply:
+def call(
+    application: BrokerApplication,
+    method: str,
+    target: str,
+    body: bytes = b"",
+    **environ: Any,
+) -> Reply:
     """What the application answers. What is given besides stands in the environment, or doesn't where it is None."""
     path, _, query = target.partition("?")
     given: dict[str, Any] = {
@@ -95,14 +116,21 @@ def call(application: BrokerApplication, method: str, target: str, body: bytes =
     }
     said: list[Any] = []
     whole = b"".join(
-        application({name: it for name, it in given.items() if it is not None}, lambda *line: said.extend(line))
+        application(
+            {name: it for name, it in given.items() if it is not None},
+            lambda *line: said.extend(line),
+        )
     )
     return Reply(int(said[0].split()[0]), dict(said[1]), whole)
 
 
-def provision(application: BrokerApplication, id: Id = ONE, plan: Id = SYNC, accepts: bool = True) -> Reply:
+def provision(
+    application: BrokerApplication, id: Id = ONE, plan: Id = SYNC, accepts: bool = True
+) -> Reply:
     query = "?accepts_incomplete=true" if accepts else ""
-    return call(application, "PUT", f"/v2/service_instances/{id}{query}", provision_body(plan))
+    return call(
+        application, "PUT", f"/v2/service_instances/{id}{query}", provision_body(plan)
+    )
 
 
 def deprovision(application: BrokerApplication, id: Id = ONE, plan: Id = SYNC) -> Reply:
@@ -128,7 +156,9 @@ class Handler(WSGIRequestHandler):
 def served(application: Any) -> Iterator[str]:
     """The application under wsgiref, in a thread; its URL."""
     with make_server("127.0.0.1", 0, application, _Server, Handler) as server:
-        thread = threading.Thread(target=server.serve_forever, kwargs={"poll_interval": 0.01})
+        thread = threading.Thread(
+            target=server.serve_forever, kwargs={"poll_interval": 0.01}
+        )
         thread.start()
         try:
             yield f"http://127.0.0.1:{server.server_port}"

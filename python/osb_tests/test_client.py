@@ -14,12 +14,18 @@ from unittest import mock
 import pytest
 from osb import Answer, Body, Id, Kind, OsbError, Record, State, Status
 from osb.client import Client, Exchanged
-from osb.records import Kept, MemoryRecords
+from osb.records import IdUsed, Kept, MemoryRecords, UnknownId
 from osb_tests.support import ONE, PASSWORD, SERVICE, SYNC, TWO, USER, authorization
 
 
 def response(status: int, body: bytes = b"{}", *headers: str) -> bytes:
-    lines = [f"HTTP/1.1 {status} Said", f"Content-Length: {len(body)}", *headers, "", ""]
+    lines = [
+        f"HTTP/1.1 {status} Said",
+        f"Content-Length: {len(body)}",
+        *headers,
+        "",
+        "",
+    ]
     return "\r\n".join(lines).encode() + body
 
 
@@ -29,14 +35,20 @@ def request_on(connection: socket.socket) -> bytes:
     while b"\r\n\r\n" not in came:
         came += connection.recv(65536)
     head, _, body = came.partition(b"\r\n\r\n")
-    lengths = [line.split(b":")[1] for line in head.split(b"\r\n") if line.lower().startswith(b"content-length:")]
+    lengths = [
+        line.split(b":")[1]
+        for line in head.split(b"\r\n")
+        if line.lower().startswith(b"content-length:")
+    ]
     while lengths and len(body) < int(lengths[0]):
         body += connection.recv(65536)
     return head + b"\r\n\r\n" + body
 
 
 @contextlib.contextmanager
-def far_end(came: list[bytes], *answers: Callable[[socket.socket], None]) -> Iterator[str]:
+def far_end(
+    came: list[bytes], *answers: Callable[[socket.socket], None]
+) -> Iterator[str]:
     """A server that takes as many connections as there are answers, one after the other; its URL."""
     with socket.create_server(("127.0.0.1", 0)) as server:
         server.settimeout(60)
@@ -66,7 +78,9 @@ def slowly(said: bytes) -> Callable[[socket.socket], None]:
     return answer
 
 
-def client(url: str, records: MemoryRecords | None = None, seconds: float = 60.0) -> Client:
+def client(
+    url: str, records: MemoryRecords | None = None, seconds: float = 60.0
+) -> Client:
     return Client(
         url,
         USER,
@@ -79,13 +93,17 @@ def client(url: str, records: MemoryRecords | None = None, seconds: float = 60.0
     )
 
 
-def kept_as(state: State, operation: str | None = None, out: Kind | None = None) -> MemoryRecords:
+def kept_as(
+    state: State, operation: str | None = None, out: Kind | None = None
+) -> MemoryRecords:
     records = MemoryRecords()
     records.insert(ONE, Kept(Record(SERVICE, SYNC, 1, state, out), operation))
     return records
 
 
-def exchanged(state: State, answer: Answer | None, attempt: int = 1, retry: int | None = None) -> Exchanged:
+def exchanged(
+    state: State, answer: Answer | None, attempt: int = 1, retry: int | None = None
+) -> Exchanged:
     return Exchanged(Record(SERVICE, SYNC, attempt, state, None), answer, retry)
 
 
@@ -99,11 +117,16 @@ class Sent(Quiet):
     def test_provision(self) -> None:
         came: list[bytes] = []
         with far_end(came, saying(response(201))) as url:
-            said = client(url + "/a/").create(ONE, SERVICE, SYNC, True, '{"parameters":{"size":3}}')
+            said = client(url + "/a/").create(
+                ONE, SERVICE, SYNC, True, '{"parameters":{"size":3}}'
+            )
         self.assertEqual(said, exchanged(State.READY, Answer(201, Body.EMPTY)))
         head, _, body = came[0].partition(b"\r\n\r\n")
         lines = head.decode().split("\r\n")
-        self.assertEqual(lines[0], f"PUT /a/v2/service_instances/{ONE}?accepts_incomplete=true HTTP/1.1")
+        self.assertEqual(
+            lines[0],
+            f"PUT /a/v2/service_instances/{ONE}?accepts_incomplete=true HTTP/1.1",
+        )
         for line in (
             f"Authorization: {authorization()}",
             "X-Broker-API-Version: 2.17",
@@ -133,19 +156,35 @@ class Sent(Quiet):
         ]
         with far_end(came, *map(saying, said)) as url:
             made = client(url)
-            self.assertEqual(made.create(ONE, SERVICE, SYNC), exchanged(State.POLLING, Answer(202, Body.EMPTY)))
-            self.assertEqual(made.step(ONE), exchanged(State.POLLING, Answer(200, Body.IN_PROGRESS), 2, 7))
-            self.assertEqual(made.step(ONE), exchanged(State.READY, Answer(200, Body.SUCCEEDED), 3))
+            self.assertEqual(
+                made.create(ONE, SERVICE, SYNC),
+                exchanged(State.POLLING, Answer(202, Body.EMPTY)),
+            )
+            self.assertEqual(
+                made.step(ONE),
+                exchanged(State.POLLING, Answer(200, Body.IN_PROGRESS), 2, 7),
+            )
+            self.assertEqual(
+                made.step(ONE), exchanged(State.READY, Answer(200, Body.SUCCEEDED), 3)
+            )
             made.remove(ONE)
-            self.assertEqual(made.step(ONE), exchanged(State.CLEANING_POLLING, Answer(202, Body.EMPTY), 4))
-            self.assertEqual(made.step(ONE), exchanged(State.GONE, Answer(410, Body.EMPTY), 5))
+            self.assertEqual(
+                made.step(ONE),
+                exchanged(State.CLEANING_POLLING, Answer(202, Body.EMPTY), 4),
+            )
+            self.assertEqual(
+                made.step(ONE), exchanged(State.GONE, Answer(410, Body.EMPTY), 5)
+            )
         lines = [it.split(b"\r\n")[0].decode() for it in came]
         ids = f"service_id={SERVICE}&plan_id={SYNC}&accepts_incomplete=true"
         polled = f"GET /v2/service_instances/{ONE}/last_operation?{ids}"
         self.assertEqual(
             lines[1:],
             [f"{polled}&operation=making+1 HTTP/1.1"] * 2
-            + [f"DELETE /v2/service_instances/{ONE}?{ids} HTTP/1.1", f"{polled} HTTP/1.1"],
+            + [
+                f"DELETE /v2/service_instances/{ONE}?{ids} HTTP/1.1",
+                f"{polled} HTTP/1.1",
+            ],
         )
         self.assertNotIn(b"content-length", came[3].lower())
 
@@ -162,30 +201,36 @@ class Sent(Quiet):
 
     def test_nothing_is_sent(self) -> None:
         """What is refused is refused before a connection comes about; the port is nobody's."""
-        ready, nowhere = client("http://127.0.0.1:9", kept_as(State.READY)), client("http://127.0.0.1:9")
+        ready, nowhere = client("http://127.0.0.1:9", kept_as(State.READY)), client(
+            "http://127.0.0.1:9"
+        )
         calls: list[tuple[Callable[[], object], Status]] = [
-            (lambda: ready.create(ONE, SERVICE, SYNC), Status.ID_USED),
             (lambda: ready.step(ONE), Status.NOTHING_DUE),
             (lambda: ready.expire(ONE), Status.NOT_POLLING),
-            (lambda: nowhere.step(TWO), Status.UNKNOWN),
             (lambda: nowhere.create(TWO, SERVICE, SYNC, True, "["), Status.NOT_JSON),
         ]
         for call, status in calls:
             with self.assertRaises(OsbError) as raised:
                 call()
             self.assertEqual(raised.exception.status, status)
-        with self.assertRaises(OsbError) as raised:
-            nowhere.record(TWO)
-        self.assertEqual(raised.exception.status, Status.UNKNOWN)
+        self.assertRaises(IdUsed, ready.create, ONE, SERVICE, SYNC)
+        self.assertRaises(UnknownId, nowhere.step, TWO)
+        self.assertRaises(UnknownId, nowhere.record, TWO)
 
     def test_catalogue(self) -> None:
         """The document as it came, with its status; none where it didn't come whole."""
         document, came = b'{"services":[]}', []  # type: bytes, list[bytes]
         with far_end(
-            came, saying(response(200, document)), saying(response(500, document)), saying(response(200, document)[:-1])
+            came,
+            saying(response(200, document)),
+            saying(response(500, document)),
+            saying(response(200, document)[:-1]),
         ) as url:
             made = client(url + "/a/")
-            self.assertEqual([made.catalogue() for _ in range(3)], [(200, document), (500, document), None])
+            self.assertEqual(
+                [made.catalogue() for _ in range(3)],
+                [(200, document), (500, document), None],
+            )
         self.assertTrue(came[0].startswith(b"GET /a/v2/catalog HTTP/1.1\r\n"))
         self.assertIn(authorization().encode(), came[0])
 
@@ -206,9 +251,16 @@ class Sent(Quiet):
             self.assertRaises(ValueError, client, url)
 
     def test_what_can_not_do_at_the_start(self) -> None:
-        good: dict[str, Any] = {"user": USER, "password": PASSWORD, "organization": "o", "space": "s"}
+        good: dict[str, Any] = {
+            "user": USER,
+            "password": PASSWORD,
+            "organization": "o",
+            "space": "s",
+        }
         Client("http://a", records=MemoryRecords(), **good)
-        no_texts: list[dict[str, Any]] = [{name: it} for name in good for it in ("", "\ud800")]
+        no_texts: list[dict[str, Any]] = [
+            {name: it} for name in good for it in ("", "\ud800")
+        ]
         for bad in [*no_texts, {"user": "a:b"}, {"longest_body": 0}]:
             with self.assertRaises(ValueError, msg=bad) as raised:
                 Client("http://a", records=MemoryRecords(), **{**good, **bad})
@@ -236,7 +288,11 @@ class NoAnswer(Quiet):
             ("no final response", b"HTTP/1.1 102 Said\r\n\r\n"),
         ):
             with far_end([], saying(said)) as url:
-                self.assertEqual(client(url).create(ONE, SERVICE, SYNC), exchanged(State.CLEANING, None), what)
+                self.assertEqual(
+                    client(url).create(ONE, SERVICE, SYNC),
+                    exchanged(State.CLEANING, None),
+                    what,
+                )
 
     def test_recorded_too_late(self) -> None:
         """What took all the time to be recorded isn't sent any more."""
@@ -256,7 +312,9 @@ class NoAnswer(Quiet):
     def test_an_address_that_takes_none(self) -> None:
         """The next one has its part of the time."""
         with contextlib.ExitStack() as stack:
-            full = stack.enter_context(socket.create_server(("127.0.0.1", 0), backlog=0))
+            full = stack.enter_context(
+                socket.create_server(("127.0.0.1", 0), backlog=0)
+            )
             for _ in range(4):
                 waiting = stack.enter_context(socket.socket())
                 waiting.setblocking(False)
@@ -264,15 +322,25 @@ class NoAnswer(Quiet):
             url = stack.enter_context(far_end([], saying(response(201))))
             found = [
                 (socket.AF_INET, socket.SOCK_STREAM, 0, "", at)
-                for at in (full.getsockname(), ("127.0.0.1", int(url.rpartition(":")[2])))
+                for at in (
+                    full.getsockname(),
+                    ("127.0.0.1", int(url.rpartition(":")[2])),
+                )
             ]
-            stack.enter_context(mock.patch("socket.getaddrinfo", lambda *_, **__: found))
-            self.assertEqual(client(url, seconds=3.0).create(ONE, SERVICE, SYNC).record.state, State.READY)
+            stack.enter_context(
+                mock.patch("socket.getaddrinfo", lambda *_, **__: found)
+            )
+            self.assertEqual(
+                client(url, seconds=3.0).create(ONE, SERVICE, SYNC).record.state,
+                State.READY,
+            )
 
     def test_no_connection(self) -> None:
         with socket.create_server(("127.0.0.1", 0)) as server:
             url = f"http://127.0.0.1:{server.getsockname()[1]}"
-        self.assertEqual(client(url).create(ONE, SERVICE, SYNC), exchanged(State.CLEANING, None))
+        self.assertEqual(
+            client(url).create(ONE, SERVICE, SYNC), exchanged(State.CLEANING, None)
+        )
 
     @pytest.mark.slow
     def test_time_of_the_whole(self) -> None:
@@ -282,7 +350,9 @@ class NoAnswer(Quiet):
             with far_end([], answer) as url:
                 begun = time.monotonic()
                 said = client(url, seconds=0.4).create(ONE, SERVICE, SYNC)
-                self.assertLess(time.monotonic() - begun, 10)  # without an end, a minute of 100 Continue
+                self.assertLess(
+                    time.monotonic() - begun, 10
+                )  # without an end, a minute of 100 Continue
             self.assertEqual(said, exchanged(State.CLEANING, None))
 
     def test_whole_ones(self) -> None:
@@ -293,13 +363,23 @@ class NoAnswer(Quiet):
             b"HTTP/1.0 201 Said\r\n\r\n{}",
         ):
             with far_end([], saying(said)) as url:
-                self.assertEqual(client(url).create(ONE, SERVICE, SYNC).record.state, State.READY, said)
+                self.assertEqual(
+                    client(url).create(ONE, SERVICE, SYNC).record.state,
+                    State.READY,
+                    said,
+                )
 
     def test_log(self) -> None:
         """The log says what had no answer and why, and no password."""
         logging.disable(logging.NOTSET)
-        for said, why in ((response(201)[:-1], "cut"), (response(404), "404"), (b"", "cut")):
-            with far_end([], saying(said)) as url, self.assertLogs("osb.client", logging.WARNING) as logged:
+        for said, why in (
+            (response(201)[:-1], "cut"),
+            (response(404), "404"),
+            (b"", "cut"),
+        ):
+            with far_end([], saying(said)) as url, self.assertLogs(
+                "osb.client", logging.WARNING
+            ) as logged:
                 client(url).create(ONE, SERVICE, SYNC)
             told = "\n".join(logged.output)
             self.assertIn(why, told)
@@ -307,7 +387,10 @@ class NoAnswer(Quiet):
 
     def test_no_redirect(self) -> None:
         with far_end([], saying(response(307, b"{}", "Location: /b"))) as url:
-            self.assertEqual(client(url).create(ONE, SERVICE, SYNC), exchanged(State.CLEANING, Answer(307, Body.EMPTY)))
+            self.assertEqual(
+                client(url).create(ONE, SERVICE, SYNC),
+                exchanged(State.CLEANING, Answer(307, Body.EMPTY)),
+            )
 
 
 class GivenUp(Quiet):
@@ -319,8 +402,12 @@ class GivenUp(Quiet):
         ):
             records = kept_as(state, "making", out)
             made = client("http://127.0.0.1:9", records)
-            self.assertEqual(made.give_up(ONE), Record(SERVICE, SYNC, 1, after, None), state)
-            self.assertEqual(records.update(ONE, lambda kept: (kept, kept.operation)), "making")
+            self.assertEqual(
+                made.give_up(ONE), Record(SERVICE, SYNC, 1, after, None), state
+            )
+            self.assertEqual(
+                records.update(ONE, lambda kept: (kept, kept.operation)), "making"
+            )
 
     def test_answer_that_came_late(self) -> None:
         """A Poll of the making is given up, and the instance removed: the late answer isn't the deletion's."""
@@ -335,7 +422,12 @@ class GivenUp(Quiet):
 
         with far_end([], late) as url:
             said = client(url, records).step(ONE)
-        self.assertEqual(said, Exchanged(Record(SERVICE, SYNC, 3, State.CLEANING, Kind.DEPROVISION), None, None))
+        self.assertEqual(
+            said,
+            Exchanged(
+                Record(SERVICE, SYNC, 3, State.CLEANING, Kind.DEPROVISION), None, None
+            ),
+        )
 
     def test_last_transaction_that_failed(self) -> None:
         """The request stays in flight, and is given up: what is due then finds out."""
@@ -355,9 +447,13 @@ class GivenUp(Quiet):
             self.assertRaises(OSError, client(url, records).step, ONE)
         records.left = 100
         self.assertEqual(
-            client("http://127.0.0.1:9", records).give_up(ONE), Record(SERVICE, SYNC, 2, State.CLEANING, None)
+            client("http://127.0.0.1:9", records).give_up(ONE),
+            Record(SERVICE, SYNC, 2, State.CLEANING, None),
         )
 
     def test_expire(self) -> None:
         made = client("http://127.0.0.1:9", kept_as(State.POLLING))
-        self.assertEqual((made.expire(ONE).state, made.record(ONE).state), (State.CLEANING, State.CLEANING))
+        self.assertEqual(
+            (made.expire(ONE).state, made.record(ONE).state),
+            (State.CLEANING, State.CLEANING),
+        )

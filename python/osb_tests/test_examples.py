@@ -15,7 +15,10 @@ pytestmark = pytest.mark.slow
 
 EXAMPLES = Path(__file__).resolve().parent.parent.parent / "examples" / "python"
 ONE = "00000000-0000-0000-0000-000000000001"
-IDS = {"service_id": "00000000-0000-0000-0000-0000000000a0", "plan_id": "00000000-0000-0000-0000-0000000000b1"}
+IDS = {
+    "service_id": "00000000-0000-0000-0000-0000000000a0",
+    "plan_id": "00000000-0000-0000-0000-0000000000b1",
+}
 PROVISION = json.dumps({**IDS, "organization_guid": "o", "space_guid": "s"})
 QUERY = "&".join(f"{name}={it}" for name, it in IDS.items())
 
@@ -39,12 +42,18 @@ def broker(tmp_path: Path) -> Iterator[str]:
     line = [sys.executable, str(EXAMPLES / "broker.py"), str(tmp_path / "broker"), "0"]
     with open(tmp_path / "log", "w", encoding="utf-8") as log:
         process = subprocess.Popen(
-            line, env={**os.environ, "BROKER_PASSWORD": "secret"}, stdout=subprocess.PIPE, stderr=log, text=True
+            line,
+            env={**os.environ, "BROKER_PASSWORD": "secret"},
+            stdout=subprocess.PIPE,
+            stderr=log,
+            text=True,
         )
     try:
         assert process.stdout is not None
         said = process.stdout.readline()
-        assert said.startswith("serving at http://127.0.0.1:"), (tmp_path / "log").read_text()
+        assert said.startswith("serving at http://127.0.0.1:"), (
+            tmp_path / "log"
+        ).read_text()
         yield said.split()[-1]
     finally:
         process.kill()
@@ -60,14 +69,30 @@ def test_order(broker: str, tmp_path: Path) -> None:
     assert out.splitlines() == ["create: ready (1)", "remove: cleaning (1)", "gone (2)"]
 
 
-@pytest.mark.skipif(not shutil.which("curl"), reason="curl isn't installed (Debian: curl)")
+@pytest.mark.skipif(
+    not shutil.which("curl"), reason="curl isn't installed (Debian: curl)"
+)
 def test_broker(broker: str, tmp_path: Path) -> None:
     def status(*arguments: str, password: str = "secret") -> int:
-        line = ["curl", "-s", "-o", os.devnull, "-w", "%{http_code}", "-u", f"platform:{password}"]
+        line = [
+            "curl",
+            "-s",
+            "-o",
+            os.devnull,
+            "-w",
+            "%{http_code}",
+            "-u",
+            f"platform:{password}",
+        ]
         line += ["-H", "X-Broker-API-Version: 2.17", *arguments]
-        return int(subprocess.run(line, capture_output=True, text=True, timeout=60).stdout)
+        return int(
+            subprocess.run(line, capture_output=True, text=True, timeout=60).stdout
+        )
 
-    instance, folder = f"{broker}/v2/service_instances/{ONE}", tmp_path / "broker" / "things" / ONE
+    instance, folder = (
+        f"{broker}/v2/service_instances/{ONE}",
+        tmp_path / "broker" / "things" / ONE,
+    )
     assert status(f"{broker}/v2/catalog") == 200
     assert status("-X", "PUT", "-d", PROVISION, instance) == 201
     assert folder.is_dir()

@@ -16,11 +16,19 @@ from osb import _lib, _structs
 TOP = Path(__file__).resolve().parent.parent.parent
 HEADER = (TOP / "include" / "osb.h").read_text(encoding="utf-8")
 DECLARED = re.sub(r"/\*.*?\*/", "", HEADER, flags=re.S)
-ENUMS = {name: body for name, body in re.findall(r"enum osb_(\w+) \{(.*?)\};", DECLARED, re.S)}
-STRUCTS = {name: body for name, body in re.findall(r"struct osb_(\w+) \{(.*?)\};", DECLARED, re.S)}
+ENUMS = {
+    name: body
+    for name, body in re.findall(r"enum osb_(\w+) \{(.*?)\};", DECLARED, re.S)
+}
+STRUCTS = {
+    name: body
+    for name, body in re.findall(r"struct osb_(\w+) \{(.*?)\};", DECLARED, re.S)
+}
 FUNCTIONS = {
     name: (given, [" ".join(it.split()) for it in taken.split(",")])
-    for given, name, taken in re.findall(r"^(\w+) (osb_\w+)\(([^)]*)\);", DECLARED, re.M | re.S)
+    for given, name, taken in re.findall(
+        r"^(\w+) (osb_\w+)\(([^)]*)\);", DECLARED, re.M | re.S
+    )
 }
 PLAIN: dict[str, Any] = {
     "uint8_t": c.c_uint8,
@@ -41,7 +49,10 @@ def package_enums() -> dict[str, type[enum.IntEnum]]:
     return {
         name.lower(): it
         for name, it in vars(osb.enums).items()
-        if isinstance(it, type) and issubclass(it, enum.IntEnum) and it is not enum.IntEnum and not name.startswith("_")
+        if isinstance(it, type)
+        and issubclass(it, enum.IntEnum)
+        and it is not enum.IntEnum
+        and not name.startswith("_")
     }
 
 
@@ -50,7 +61,11 @@ def struct_type(name: str) -> Any:
 
 
 def value_type(kind: str) -> Any:
-    return struct_type(kind[len("struct osb_") :]) if kind.startswith("struct osb_") else PLAIN[kind]
+    return (
+        struct_type(kind[len("struct osb_") :])
+        if kind.startswith("struct osb_")
+        else PLAIN[kind]
+    )
 
 
 def parameter_type(text: str) -> Any:
@@ -73,7 +88,10 @@ def test_the_header_is_read_whole() -> None:
 @pytest.mark.parametrize("name", ENUMS)
 def test_enum(name: str) -> None:
     front = "" if name == "status" else name.upper() + "_"
-    wanted = {it: int(number) for it, number in re.findall(rf"OSB_{front}(\w+) = (\d+)", ENUMS[name])}
+    wanted = {
+        it: int(number)
+        for it, number in re.findall(rf"OSB_{front}(\w+) = (\d+)", ENUMS[name])
+    }
     assert len(wanted) == ENUMS[name].count("=")
     if name != "status" and "NONE" in wanted:
         assert getattr(_structs, f"{name.upper()}_NONE") == wanted.pop("NONE")
@@ -87,7 +105,9 @@ def test_no_other_enum() -> None:
 def test_meanings() -> None:
     commented = re.search(r"enum osb_status \{(.*?)\};", HEADER, re.S)
     assert commented
-    meanings = dict(re.findall(r"OSB_(\w+) = \d+,?\s*/\* (.*?) \*/", commented[1], re.S))
+    meanings = dict(
+        re.findall(r"OSB_(\w+) = \d+,?\s*/\* (.*?) \*/", commented[1], re.S)
+    )
     assert {it.name: said for it, said in osb.errors.MEANINGS.items()} == meanings
 
 
@@ -96,12 +116,21 @@ def test_struct(name: str) -> None:
     members = []
     for kind, names in re.findall(r"((?:struct )?\w+) ([\w *,]+);", STRUCTS[name]):
         for member in (it.strip() for it in names.split(",")):
-            members.append((member.lstrip("*"), c.c_void_p if member.startswith("*") else value_type(kind)))
+            members.append(
+                (
+                    member.lstrip("*"),
+                    c.c_void_p if member.startswith("*") else value_type(kind),
+                )
+            )
     assert members and struct_type(name)._fields_ == members
 
 
 def test_no_other_struct() -> None:
-    ours = {name for name, it in vars(_structs).items() if isinstance(it, type) and issubclass(it, c.Structure)}
+    ours = {
+        name
+        for name, it in vars(_structs).items()
+        if isinstance(it, type) and issubclass(it, c.Structure)
+    }
     assert ours == {"C" + pascal(name) for name in STRUCTS}
 
 
@@ -115,13 +144,22 @@ def test_function(name: str) -> None:
 
 def test_each_function_is_called() -> None:
     assert [it[0] for it in _lib.EXPORTS] == list(FUNCTIONS)
-    sources = "".join(it.read_text(encoding="utf-8") for it in Path(osb.__file__).parent.glob("*.py"))
+    sources = "".join(
+        it.read_text(encoding="utf-8") for it in Path(osb.__file__).parent.glob("*.py")
+    )
     assert set(re.findall(r"\blib(?:rary)?\.(osb_\w+)\(", sources)) == set(FUNCTIONS)
 
 
 def test_versions() -> None:
-    parts = [int(it) for it in re.findall(r"#define OSB_VERSION_(?:MAJOR|MINOR|PATCH) (\d+)", DECLARED)]
+    parts = [
+        int(it)
+        for it in re.findall(
+            r"#define OSB_VERSION_(?:MAJOR|MINOR|PATCH) (\d+)", DECLARED
+        )
+    ]
     number = parts[0] * 10000 + parts[1] * 100 + parts[2]
     assert (_lib.VERSION, osb.version()) == (number, number)
     project = (TOP / "python" / "pyproject.toml").read_text(encoding="utf-8")
-    assert re.findall(r'^version = "(.*)"', project, re.M) == [".".join(map(str, parts))]
+    assert re.findall(r'^version = "(.*)"', project, re.M) == [
+        ".".join(map(str, parts))
+    ]

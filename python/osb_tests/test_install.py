@@ -28,9 +28,19 @@ print(osb.version(), (pathlib.Path(osb.__file__).parent / "py.typed").exists(), 
 def test_pip_install(tmp_path: Path) -> None:
     builds = subprocess.run([sys.executable, "-c", BUILDS], capture_output=True)
     if builds.returncode != 0:
-        pytest.skip("pip can't build here (Debian: python3-venv python3-setuptools python3-wheel)")
-    python, copied, venv = tmp_path / "venv" / "bin" / "python", tmp_path / "python", tmp_path / "venv"
-    shutil.copytree(PACKAGE, copied, ignore=shutil.ignore_patterns("build", "*.egg-info", "__pycache__"))
+        pytest.skip(
+            "pip can't build here (Debian: python3-venv python3-setuptools python3-wheel)"
+        )
+    python, copied, venv = (
+        tmp_path / "venv" / "bin" / "python",
+        tmp_path / "python",
+        tmp_path / "venv",
+    )
+    shutil.copytree(
+        PACKAGE,
+        copied,
+        ignore=shutil.ignore_patterns("build", "*.egg-info", "__pycache__"),
+    )
     options = [
         "-q",
         "--disable-pip-version-check",
@@ -46,7 +56,17 @@ def test_pip_install(tmp_path: Path) -> None:
         ran = subprocess.run(line, capture_output=True, text=True)
         assert ran.returncode == 0, ran.stderr
     alone = {name: it for name, it in os.environ.items() if name != "PYTHONPATH"}
-    ran = subprocess.run([str(python), "-c", IMPORTED], cwd=tmp_path, env=alone, capture_output=True, text=True)
+    ran = subprocess.run(
+        [str(python), "-c", IMPORTED],
+        cwd=tmp_path,
+        env=alone,
+        capture_output=True,
+        text=True,
+    )
     assert ran.stderr == ""
     number, has_types, where = ran.stdout.split()
-    assert (int(number), has_types, where.startswith(str(venv))) == (osb.version(), "True", True)
+    assert (int(number), has_types, where.startswith(str(venv))) == (
+        osb.version(),
+        "True",
+        True,
+    )

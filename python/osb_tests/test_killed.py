@@ -33,7 +33,9 @@ class Killed(unittest.TestCase):
     def broker(self, is_stuck: str) -> Iterator[Client]:
         words = [sys.executable, "-m", "osb_tests.stuck", str(self.folder), is_stuck]
         top = Path(__file__).resolve().parent.parent
-        with subprocess.Popen(words, cwd=top, stdout=subprocess.PIPE, text=True) as process:
+        with subprocess.Popen(
+            words, cwd=top, stdout=subprocess.PIPE, text=True
+        ) as process:
             assert process.stdout is not None
             try:
                 port, left = process.stdout.readline().split()
@@ -62,20 +64,31 @@ class Killed(unittest.TestCase):
 
     def test_in_the_middle_of_making(self) -> None:
         with self.broker("yes") as client:
-            self.assertEqual(client.create(ONE, SERVICE, SYNC).record.state, State.CLEANING)
+            self.assertEqual(
+                client.create(ONE, SERVICE, SYNC).record.state, State.CLEANING
+            )
             self.half(True)
         with self.broker("no") as client:
             self.assertEqual(self.things(), 2)
             self.assertEqual(
-                client.step(ONE), Exchanged(Record(SERVICE, SYNC, 2, State.GONE, None), Answer(200, Body.EMPTY), None)
+                client.step(ONE),
+                Exchanged(
+                    Record(SERVICE, SYNC, 2, State.GONE, None),
+                    Answer(200, Body.EMPTY),
+                    None,
+                ),
             )
         self.assertEqual(self.things(), 0)
-        held = SqliteStore(self.folder / "holdings").update(ONE, lambda holding: (holding, holding))
+        held = SqliteStore(self.folder / "holdings").update(
+            ONE, lambda holding: (holding, holding)
+        )
         self.assertEqual(held, Holding(is_marked=True))
 
     def test_in_the_middle_of_deleting(self) -> None:
         with self.broker("no") as client:
-            self.assertEqual(client.create(ONE, SERVICE, SYNC).record.state, State.READY)
+            self.assertEqual(
+                client.create(ONE, SERVICE, SYNC).record.state, State.READY
+            )
             client.remove(ONE)
         with self.broker("yes") as client:
             self.assertEqual(client.step(ONE).record.state, State.CLEANING)
@@ -84,5 +97,9 @@ class Killed(unittest.TestCase):
             self.assertEqual(self.things(), 0)
             self.assertEqual(
                 client.step(ONE),
-                Exchanged(Record(SERVICE, SYNC, 3, State.GONE, None), Answer(410, Body.OTHER_ERROR), None),
+                Exchanged(
+                    Record(SERVICE, SYNC, 3, State.GONE, None),
+                    Answer(410, Body.OTHER_ERROR),
+                    None,
+                ),
             )

@@ -38,7 +38,9 @@ class Lossy:
         self.broker = broker
         self.lose: list[str] = []
 
-    def __call__(self, environ: dict[str, Any], start_response: Callable[..., Any]) -> Iterable[bytes]:
+    def __call__(
+        self, environ: dict[str, Any], start_response: Callable[..., Any]
+    ) -> Iterable[bytes]:
         said: list[Any] = []
         body = b"".join(self.broker(environ, lambda *line: said.extend(line)))
         if environ["REQUEST_METHOD"] in self.lose:
@@ -57,7 +59,9 @@ class BothSides(unittest.TestCase):
         self.addCleanup(folder.cleanup)
         self.folder = Path(folder.name)
         self.store, self.worker = SqliteStore(self.folder / "holdings"), Things()
-        self.broker = BrokerApplication(CATALOGUE, self.store, self.worker, USER, PASSWORD, prefix="/a")
+        self.broker = BrokerApplication(
+            CATALOGUE, self.store, self.worker, USER, PASSWORD, prefix="/a"
+        )
         self.network = Lossy(self.broker)
 
     def client(self, url: str) -> Client:
@@ -81,28 +85,52 @@ class BothSides(unittest.TestCase):
         with served(self.network) as url:
             made = self.client(url)
             self.network.lose = ["PUT", "DELETE"]
-            self.assertEqual(made.create(ONE, SERVICE, SYNC).record.state, State.CLEANING)
-            self.assertEqual(self.held(), Holding(BrokerRow(SERVICE, SYNC, Phase.READY)))
+            self.assertEqual(
+                made.create(ONE, SERVICE, SYNC).record.state, State.CLEANING
+            )
+            self.assertEqual(
+                self.held(), Holding(BrokerRow(SERVICE, SYNC, Phase.READY))
+            )
             self.assertEqual(made.step(ONE).record.state, State.CLEANING)
             said = made.step(ONE)
-            self.assertEqual((said.answer and said.answer.status, said.record.state), (410, State.GONE))
+            self.assertEqual(
+                (said.answer and said.answer.status, said.record.state),
+                (410, State.GONE),
+            )
             self.assertEqual(self.late_provision(url), (409, "Conflict"))
-        self.assertEqual((self.worker.things, self.held()), (set(), Holding(is_marked=True)))
+        self.assertEqual(
+            (self.worker.things, self.held()), (set(), Holding(is_marked=True))
+        )
 
     def test_provision_that_never_came(self) -> None:
         """The Provision is given up before it arrives, and the deletion finds nothing: the late copy is refused too."""
         with served(self.network) as url:
             records = SqliteRecords(self.folder / "records")
-            nowhere = Client("http://127.0.0.1:9/a", USER, PASSWORD, records, organization="o", space="s", seconds=1)
-            self.assertEqual(nowhere.create(ONE, SERVICE, SYNC).record.state, State.CLEANING)
-            self.assertEqual(self.client(url).step(ONE).record, Record(SERVICE, SYNC, 2, State.GONE, None))
+            nowhere = Client(
+                "http://127.0.0.1:9/a",
+                USER,
+                PASSWORD,
+                records,
+                organization="o",
+                space="s",
+                seconds=1,
+            )
+            self.assertEqual(
+                nowhere.create(ONE, SERVICE, SYNC).record.state, State.CLEANING
+            )
+            self.assertEqual(
+                self.client(url).step(ONE).record,
+                Record(SERVICE, SYNC, 2, State.GONE, None),
+            )
             self.assertEqual(self.late_provision(url), (409, "Conflict"))
         self.assertEqual((self.worker.done, self.held()), ([], Holding(is_marked=True)))
 
     def test_asynchronous_plan(self) -> None:
         with served(self.network) as url:
             made = self.client(url)
-            self.assertEqual(made.create(ONE, SERVICE, ASYNC).record.state, State.POLLING)
+            self.assertEqual(
+                made.create(ONE, SERVICE, ASYNC).record.state, State.POLLING
+            )
             self.assertEqual(made.step(ONE).record.state, State.POLLING)
             self.broker.finish(ONE, True)
             self.assertEqual(made.step(ONE).record.state, State.READY)
@@ -123,12 +151,22 @@ class BothSides(unittest.TestCase):
         self.worker.before = killed
         with served(self.network) as url:
             made = self.client(url)
-            self.assertEqual(made.create(ONE, SERVICE, SYNC).record.state, State.CLEANING)
+            self.assertEqual(
+                made.create(ONE, SERVICE, SYNC).record.state, State.CLEANING
+            )
             self.assertEqual(made.step(ONE).record.state, State.CLEANING)
             self.worker.before = None
-            again = BrokerApplication(CATALOGUE, SqliteStore(self.folder / "holdings"), self.worker, USER, PASSWORD)
+            again = BrokerApplication(
+                CATALOGUE,
+                SqliteStore(self.folder / "holdings"),
+                self.worker,
+                USER,
+                PASSWORD,
+            )
             self.assertEqual((again.resume(), self.worker.things), ([], {ONE}))
-            self.assertEqual((made.step(ONE).record.state, self.worker.things), (State.GONE, set()))
+            self.assertEqual(
+                (made.step(ONE).record.state, self.worker.things), (State.GONE, set())
+            )
 
     def test_platform_that_was_killed(self) -> None:
         with served(self.network) as url:
@@ -139,8 +177,12 @@ class BothSides(unittest.TestCase):
             records.update(ONE, lambda kept: (Kept(kept.record.send(ONE)[0]), None))
             again = self.client(url)
             self.assertEqual(records.pending(), [ONE])
-            self.assertEqual(again.give_up(ONE), Record(SERVICE, SYNC, 2, State.CLEANING, None))
-            self.assertEqual(again.step(ONE).record, Record(SERVICE, SYNC, 3, State.GONE, None))
+            self.assertEqual(
+                again.give_up(ONE), Record(SERVICE, SYNC, 2, State.CLEANING, None)
+            )
+            self.assertEqual(
+                again.step(ONE).record, Record(SERVICE, SYNC, 3, State.GONE, None)
+            )
 
     def late_provision(self, url: str) -> tuple[int, str]:
         connection = HTTPConnection(urlsplit(url).netloc)
@@ -148,7 +190,11 @@ class BothSides(unittest.TestCase):
             "PUT",
             "/a" + target(plan=None),
             provision_body(),
-            {"Authorization": authorization(), "X-Broker-API-Version": "2.17", "Content-Type": "application/json"},
+            {
+                "Authorization": authorization(),
+                "X-Broker-API-Version": "2.17",
+                "Content-Type": "application/json",
+            },
         )
         response = connection.getresponse()
         said = response.status, str(json.loads(response.read())["error"])

@@ -41,7 +41,9 @@ class Opened(unittest.TestCase):
         with closing(opened(self.file, 1.0)) as first:
             first.execute("CREATE TABLE x (y)")
 
-    def synced(self, database: list[sqlite3.Connection], is_first: bool = True) -> list[str]:
+    def synced(
+        self, database: list[sqlite3.Connection], is_first: bool = True
+    ) -> list[str]:
         """Opens the file, and gives what this process has had put on disk by itself meanwhile."""
         names: list[str] = []
         whole = os.fsync
@@ -58,7 +60,10 @@ class Opened(unittest.TestCase):
     def test_commits_are_on_disk(self) -> None:
         for is_first in (True, False):
             with closing(opened(self.file, 1.0, is_first)) as database:
-                self.assertEqual((pragma(database, "synchronous"), pragma(database, "journal_mode")), (2, "wal"))
+                self.assertEqual(
+                    (pragma(database, "synchronous"), pragma(database, "journal_mode")),
+                    (2, "wal"),
+                )
 
     def test_what_was_not_synced(self) -> None:
         """The log is put on disk, and its name, and it is the one that is read from then on."""
@@ -69,7 +74,9 @@ class Opened(unittest.TestCase):
         self.assertEqual(self.synced(database, is_first=False), [])
 
     def test_it_waits_for_no_reader(self) -> None:
-        with closing(opened(self.file, 1.0)) as reader, closing(opened(self.file, 1.0)) as writer:
+        with closing(opened(self.file, 1.0)) as reader, closing(
+            opened(self.file, 1.0)
+        ) as writer:
             reader.execute("BEGIN")
             reader.execute("SELECT y FROM x").fetchall()
             began = time.monotonic()
@@ -86,16 +93,24 @@ class Opened(unittest.TestCase):
             raise KeyError("x")
         with transaction(self.file, 1.0) as database:
             self.assertEqual(
-                (pragma(database, "synchronous"), database.execute("SELECT y FROM x").fetchall()), (2, [(3,)])
+                (
+                    pragma(database, "synchronous"),
+                    database.execute("SELECT y FROM x").fetchall(),
+                ),
+                (2, [(3,)]),
             )
 
     def test_waiting_for_another(self) -> None:
         """It begins once the other has ended, and not before; the connection's own waiting is as it was."""
-        with closing(opened(self.file, 7.0)) as first, closing(opened(self.file, 7.0)) as second:
+        with closing(opened(self.file, 7.0)) as first, closing(
+            opened(self.file, 7.0)
+        ) as second:
             begin(first, 7.0)
             first.execute("INSERT INTO x VALUES (5)")
             began = time.monotonic()
-            self.assertRaisesRegex(sqlite3.OperationalError, "locked", begin, second, 0.2)
+            self.assertRaisesRegex(
+                sqlite3.OperationalError, "locked", begin, second, 0.2
+            )
             self.assertGreaterEqual(time.monotonic() - began, 0.2)
             self.assertEqual(pragma(second, "busy_timeout"), 7000)
             ends = threading.Timer(0.1, first.execute, ["COMMIT"])
@@ -107,9 +122,13 @@ class Opened(unittest.TestCase):
             ends.join()
 
     def test_waiting_has_an_end(self) -> None:
-        with closing(sqlite3.connect(self.folder / "new", isolation_level=None)) as other:
+        with closing(
+            sqlite3.connect(self.folder / "new", isolation_level=None)
+        ) as other:
             other.execute("BEGIN EXCLUSIVE")
-            self.assertRaises(sqlite3.OperationalError, opened, self.folder / "new", 0.2)
+            self.assertRaises(
+                sqlite3.OperationalError, opened, self.folder / "new", 0.2
+            )
 
     def test_a_file_that_can_not_be_used(self) -> None:
         """There is nothing to wait for."""
@@ -122,7 +141,9 @@ class Opened(unittest.TestCase):
             self.addCleanup(self.folder.chmod, 0o755)
             self.assertRaises(sqlite3.Error, opened, self.file, 30.0)
         with mock.patch("osb.sqlite.sqlite3.connect", lambda *_, **__: Refusing()):
-            self.assertRaisesRegex(sqlite3.OperationalError, "readonly", opened, self.file, 30.0)
+            self.assertRaisesRegex(
+                sqlite3.OperationalError, "readonly", opened, self.file, 30.0
+            )
         self.assertLess(time.monotonic() - began, 5)
 
     def test_a_store(self) -> None:
@@ -131,7 +152,9 @@ class Opened(unittest.TestCase):
         with mock.patch("os.fsync") as fsync:
             store.update(ONE, lambda holding: (holding, None))
         self.assertTrue(fsync.called)
-        self.assertEqual(store.update(ONE, lambda holding: (holding, holding)), Holding.NONE)
+        self.assertEqual(
+            store.update(ONE, lambda holding: (holding, holding)), Holding.NONE
+        )
 
 
 class Refusing:

@@ -7,9 +7,9 @@ import unittest
 from pathlib import Path
 from typing import Callable
 
-from osb import BrokerRow, Holding, Id, Kind, OsbError, Phase, Record, State, Status
+from osb import BrokerRow, Holding, Id, Kind, OsbError, Phase, Record, State
 from osb.locks import FileLocks
-from osb.records import Kept, MemoryRecords, RecordStore, SqliteRecords
+from osb.records import IdUsed, Kept, MemoryRecords, RecordStore, SqliteRecords, UnknownId
 from osb.stores import MemoryStore, SqliteStore, Store
 from osb_tests.support import ASYNC, ONE, SERVICE, SYNC, TWO, request
 
@@ -47,7 +47,10 @@ class Stores(InFolder):
     def test_update(self) -> None:
         for store in self.both():
             self.assertEqual(held(store), Holding.NONE)
-            self.assertEqual(store.update(ONE, lambda holding: (MAKING, (holding, "said"))), (Holding.NONE, "said"))
+            self.assertEqual(
+                store.update(ONE, lambda holding: (MAKING, (holding, "said"))),
+                (Holding.NONE, "said"),
+            )
             self.assertEqual((held(store), held(store, TWO)), (MAKING, Holding.NONE))
 
     def test_nothing_is_written_where_it_raises(self) -> None:
@@ -89,7 +92,13 @@ class Stores(InFolder):
 
             def take(store: Store = store, said: list[bool] = said) -> None:
                 said.append(
-                    store.update(ONE, lambda holding: (Holding(work=request(Kind.PROVISION)), holding == Holding.NONE))
+                    store.update(
+                        ONE,
+                        lambda holding: (
+                            Holding(work=request(Kind.PROVISION)),
+                            holding == Holding.NONE,
+                        ),
+                    )
                 )
 
             at_once(20, take)
@@ -108,12 +117,8 @@ class Records(InFolder):
             self.assertEqual((kept(store), store.pending()), (wanted, [ONE]))
             self.assertEqual(store.update(ONE, lambda it: (ready, it)), wanted)
             self.assertEqual((kept(store), store.pending()), (ready, []))
-            with self.assertRaises(OsbError) as raised:
-                store.insert(ONE, wanted)
-            self.assertEqual(raised.exception.status, Status.ID_USED)
-            with self.assertRaises(OsbError) as raised:
-                kept(store, TWO)
-            self.assertEqual(raised.exception.status, Status.UNKNOWN)
+            self.assertRaisesRegex(IdUsed, str(ONE), store.insert, ONE, wanted)
+            self.assertRaisesRegex(UnknownId, str(TWO), kept, store, TWO)
             self.assertEqual(kept(store), ready)
 
     def test_reopened(self) -> None:
@@ -126,7 +131,13 @@ class Records(InFolder):
             store.insert(ONE, Kept(Record(SERVICE, SYNC, 0, State.CLEANING, None)))
 
             def sent(store: RecordStore = store) -> None:
-                store.update(ONE, lambda it: (Kept(it.record.send(ONE)[0].timeout(it.record.attempt + 1)), None))
+                store.update(
+                    ONE,
+                    lambda it: (
+                        Kept(it.record.send(ONE)[0].timeout(it.record.attempt + 1)),
+                        None,
+                    ),
+                )
 
             at_once(20, sent)
             self.assertEqual(kept(store).record.attempt, 20)
@@ -148,7 +159,9 @@ class Locks(InFolder):
 
     def test_attempt(self) -> None:
         locks = FileLocks(self.folder)
-        with locks.attempt(ONE) as first, locks.attempt(ONE) as second, locks.attempt(TWO) as other:
+        with locks.attempt(ONE) as first, locks.attempt(ONE) as second, locks.attempt(
+            TWO
+        ) as other:
             self.assertEqual((first, second, other), (True, False, True))
         with locks(ONE), locks.attempt(ONE) as third:
             self.assertFalse(third)
@@ -158,4 +171,7 @@ class Locks(InFolder):
     def test_each_has_its_own(self) -> None:
         locks = FileLocks(self.folder / "new")
         with locks(ONE), locks(TWO):
-            self.assertEqual(sorted(it.name for it in (self.folder / "new").iterdir()), [str(ONE), str(TWO)])
+            self.assertEqual(
+                sorted(it.name for it in (self.folder / "new").iterdir()),
+                [str(ONE), str(TWO)],
+            )

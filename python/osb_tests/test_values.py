@@ -46,7 +46,9 @@ def row(phase: Phase, plan: Id = ASYNC) -> BrokerRow:
 class Ids(unittest.TestCase):
     def test_text(self) -> None:
         text = "12345678-9abc-def0-1234-56789abcdef0"
-        self.assertEqual(Id.of(text.upper()), Id(0x123456789ABCDEF0, 0x123456789ABCDEF0))
+        self.assertEqual(
+            Id.of(text.upper()), Id(0x123456789ABCDEF0, 0x123456789ABCDEF0)
+        )
         self.assertEqual(str(Id.of(text.upper())), text)
         self.assertEqual(eval(repr(Id.of(text))), Id.of(text))
         self.assertEqual(len({Id.of(text), Id.of(text.upper()), ONE}), 2)
@@ -85,8 +87,13 @@ class Names(unittest.TestCase):
             (Outcome.AFTER, "after"),
             (Work.START_MAKING, "start-making"),
         ):
-            self.assertEqual((str(it), f"{it}", f"{it:>20}"), (name, name, name.rjust(20)))
-        self.assertEqual((int(State.READY), State(2), f"{State.READY.value:02}"), (2, State.READY, "02"))
+            self.assertEqual(
+                (str(it), f"{it}", f"{it:>20}"), (name, name, name.rjust(20))
+            )
+        self.assertEqual(
+            (int(State.READY), State(2), f"{State.READY.value:02}"),
+            (2, State.READY, "02"),
+        )
 
 
 class Records(unittest.TestCase):
@@ -96,16 +103,30 @@ class Records(unittest.TestCase):
         self.assertEqual(asked, request(PROVISION, accepts=False))
 
     def test_send(self) -> None:
-        for state, kind in ((State.POLLING, POLL), (State.CLEANING_POLLING, POLL), (State.CLEANING, DEPROVISION)):
-            self.assertEqual(record(state, attempt=4).send(ONE), (record(state, kind, 5), request(kind)), state)
-            self.assertEqual(status_of(lambda: record(state, kind).send(ONE)), Status.BUSY, state)
+        for state, kind in (
+            (State.POLLING, POLL),
+            (State.CLEANING_POLLING, POLL),
+            (State.CLEANING, DEPROVISION),
+        ):
+            self.assertEqual(
+                record(state, attempt=4).send(ONE),
+                (record(state, kind, 5), request(kind)),
+                state,
+            )
+            self.assertEqual(
+                status_of(lambda: record(state, kind).send(ONE)), Status.BUSY, state
+            )
         for state in (State.READY, State.GONE, State.UNSETTLED):
-            self.assertEqual(status_of(lambda: record(state).send(ONE)), Status.NOTHING_DUE, state)
+            self.assertEqual(
+                status_of(lambda: record(state).send(ONE)), Status.NOTHING_DUE, state
+            )
         last = record(State.CLEANING, attempt=2**64 - 1)
         self.assertEqual(status_of(lambda: last.send(ONE)), Status.ATTEMPTS_USED_UP)
 
     def test_answer(self) -> None:
-        wanted, polling = record(State.WANTED, PROVISION, 1), record(State.POLLING, POLL, 2)
+        wanted, polling = record(State.WANTED, PROVISION, 1), record(
+            State.POLLING, POLL, 2
+        )
         cleaning = record(State.CLEANING, DEPROVISION, 3)
         for before, status, body, after in (
             (wanted, 201, Body.EMPTY, State.READY),
@@ -120,20 +141,35 @@ class Records(unittest.TestCase):
             (cleaning, 202, Body.EMPTY, State.CLEANING_POLLING),
         ):
             taken = before.answer(before.attempt, Answer(status, body))
-            self.assertEqual(taken, record(after, None, before.attempt), (before, status))
+            self.assertEqual(
+                taken, record(after, None, before.attempt), (before, status)
+            )
 
     def test_numbers(self) -> None:
         """An answer and a timeout are of the request in flight alone."""
         polling = record(State.POLLING, POLL, 2)
-        for it, attempt in ((polling, 1), (polling, 3), (record(State.POLLING, None, 2), 2)):
+        for it, attempt in (
+            (polling, 1),
+            (polling, 3),
+            (record(State.POLLING, None, 2), 2),
+        ):
             said = Answer(200, Body.SUCCEEDED)
-            self.assertEqual(status_of(lambda: it.answer(attempt, said)), Status.NOT_IN_FLIGHT, it)
-            self.assertEqual(status_of(lambda: it.timeout(attempt)), Status.NOT_IN_FLIGHT, it)
+            self.assertEqual(
+                status_of(lambda: it.answer(attempt, said)), Status.NOT_IN_FLIGHT, it
+            )
+            self.assertEqual(
+                status_of(lambda: it.timeout(attempt)), Status.NOT_IN_FLIGHT, it
+            )
         self.assertRaises(ValueError, polling.timeout, 2**64 + 2)
 
     def test_timeout(self) -> None:
-        self.assertEqual(record(State.WANTED, PROVISION, 1).timeout(1), record(State.CLEANING, None, 1))
-        self.assertEqual(record(State.POLLING, POLL, 2).timeout(2), record(State.POLLING, None, 2))
+        self.assertEqual(
+            record(State.WANTED, PROVISION, 1).timeout(1),
+            record(State.CLEANING, None, 1),
+        )
+        self.assertEqual(
+            record(State.POLLING, POLL, 2).timeout(2), record(State.POLLING, None, 2)
+        )
 
     def test_expire_and_remove(self) -> None:
         self.assertEqual(record(State.POLLING).expire(), record(State.CLEANING))
@@ -145,13 +181,20 @@ class Records(unittest.TestCase):
         self.assertEqual(status_of(record(State.POLLING, POLL).remove), Status.BUSY)
 
     def test_from_platform_row(self) -> None:
-        for before, after in ((State.WANTED, State.CLEANING), (State.READY, State.READY)):
+        for before, after in (
+            (State.WANTED, State.CLEANING),
+            (State.READY, State.READY),
+        ):
             out = PROVISION if before == State.WANTED else None
             made = Record.from_platform_row(PlatformRow(SERVICE, SYNC, before, out))
             self.assertEqual(made, record(after, None, 0))
 
     def test_values_that_no_call_gives(self) -> None:
-        for it in (record(State.WANTED), record(State.READY, POLL), record(State.CLEANING, DEPROVISION, 0)):
+        for it in (
+            record(State.WANTED),
+            record(State.READY, POLL),
+            record(State.CLEANING, DEPROVISION, 0),
+        ):
             for call in (it.to_text, it.expire, it.remove, lambda: it.send(ONE)):
                 self.assertEqual(status_of(call), Status.BAD_RECORD, it)
 
@@ -204,7 +247,11 @@ class Texts(unittest.TestCase):
         ):
             self.assertEqual(status_of(lambda: Record.from_text(text)), fault, text)
         both = HOLDINGS[1][0].replace("false", "true")
-        for text, fault in ((both, Status.IMPOSSIBLE), (RECORD, Status.BAD_OUTER), (marked[:-1], Status.NOT_JSON)):
+        for text, fault in (
+            (both, Status.IMPOSSIBLE),
+            (RECORD, Status.BAD_OUTER),
+            (marked[:-1], Status.NOT_JSON),
+        ):
             self.assertEqual(status_of(lambda: Holding.from_text(text)), fault, text)
 
 
@@ -214,8 +261,18 @@ def holding_with_work(kind: Kind, plan: Id = SYNC) -> Holding:
 
 
 class Holdings(unittest.TestCase):
-    def begins(self, holding: Holding, mode: Mode | None, kind: Kind, plan: Id, said: object, after: Holding) -> None:
-        self.assertEqual(holding.begin(mode, request(kind, plan)), (after, said), (holding, kind))
+    def begins(
+        self,
+        holding: Holding,
+        mode: Mode | None,
+        kind: Kind,
+        plan: Id,
+        said: object,
+        after: Holding,
+    ) -> None:
+        self.assertEqual(
+            holding.begin(mode, request(kind, plan)), (after, said), (holding, kind)
+        )
 
     def test_busy(self) -> None:
         for held in (holding_with_work(PROVISION), holding_with_work(DEPROVISION)):
@@ -240,42 +297,100 @@ class Holdings(unittest.TestCase):
             (Mode.SYNC, SYNC, Work.MAKE, Work.DELETE),
             (Mode.ASYNC, ASYNC, Work.START_MAKING, Work.START_DELETING),
         ):
-            self.begins(Holding.NONE, mode, PROVISION, plan, making, Holding(work=request(PROVISION, plan)))
+            self.begins(
+                Holding.NONE,
+                mode,
+                PROVISION,
+                plan,
+                making,
+                Holding(work=request(PROVISION, plan)),
+            )
             ready = Holding(row(Phase.READY, plan))
-            self.begins(ready, mode, DEPROVISION, plan, deleting, Holding(ready.row, request(DEPROVISION, plan)))
-            self.assertEqual((work_of(PROVISION, mode), work_of(DEPROVISION, mode)), (making, deleting))
-        self.assertEqual((work_of(POLL, Mode.SYNC), work_of(PROVISION, None)), (None, None))
+            self.begins(
+                ready,
+                mode,
+                DEPROVISION,
+                plan,
+                deleting,
+                Holding(ready.row, request(DEPROVISION, plan)),
+            )
+            self.assertEqual(
+                (work_of(PROVISION, mode), work_of(DEPROVISION, mode)),
+                (making, deleting),
+            )
+        self.assertEqual(
+            (work_of(POLL, Mode.SYNC), work_of(PROVISION, None)), (None, None)
+        )
 
     def test_answered(self) -> None:
         ready = Holding(row(Phase.READY, SYNC))
-        self.begins(Holding.NONE, Mode.SYNC, DEPROVISION, SYNC, Answer(410, Body.OTHER_ERROR), Holding(is_marked=True))
-        self.begins(Holding.NONE, None, PROVISION, SYNC, Answer(400, Body.OTHER_ERROR), Holding.NONE)
+        self.begins(
+            Holding.NONE,
+            Mode.SYNC,
+            DEPROVISION,
+            SYNC,
+            Answer(410, Body.OTHER_ERROR),
+            Holding(is_marked=True),
+        )
+        self.begins(
+            Holding.NONE,
+            None,
+            PROVISION,
+            SYNC,
+            Answer(400, Body.OTHER_ERROR),
+            Holding.NONE,
+        )
         self.begins(ready, Mode.SYNC, PROVISION, SYNC, Answer(200, Body.EMPTY), ready)
         self.begins(ready, Mode.SYNC, POLL, SYNC, Answer(200, Body.SUCCEEDED), ready)
         unwilling = request(PROVISION, ASYNC, accepts=False)
-        self.assertEqual(Holding.NONE.begin(Mode.ASYNC, unwilling), (Holding.NONE, Answer(422, Body.ASYNC_REQUIRED)))
+        self.assertEqual(
+            Holding.NONE.begin(Mode.ASYNC, unwilling),
+            (Holding.NONE, Answer(422, Body.ASYNC_REQUIRED)),
+        )
 
     def test_end(self) -> None:
         done, before, after = Outcome.DONE, Outcome.BEFORE, Outcome.AFTER
         failed, marked = Answer(500, Body.OTHER_ERROR), Holding(is_marked=True)
         table: tuple[tuple[Mode, Kind, Outcome, Answer, Holding], ...] = (
-            (Mode.SYNC, PROVISION, done, Answer(201, Body.EMPTY), Holding(row(Phase.READY, SYNC))),
-            (Mode.ASYNC, PROVISION, done, Answer(202, Body.EMPTY), Holding(row(Phase.MAKING))),
+            (
+                Mode.SYNC,
+                PROVISION,
+                done,
+                Answer(201, Body.EMPTY),
+                Holding(row(Phase.READY, SYNC)),
+            ),
+            (
+                Mode.ASYNC,
+                PROVISION,
+                done,
+                Answer(202, Body.EMPTY),
+                Holding(row(Phase.MAKING)),
+            ),
             (Mode.SYNC, PROVISION, after, failed, Holding(row(Phase.READY, SYNC))),
             (Mode.ASYNC, PROVISION, after, failed, Holding(row(Phase.MAKING))),
             (Mode.SYNC, PROVISION, before, failed, Holding.NONE),
             (Mode.ASYNC, PROVISION, before, failed, Holding.NONE),
             (Mode.SYNC, DEPROVISION, done, Answer(200, Body.EMPTY), marked),
             (Mode.SYNC, DEPROVISION, after, failed, marked),
-            (Mode.ASYNC, DEPROVISION, done, Answer(202, Body.EMPTY), Holding(row(Phase.DELETING))),
+            (
+                Mode.ASYNC,
+                DEPROVISION,
+                done,
+                Answer(202, Body.EMPTY),
+                Holding(row(Phase.DELETING)),
+            ),
             (Mode.ASYNC, DEPROVISION, after, failed, Holding(row(Phase.DELETING))),
             (Mode.SYNC, DEPROVISION, before, failed, Holding(row(Phase.READY, SYNC))),
             (Mode.ASYNC, DEPROVISION, before, failed, Holding(row(Phase.READY))),
         )
         for mode, kind, outcome, answer, left in table:
             held = holding_with_work(kind, SYNC if mode == Mode.SYNC else ASYNC)
-            self.assertEqual(held.end(mode, outcome), (left, answer), (mode, kind, outcome))
-        self.assertEqual(status_of(lambda: Holding.NONE.end(Mode.SYNC, done)), Status.NOTHING_BEGUN)
+            self.assertEqual(
+                held.end(mode, outcome), (left, answer), (mode, kind, outcome)
+            )
+        self.assertEqual(
+            status_of(lambda: Holding.NONE.end(Mode.SYNC, done)), Status.NOTHING_BEGUN
+        )
 
     def test_finish(self) -> None:
         for phase, ok, after in (
@@ -285,8 +400,15 @@ class Holdings(unittest.TestCase):
             (Phase.DELETING, False, Holding(row(Phase.DELETE_FAILED))),
         ):
             self.assertEqual(Holding(row(phase)).finish(ok), after, (phase, ok))
-        for held in (Holding.NONE, Holding(is_marked=True), Holding(row(Phase.READY)), holding_with_work(PROVISION)):
-            self.assertEqual(status_of(lambda: held.finish(True)), Status.NOTHING_RUNNING, held)
+        for held in (
+            Holding.NONE,
+            Holding(is_marked=True),
+            Holding(row(Phase.READY)),
+            holding_with_work(PROVISION),
+        ):
+            self.assertEqual(
+                status_of(lambda: held.finish(True)), Status.NOTHING_RUNNING, held
+            )
 
     def test_handle(self) -> None:
         self.assertEqual(
@@ -305,8 +427,15 @@ class Holdings(unittest.TestCase):
             self.assertEqual(fits, [sync, asynchronous, none], held)
 
     def test_values_that_no_call_gives(self) -> None:
-        for held in (Holding(row(Phase.READY), is_marked=True), Holding(work=request(POLL))):
-            for call in (held.to_text, lambda: held.finish(True), lambda: held.begin(Mode.SYNC, request(POLL))):
+        for held in (
+            Holding(row(Phase.READY), is_marked=True),
+            Holding(work=request(POLL)),
+        ):
+            for call in (
+                held.to_text,
+                lambda: held.finish(True),
+                lambda: held.begin(Mode.SYNC, request(POLL)),
+            ):
                 self.assertEqual(status_of(call), Status.BAD_HOLDING, held)
             self.assertFalse(held.fits(Mode.ASYNC), held)
 

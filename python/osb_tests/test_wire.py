@@ -64,24 +64,50 @@ class Responses(unittest.TestCase):
             (PROVISION, 201, b'{"a":1e309}', Body.MALFORMED),
             (DEPROVISION, 410, b"", Body.MALFORMED),
         ):
-            self.assertEqual(read_answer(kind, status, body), Answer(status, read), (kind, status, body))
+            self.assertEqual(
+                read_answer(kind, status, body),
+                Answer(status, read),
+                (kind, status, body),
+            )
 
     def test_not_surely_the_brokers(self) -> None:
         for status in range(400, 500):
             self.assertIsNone(read_answer(PROVISION, status, b"<html>"), status)
             read = read_answer(PROVISION, status, b'{"error":"x"}')
-            self.assertEqual(read, None if status in OF_THE_WAY else Answer(status, Body.OTHER_ERROR), status)
+            self.assertEqual(
+                read,
+                None if status in OF_THE_WAY else Answer(status, Body.OTHER_ERROR),
+                status,
+            )
         self.assertRaises(ValueError, read_answer, PROVISION, 2**16 + 201, b"{}")
 
     def test_operation(self) -> None:
-        self.assertEqual(read_operation('{"operation":"making é"}'.encode()), "making é")
-        self.assertEqual(read_operation(json.dumps({"operation": "x" * 10000}).encode()), "x" * 10000)
-        for body in (b"", b"{}", b'{"operation":1}', json.dumps({"operation": "x" * 10001}).encode()):
+        self.assertEqual(
+            read_operation('{"operation":"making é"}'.encode()), "making é"
+        )
+        self.assertEqual(
+            read_operation(json.dumps({"operation": "x" * 10000}).encode()), "x" * 10000
+        )
+        for body in (
+            b"",
+            b"{}",
+            b'{"operation":1}',
+            json.dumps({"operation": "x" * 10001}).encode(),
+        ):
             self.assertIsNone(read_operation(body))
 
     def test_retry_after(self) -> None:
-        self.assertEqual([retry_after(it) for it in ("0", "120", "18446744073709551615")], [0, 120, 2**64 - 1])
-        for value in ("", "-1", "1.5", "18446744073709551616", "Wed, 21 Oct 2015 07:28:00 GMT"):
+        self.assertEqual(
+            [retry_after(it) for it in ("0", "120", "18446744073709551615")],
+            [0, 120, 2**64 - 1],
+        )
+        for value in (
+            "",
+            "-1",
+            "1.5",
+            "18446744073709551616",
+            "Wed, 21 Oct 2015 07:28:00 GMT",
+        ):
             self.assertIsNone(retry_after(value), value)
 
 
@@ -102,13 +128,18 @@ class Requests(unittest.TestCase):
             (DEPROVISION, False, None, "DELETE", f"{front}?{ids}"),
         ):
             asked = request(kind, accepts=accepts)
-            self.assertEqual((write_method(kind), write_target(asked, operation, "/postgres")), (method, wanted))
+            self.assertEqual(
+                (write_method(kind), write_target(asked, operation, "/postgres")),
+                (method, wanted),
+            )
             if kind != PROVISION:
                 self.assertEqual(write_body(asked, "an organization", "a space"), b"")
 
     def test_body(self) -> None:
         further = '{"parameters":{"size":3},"service_id":"mine"}'
-        written = json.loads(write_body(request(PROVISION), 'an "organization"', "a space", further))
+        written = json.loads(
+            write_body(request(PROVISION), 'an "organization"', "a space", further)
+        )
         self.assertEqual(
             written,
             {
@@ -119,7 +150,11 @@ class Requests(unittest.TestCase):
                 "parameters": {"size": 3},
             },
         )
-        for text, fault in (("{", Status.NOT_JSON), ("[]", Status.NOT_AN_OBJECT), ('{"a":NaN}', Status.NOT_JSON)):
+        for text, fault in (
+            ("{", Status.NOT_JSON),
+            ("[]", Status.NOT_AN_OBJECT),
+            ('{"a":NaN}', Status.NOT_JSON),
+        ):
             with self.assertRaises(OsbError) as raised:
                 write_body(request(PROVISION), "an organization", "a space", text)
             self.assertEqual(raised.exception.status, fault, text)
@@ -148,33 +183,86 @@ class Requests(unittest.TestCase):
             ("PUT", f"{front}{ONE}/last_operation", b"", Status.REFUSED_METHOD, 405),
             ("PUT", f"{front}1", body, Status.REFUSED_INSTANCE, 400),
             ("PUT", f"{front}{ONE}", b" " * 1001, Status.REFUSED_LENGTH, 413),
-            ("DELETE", f"{front}{ONE}?{ids}&service_id=", b"", Status.REFUSED_REPEATED, 400),
-            ("DELETE", f"{front}{ONE}?plan_id={SYNC}", b"", Status.REFUSED_SERVICE, 400),
-            ("DELETE", f"{front}{ONE}?service_id={SERVICE}", b"", Status.REFUSED_PLAN, 400),
-            ("PUT", f"{front}{ONE}?accepts_incomplete=1", body, Status.REFUSED_ACCEPTS_INCOMPLETE, 400),
+            (
+                "DELETE",
+                f"{front}{ONE}?{ids}&service_id=",
+                b"",
+                Status.REFUSED_REPEATED,
+                400,
+            ),
+            (
+                "DELETE",
+                f"{front}{ONE}?plan_id={SYNC}",
+                b"",
+                Status.REFUSED_SERVICE,
+                400,
+            ),
+            (
+                "DELETE",
+                f"{front}{ONE}?service_id={SERVICE}",
+                b"",
+                Status.REFUSED_PLAN,
+                400,
+            ),
+            (
+                "PUT",
+                f"{front}{ONE}?accepts_incomplete=1",
+                body,
+                Status.REFUSED_ACCEPTS_INCOMPLETE,
+                400,
+            ),
             ("PUT", f"{front}{ONE}", b"[]", Status.REFUSED_BODY, 400),
-            ("PUT", f"{front}{ONE}", body.replace(b"an organization", b""), Status.REFUSED_ORGANIZATION, 400),
-            ("PUT", f"{front}{ONE}", body.replace(b"space_guid", b"space"), Status.REFUSED_SPACE, 400),
+            (
+                "PUT",
+                f"{front}{ONE}",
+                body.replace(b"an organization", b""),
+                Status.REFUSED_ORGANIZATION,
+                400,
+            ),
+            (
+                "PUT",
+                f"{front}{ONE}",
+                body.replace(b"space_guid", b"space"),
+                Status.REFUSED_SPACE,
+                400,
+            ),
         ):
-            refusal = refusal_of(lambda: read_request(method, target.encode(), given, 1000))
+            refusal = refusal_of(
+                lambda: read_request(method, target.encode(), given, 1000)
+            )
             assert refusal is not None, target
-            self.assertEqual((refusal.status, refusal.http_status), (status, http), target)
-            self.assertEqual(set(json.loads(refusal.body)), {"description", "error"}, target)
+            self.assertEqual(
+                (refusal.status, refusal.http_status), (status, http), target
+            )
+            self.assertEqual(
+                set(json.loads(refusal.body)), {"description", "error"}, target
+            )
 
     def test_a_poll_without_ids(self) -> None:
-        read = read_request("GET", f"/v2/service_instances/{ONE}/last_operation".encode(), b"", 0)
+        read = read_request(
+            "GET", f"/v2/service_instances/{ONE}/last_operation".encode(), b"", 0
+        )
         self.assertEqual(read, Asked(POLL, False, ONE, None, None))
-        self.assertEqual(read.request((SERVICE, SYNC)), Request(POLL, False, ONE, SERVICE, SYNC))
-        self.assertEqual(read.request(None), Request(POLL, False, ONE, Id(0, 0), Id(0, 0)))
+        self.assertEqual(
+            read.request((SERVICE, SYNC)), Request(POLL, False, ONE, SERVICE, SYNC)
+        )
+        self.assertEqual(
+            read.request(None), Request(POLL, False, ONE, Id(0, 0), Id(0, 0))
+        )
         with self.assertRaises(OsbError) as raised:
             Asked(DEPROVISION, True, ONE, None, None).request(None)
         self.assertEqual(raised.exception.status, Status.BAD_ASKED)
 
     def test_asked_operation(self) -> None:
         front = f"/v2/service_instances/{ONE}/last_operation"
-        self.assertEqual(asked_operation(f"{front}?a=1&operation=making+1%C3%A9".encode()), "making 1é")
+        self.assertEqual(
+            asked_operation(f"{front}?a=1&operation=making+1%C3%A9".encode()),
+            "making 1é",
+        )
         self.assertIsNone(asked_operation(front.encode()))
-        refusal = refusal_of(lambda: asked_operation(f"{front}?operation=1&operation=1".encode()))
+        refusal = refusal_of(
+            lambda: asked_operation(f"{front}?operation=1&operation=1".encode())
+        )
         self.assertEqual(refusal and refusal.status, Status.REFUSED_REPEATED)
 
 
@@ -188,7 +276,9 @@ class Answers(unittest.TestCase):
             (Answer(200, Body.SUCCEEDED), None, {"state": "succeeded"}),
             (Answer(200, Body.FAILED), None, {"state": "failed"}),
         ):
-            self.assertEqual(json.loads(write_answer(answer, operation)), wanted, answer)
+            self.assertEqual(
+                json.loads(write_answer(answer, operation)), wanted, answer
+            )
         self.assertEqual(write_answer(Answer(200, Body.MALFORMED)), b"")
 
     def test_errors(self) -> None:
@@ -202,7 +292,11 @@ class Answers(unittest.TestCase):
             (418, Body.OTHER_ERROR, "Refused"),
         ):
             written = json.loads(write_answer(Answer(status, body)))
-            self.assertEqual((written["error"], set(written)), (error, {"description", "error"}), status)
+            self.assertEqual(
+                (written["error"], set(written)),
+                (error, {"description", "error"}),
+                status,
+            )
 
 
 class Headers(unittest.TestCase):
@@ -229,10 +323,21 @@ class Headers(unittest.TestCase):
             self.assertFalse(basic_auth(value, USER, PASSWORD), value)
 
     def test_catalogue(self) -> None:
-        self.assertEqual(catalogue_plans(CATALOGUE), [Plan(SERVICE, SYNC, False), Plan(SERVICE, ASYNC, True)])
-        many = {"services": [{"id": str(SERVICE), "plans": [{"id": str(Id(0, n))} for n in range(100)]}]}
         self.assertEqual(
-            catalogue_plans(json.dumps(many).encode()), [Plan(SERVICE, Id(0, n), False) for n in range(100)]
+            catalogue_plans(CATALOGUE),
+            [Plan(SERVICE, SYNC, False), Plan(SERVICE, ASYNC, True)],
+        )
+        many = {
+            "services": [
+                {
+                    "id": str(SERVICE),
+                    "plans": [{"id": str(Id(0, n))} for n in range(100)],
+                }
+            ]
+        }
+        self.assertEqual(
+            catalogue_plans(json.dumps(many).encode()),
+            [Plan(SERVICE, Id(0, n), False) for n in range(100)],
         )
         for document, fault in (
             ("", Status.NOT_JSON),

@@ -46,8 +46,12 @@ def put(store: MemoryStore, holding: Holding, id: Id = ONE) -> None:
     store.update(id, lambda _: (holding, None))
 
 
-def application(store: MemoryStore | None = None, worker: Things | None = None, **given: Any) -> BrokerApplication:
-    return BrokerApplication(CATALOGUE, store or MemoryStore(), worker or Things(), USER, PASSWORD, **given)
+def application(
+    store: MemoryStore | None = None, worker: Things | None = None, **given: Any
+) -> BrokerApplication:
+    return BrokerApplication(
+        CATALOGUE, store or MemoryStore(), worker or Things(), USER, PASSWORD, **given
+    )
 
 
 class Quiet(unittest.TestCase):
@@ -60,7 +64,9 @@ class Requests(Quiet):
     def test_life_of_a_synchronous_plan(self) -> None:
         store, worker = MemoryStore(), Things()
         made = application(store, worker)
-        table: list[tuple[Callable[[BrokerApplication], Reply], int, dict[str, str]]] = [
+        table: list[
+            tuple[Callable[[BrokerApplication], Reply], int, dict[str, str]]
+        ] = [
             (provision, 201, {}),
             (provision, 200, {}),
             (poll, 200, {"state": "succeeded"}),
@@ -76,22 +82,32 @@ class Requests(Quiet):
             self.assertEqual(reply.headers["Content-Type"], "application/json")
             self.assertEqual(reply.headers["Content-Length"], str(len(reply.body)))
         self.assertEqual(provision(made).status, 409)
-        self.assertEqual((worker.done, worker.things), ([Work.MAKE, Work.DELETE], set()))
+        self.assertEqual(
+            (worker.done, worker.things), ([Work.MAKE, Work.DELETE], set())
+        )
         self.assertEqual(held(store), Holding(is_marked=True))
 
     def test_life_of_an_asynchronous_plan(self) -> None:
         store, worker = MemoryStore(), Things()
         made = application(store, worker)
-        self.assertEqual(provision(made, plan=ASYNC, accepts=False).error, "AsyncRequired")
+        self.assertEqual(
+            provision(made, plan=ASYNC, accepts=False).error, "AsyncRequired"
+        )
         self.assertEqual(provision(made, plan=ASYNC).status, 202)
         self.assertEqual(made.running(), {ONE: BrokerRow(SERVICE, ASYNC, Phase.MAKING)})
-        self.assertEqual(json.loads(poll(made, plan=ASYNC).body), {"state": "in progress"})
+        self.assertEqual(
+            json.loads(poll(made, plan=ASYNC).body), {"state": "in progress"}
+        )
         made.finish(ONE, True)
         self.assertEqual(json.loads(poll(made, plan=None).body), {"state": "succeeded"})
-        self.assertEqual((made.running(), deprovision(made, plan=ASYNC).status), ({}, 202))
+        self.assertEqual(
+            (made.running(), deprovision(made, plan=ASYNC).status), ({}, 202)
+        )
         self.assertEqual(deprovision(made, plan=ASYNC).status, 202)
         made.finish(ONE, True)
-        self.assertEqual((poll(made, plan=ASYNC).status, held(store)), (410, Holding(is_marked=True)))
+        self.assertEqual(
+            (poll(made, plan=ASYNC).status, held(store)), (410, Holding(is_marked=True))
+        )
         with self.assertRaises(OsbError) as raised:
             made.finish(ONE, True)
         self.assertEqual(raised.exception.status, Status.NOTHING_RUNNING)
@@ -101,7 +117,10 @@ class Requests(Quiet):
         for outcome, left in ((Outcome.BEFORE, Holding.NONE), (Outcome.AFTER, READY)):
             store = MemoryStore()
             reply = provision(application(store, Things(outcome=outcome)))
-            self.assertEqual((reply.status, reply.error, held(store)), (500, "InternalServerError", left))
+            self.assertEqual(
+                (reply.status, reply.error, held(store)),
+                (500, "InternalServerError", left),
+            )
 
     def test_catalogue(self) -> None:
         made = application(prefix="/a")
@@ -114,13 +133,23 @@ class Requests(Quiet):
         seen: list[tuple[Holding, tuple[int, str], tuple[int, str], int]] = []
 
         def look(task: Task) -> None:
-            both = [(it.status, it.error) for it in (provision(made), deprovision(made))]
+            both = [
+                (it.status, it.error) for it in (provision(made), deprovision(made))
+            ]
             seen.append((held(store), both[0], both[1], poll(made).status))
 
         made = application(store, Things(before=look))
         self.assertEqual(provision(made).status, 201)
         self.assertEqual(
-            seen, [(Holding(work=request(Kind.PROVISION)), (503, "ServiceUnavailable"), (422, "ConcurrencyError"), 200)]
+            seen,
+            [
+                (
+                    Holding(work=request(Kind.PROVISION)),
+                    (503, "ServiceUnavailable"),
+                    (422, "ConcurrencyError"),
+                    200,
+                )
+            ],
         )
 
     def test_tasks(self) -> None:
@@ -133,12 +162,16 @@ class Requests(Quiet):
                 raise ConnectionError
 
         made = application(worker=Things(before=broken))
-        body = provision_body()[:-1] + b', "parameters" : {"size":3, "name":"\xc3\xa9"}}\n'
+        body = (
+            provision_body()[:-1] + b', "parameters" : {"size":3, "name":"\xc3\xa9"}}\n'
+        )
         self.assertEqual(call(made, "PUT", target(plan=None), body).status, 500)
         self.assertEqual(made.resume(), [])
         self.assertEqual(call(made, "DELETE", target(), b"{}").status, 500)
         self.assertEqual(made.resume(), [])
-        making, deleting = request(Kind.PROVISION, accepts=False), request(Kind.DEPROVISION)
+        making, deleting = request(Kind.PROVISION, accepts=False), request(
+            Kind.DEPROVISION
+        )
         self.assertEqual(
             given,
             [
@@ -157,8 +190,16 @@ class Requests(Quiet):
             "wsgi.input_terminated": True,
         }
         made = application(worker=Things(before=given.append))
-        self.assertEqual(call(made, "PUT", target(plan=None), provision_body(ASYNC), **chunked).error, "AsyncRequired")
-        self.assertEqual(call(made, "PUT", target(plan=None), provision_body(), **chunked).status, 201)
+        self.assertEqual(
+            call(
+                made, "PUT", target(plan=None), provision_body(ASYNC), **chunked
+            ).error,
+            "AsyncRequired",
+        )
+        self.assertEqual(
+            call(made, "PUT", target(plan=None), provision_body(), **chunked).status,
+            201,
+        )
         self.assertEqual([it.body for it in given], [provision_body()])
 
     def test_operation_that_ends_before_its_start_is_written(self) -> None:
@@ -173,7 +214,9 @@ class Requests(Quiet):
 
         store = MemoryStore()
         made = application(store, Things(before=quick))
-        self.assertEqual((provision(made, plan=ASYNC).status, raised), (202, [StillRecorded]))
+        self.assertEqual(
+            (provision(made, plan=ASYNC).status, raised), (202, [StillRecorded])
+        )
         made.finish(ONE, True)
         self.assertEqual(held(store), Holding(BrokerRow(SERVICE, ASYNC, Phase.READY)))
         for id in (ONE, TWO):
@@ -194,16 +237,28 @@ class Requests(Quiet):
         def turn() -> None:
             for id, row in made.running().items():
                 work, kind = (
-                    (Work.MAKE, Kind.PROVISION) if row.phase == Phase.MAKING else (Work.DELETE, Kind.DEPROVISION)
+                    (Work.MAKE, Kind.PROVISION)
+                    if row.phase == Phase.MAKING
+                    else (Work.DELETE, Kind.DEPROVISION)
                 )
-                made.finish(id, hand.work(Task(work, request(kind, ASYNC, id=id), None, False)) == Outcome.DONE)
+                made.finish(
+                    id,
+                    hand.work(Task(work, request(kind, ASYNC, id=id), None, False))
+                    == Outcome.DONE,
+                )
 
         self.assertEqual(provision(made, plan=ASYNC).status, 202)
         turn()
-        self.assertEqual((json.loads(poll(made, plan=ASYNC).body), hand.things), ({"state": "succeeded"}, {ONE}))
+        self.assertEqual(
+            (json.loads(poll(made, plan=ASYNC).body), hand.things),
+            ({"state": "succeeded"}, {ONE}),
+        )
         self.assertEqual(deprovision(made, plan=ASYNC).status, 202)
         turn()
-        self.assertEqual((poll(made, plan=ASYNC).status, made.running(), hand.things), (410, {}, set()))
+        self.assertEqual(
+            (poll(made, plan=ASYNC).status, made.running(), hand.things),
+            (410, {}, set()),
+        )
 
     def test_plan_that_is_not_on_sale(self) -> None:
         store = MemoryStore()
@@ -215,8 +270,18 @@ class Refused(Quiet):
     def test_credentials_first(self) -> None:
         made = application()
         for given in (None, authorization(password="x"), "Basic"):
-            reply = call(made, "GET", "/nowhere", HTTP_AUTHORIZATION=given, HTTP_X_BROKER_API_VERSION=None)
-            self.assertEqual((reply.status, reply.headers["WWW-Authenticate"]), (401, 'Basic realm="broker"'), given)
+            reply = call(
+                made,
+                "GET",
+                "/nowhere",
+                HTTP_AUTHORIZATION=given,
+                HTTP_X_BROKER_API_VERSION=None,
+            )
+            self.assertEqual(
+                (reply.status, reply.headers["WWW-Authenticate"]),
+                (401, 'Basic realm="broker"'),
+                given,
+            )
             self.assertEqual(reply.headers["Content-Type"], "application/json")
 
     def test_version_and_target(self) -> None:
@@ -229,7 +294,10 @@ class Refused(Quiet):
             reply = call(made, method, way, provision_body())
             self.assertEqual((reply.status, reply.error), (status, error), way)
         for version in (None, "3.0"):
-            self.assertEqual(call(made, "GET", "/nowhere", HTTP_X_BROKER_API_VERSION=version).status, 412)
+            self.assertEqual(
+                call(made, "GET", "/nowhere", HTTP_X_BROKER_API_VERSION=version).status,
+                412,
+            )
 
     def test_methods(self) -> None:
         made, front = application(), "/v2/service_instances"
@@ -240,7 +308,9 @@ class Refused(Quiet):
             (f"{front}//last_operation", "GET"),
         ):
             reply = call(made, "PATCH", way)
-            self.assertEqual((reply.status, reply.headers["Allow"]), (405, allowed), way)
+            self.assertEqual(
+                (reply.status, reply.headers["Allow"]), (405, allowed), way
+            )
 
     def test_length(self) -> None:
         class Endless(io.RawIOBase):
@@ -253,9 +323,18 @@ class Refused(Quiet):
         made = application(longest_body=1000)
         for length in ("1001", "100000000000"):
             Endless.taken = 0
-            reply = call(made, "PUT", target(), b"", **{"wsgi.input": Endless(), "CONTENT_LENGTH": length})
+            reply = call(
+                made,
+                "PUT",
+                target(),
+                b"",
+                **{"wsgi.input": Endless(), "CONTENT_LENGTH": length},
+            )
             self.assertEqual((reply.status, Endless.taken), (413, 1001), length)
-        self.assertEqual(call(made, "PUT", target(plan=None), provision_body().ljust(1000)).status, 201)
+        self.assertEqual(
+            call(made, "PUT", target(plan=None), provision_body().ljust(1000)).status,
+            201,
+        )
 
     def test_body_that_was_cut(self) -> None:
         class Lost(io.RawIOBase):
@@ -280,7 +359,9 @@ class Refused(Quiet):
             "HTTP_TRANSFER_ENCODING": "chunked",
             "wsgi.input_terminated": True,
         }
-        self.assertEqual(call(made, "PUT", target(plan=None), whole, **chunked).status, 201)
+        self.assertEqual(
+            call(made, "PUT", target(plan=None), whole, **chunked).status, 201
+        )
 
     def test_pieces(self) -> None:
         class Slow(io.BytesIO):
@@ -288,17 +369,31 @@ class Refused(Quiet):
                 return super().read(1)
 
         stream = Slow(provision_body())
-        reply = call(application(), "PUT", target(plan=None), provision_body(), **{"wsgi.input": stream})
+        reply = call(
+            application(),
+            "PUT",
+            target(plan=None),
+            provision_body(),
+            **{"wsgi.input": stream},
+        )
         self.assertEqual(reply.status, 201)
 
     def test_undecoded_target(self) -> None:
         """Where the server has the target as it came, that one counts."""
         given = f"/v2/service_instances/%30{str(ONE)[1:]}"
         for name in ("REQUEST_URI", "RAW_URI"):
-            reply = call(application(), "PUT", target(plan=None), provision_body(), **{name: given})
+            reply = call(
+                application(),
+                "PUT",
+                target(plan=None),
+                provision_body(),
+                **{name: given},
+            )
             self.assertEqual(reply.status, 400, name)
         front, rest = "/a/v2", f"/service_instances/{ONE}"
-        reply = call(application(prefix="/a"), "PUT", rest, provision_body(), SCRIPT_NAME=front)
+        reply = call(
+            application(prefix="/a"), "PUT", rest, provision_body(), SCRIPT_NAME=front
+        )
         self.assertEqual(reply.status, 201)
 
     def test_what_can_not_do_at_the_start(self) -> None:
@@ -310,16 +405,37 @@ class Refused(Quiet):
             (USER, "\ud800", {}),
             *[
                 (USER, PASSWORD, {"prefix": it})
-                for it in ("a", "/", "/a/", "/a?b", "/a#b", "/a b", "/a\n", "/a\r", "/a\tb", "/\ud800")
+                for it in (
+                    "a",
+                    "/",
+                    "/a/",
+                    "/a?b",
+                    "/a#b",
+                    "/a b",
+                    "/a\n",
+                    "/a\r",
+                    "/a\tb",
+                    "/\ud800",
+                )
             ],
             (USER, PASSWORD, {"longest_body": 0}),
             (USER, PASSWORD, {"longest_body": -1}),
         ]
         for user, password, named in given:
             with self.assertRaises(ValueError, msg=(user, password, named)) as raised:
-                BrokerApplication(CATALOGUE, MemoryStore(), Things(), user, password, **named)
+                BrokerApplication(
+                    CATALOGUE, MemoryStore(), Things(), user, password, **named
+                )
             self.assertNotIn(PASSWORD, str(raised.exception))
-        BrokerApplication(CATALOGUE, MemoryStore(), Things(), USER, PASSWORD, prefix="/a/b", longest_body=1)
+        BrokerApplication(
+            CATALOGUE,
+            MemoryStore(),
+            Things(),
+            USER,
+            PASSWORD,
+            prefix="/a/b",
+            longest_body=1,
+        )
 
 
 class Faults(Quiet):
@@ -330,13 +446,20 @@ class Faults(Quiet):
         store, worker = MemoryStore(), Things(before=broken)
         made = application(store, worker)
         reply = provision(made)
-        self.assertEqual((reply.status, reply.body), (500, write_answer(Answer(500, Body.OTHER_ERROR))))
+        self.assertEqual(
+            (reply.status, reply.body),
+            (500, write_answer(Answer(500, Body.OTHER_ERROR))),
+        )
         self.assertEqual((provision(made).status, deprovision(made).status), (503, 422))
         self.assertEqual(json.loads(poll(made).body), {"state": "in progress"})
         self.assertEqual(held(store), Holding(work=request(Kind.PROVISION)))
-        self.assertEqual((deprovision(made).error, made.resume()), ("ConcurrencyError", [ONE]))
+        self.assertEqual(
+            (deprovision(made).error, made.resume()), ("ConcurrencyError", [ONE])
+        )
         worker.before = None
-        self.assertEqual((made.resume(), held(store), worker.things), ([], READY, {ONE}))
+        self.assertEqual(
+            (made.resume(), held(store), worker.things), ([], READY, {ONE})
+        )
         self.assertEqual((made.resume(), worker.done), ([], [Work.MAKE]))
 
     def test_refusals_of_others(self) -> None:
@@ -344,7 +467,11 @@ class Faults(Quiet):
         it is answered with 500, or with 503 where memory was wanting, and what was recorded stays.
         """
         recorded = Holding(work=request(Kind.PROVISION))
-        for status, answered in ((Status.REFUSED_BODY, 500), (Status.REFUSED_METHOD, 500), (Status.MEMORY, 503)):
+        for status, answered in (
+            (Status.REFUSED_BODY, 500),
+            (Status.REFUSED_METHOD, 500),
+            (Status.MEMORY, 503),
+        ):
 
             def refuse(*_: object) -> Any:
                 raise Refusal(status)
@@ -352,24 +479,39 @@ class Faults(Quiet):
             class Refusing(MemoryStore):
                 left = 0
 
-                def update(self, id: Id, change: Callable[[Holding], tuple[Holding, Any]]) -> Any:
+                def update(
+                    self, id: Id, change: Callable[[Holding], tuple[Holding, Any]]
+                ) -> Any:
                     self.left -= 1
                     return refuse() if self.left == -1 else super().update(id, change)
 
             store = MemoryStore()
             self.assertEqual(
-                (provision(application(store, Things(before=refuse))).status, held(store)), (answered, recorded), status
+                (
+                    provision(application(store, Things(before=refuse))).status,
+                    held(store),
+                ),
+                (answered, recorded),
+                status,
             )
             store, worker = MemoryStore(), Things()
             self.assertEqual(
-                (provision(application(store, worker, lock=refuse)).status, held(store), worker.done),
+                (
+                    provision(application(store, worker, lock=refuse)).status,
+                    held(store),
+                    worker.done,
+                ),
                 (answered, recorded, []),
                 status,
             )
             for left, kept in ((0, Holding.NONE), (1, recorded)):
                 refusing = Refusing()
                 refusing.left = left
-                self.assertEqual((provision(application(refusing)).status, held(refusing)), (answered, kept), status)
+                self.assertEqual(
+                    (provision(application(refusing)).status, held(refusing)),
+                    (answered, kept),
+                    status,
+                )
 
     def test_outcome_that_is_none(self) -> None:
         class Silent:
@@ -378,7 +520,9 @@ class Faults(Quiet):
 
         store = MemoryStore()
         made = BrokerApplication(CATALOGUE, store, Silent(), USER, PASSWORD)
-        self.assertEqual((provision(made).status, held(store).work), (500, request(Kind.PROVISION)))
+        self.assertEqual(
+            (provision(made).status, held(store).work), (500, request(Kind.PROVISION))
+        )
 
     def test_resume(self) -> None:
         """Recorded work of both kinds is done; what is at rest or runs isn't touched."""
@@ -389,7 +533,8 @@ class Faults(Quiet):
         put(store, making, Id(0, 3))
         self.assertEqual(application(store, worker).resume(), [])
         self.assertEqual(
-            (held(store), held(store, TWO), held(store, Id(0, 3))), (READY, Holding(is_marked=True), making)
+            (held(store), held(store, TWO), held(store, Id(0, 3))),
+            (READY, Holding(is_marked=True), making),
         )
         self.assertEqual(worker.done, [Work.MAKE, Work.DELETE])
 
@@ -407,14 +552,18 @@ class Faults(Quiet):
             asked = [provision(made), deprovision(made), poll(made)]
             self.assertEqual([it.status for it in asked], [500] * 3, misfit)
             self.assertRaises(Exception, made.finish, ONE, True)
-            self.assertEqual(made.resume(), [ONE] if misfit.is_unfinished else [], misfit)
+            self.assertEqual(
+                made.resume(), [ONE] if misfit.is_unfinished else [], misfit
+            )
             self.assertEqual((held(store), worker.done), (misfit, []))
 
     def test_store_that_fails(self) -> None:
         class Broken(MemoryStore):
             left = 0
 
-            def update(self, id: Id, change: Callable[[Holding], tuple[Holding, Any]]) -> Any:
+            def update(
+                self, id: Id, change: Callable[[Holding], tuple[Holding, Any]]
+            ) -> Any:
                 if self.left == 0:
                     raise OSError("the disk is full")
                 self.left -= 1
@@ -424,7 +573,10 @@ class Faults(Quiet):
             store, worker = Broken(), Things()
             store.left = left
             reply = provision(application(store, worker))
-            self.assertEqual((reply.status, reply.error, worker.done), (500, "InternalServerError", work))
+            self.assertEqual(
+                (reply.status, reply.error, worker.done),
+                (500, "InternalServerError", work),
+            )
             store.left = 100
             self.assertEqual(application(store, worker).resume(), [])
             self.assertEqual(held(store), READY if work else Holding.NONE)
@@ -475,7 +627,10 @@ class Faults(Quiet):
         made = application(store, worker, lock=lock)
         for _ in range(2):
             made.take_up(ONE)
-            self.assertEqual((held(store), held(store, TWO).work is None, worker.done), (READY, False, [Work.MAKE]))
+            self.assertEqual(
+                (held(store), held(store, TWO).work is None, worker.done),
+                (READY, False, [Work.MAKE]),
+            )
 
     def test_log(self) -> None:
         """Errors are told with the instance, and no password."""
@@ -493,7 +648,9 @@ class Faults(Quiet):
 class Memory(Quiet):
     def test_want_of_memory(self) -> None:
         class Wanting(MemoryStore):
-            def update(self, id: Id, change: Callable[[Holding], tuple[Holding, Any]]) -> Any:
+            def update(
+                self, id: Id, change: Callable[[Holding], tuple[Holding, Any]]
+            ) -> Any:
                 raise OsbError(Status.MEMORY)
 
         reply = provision(application(Wanting()))

@@ -1,7 +1,7 @@
 //! The cases of `osb_network`. A line `order MODE accepts|refuses` begins a new instance, with the mode `sync`, `async`,
 //! or `-` for a plan that isn't on sale, and each further line is an event that happens to it, or `settle`. A line `many
 //! MODE accepts|refuses: ID EVENT, ..` has three instances, with the ids 1 to 3, and lets a list of events happen to
-//! them. Below each line stands what has become of the event, and all that there is then.
+//! them; a line `instances COUNT` has as many, and asks how many are there. Below each line stands what has become of the event, and all that there is then.
 //!
 //! What there is: the platform's record, as its state, the kind of the request that is out, and the number of the
 //! latest request; the broker's holding, as its row's phase, the kind of the recorded work, and its mark; the thing;
@@ -59,11 +59,13 @@ pub(crate) fn tell(
     before: Option<Instance>,
     line: &str,
 ) -> Result<Option<Instance>> {
-    match line.strip_prefix("many ") {
-        Some(words) => {
-            many::tell(rt, alloc, words)?;
-            Ok(before)
-        }
-        None => Ok(Some(step(rt, alloc, before, line)?)),
+    if let Some(words) = line.strip_prefix("many ") {
+        many::tell(rt, alloc, words)?;
+        return Ok(before);
     }
+    if let Some(count) = line.strip_prefix("instances ") {
+        many::large(rt, alloc, count)?;
+        return Ok(before);
+    }
+    Ok(Some(step(rt, alloc, before, line)?))
 }

@@ -5,7 +5,7 @@ ghost use Rattle.std.specs.Prelude.{◌≡◌};
 /// the patch. A program that is linked to a shared library compares it with the header's.
 #[unsafe(no_mangle)]
 pub extern "C" fn osb_version() -> u32
-    ensures version { result ≡ 200 }
+    ensures version { result ≡ 300 }
 {
-    200
+    300
 }

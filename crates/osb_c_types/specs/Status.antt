@@ -1,11 +1,10 @@
--- The numbers that exports return. Each has one meaning, which is this project's choice.
+-- The numbers that exports return. Each has one meaning, which is this project's choice, and none is used again.
 use Rattle.std.specs.Prelude.{ℕ, Bool, false, ◌||◌, ◌==◌, List, [], ◌∷◌}
 use Rattle.osb_c_types.specs.declared.status.Status.{Status}
-use Rattle.osb_c_types.specs.declared.status.Status.TheVariants.{Done, Memory, EmptyHandle, FullHandle, IdUsed, Unknown}
-use Rattle.osb_c_types.specs.declared.status.Status.TheVariants.{Busy, NothingDue, NoRequest, NotPolling, NotRemovable}
-use Rattle.osb_c_types.specs.declared.status.Status.TheVariants.{NothingRunning, NotHeld, PlanTwice, BadKind}
+use Rattle.osb_c_types.specs.declared.status.Status.TheVariants.{Done, Memory, Busy, NothingDue, NotPolling}
+use Rattle.osb_c_types.specs.declared.status.Status.TheVariants.{NotRemovable, NothingRunning, PlanTwice, BadKind}
 use Rattle.osb_c_types.specs.declared.status.Status.TheVariants.{BadOutcome, NotAnId, TooSmall, NotUtf8, NotJson}
-use Rattle.osb_c_types.specs.declared.status.Status.TheVariants.{NotAnObject, BadVersion, BadOuter, BadKey, BadMember}
+use Rattle.osb_c_types.specs.declared.status.Status.TheVariants.{NotAnObject, BadVersion, BadOuter, BadMember}
 use Rattle.osb_c_types.specs.declared.status.Status.TheVariants.{BadRecord, BadHolding, BadRow, BadAsked, BadMode}
 use Rattle.osb_c_types.specs.declared.status.Status.TheVariants.{AttemptsUsedUp, NotInFlight, NothingBegun, Impossible}
 use Rattle.osb_c_types.specs.declared.status.Status.TheVariants.{NoAnswer, NoOperation, NoSeconds, Unauthorized}
@@ -19,17 +18,11 @@ use Rattle.osb_c_types.specs.declared.status.Status.TheVariants.{BadService, NoP
 abbrev pub code : Status → ℕ
 code Done = 0
 code Memory = 1
-code EmptyHandle = 2
-code FullHandle = 3
-code IdUsed = 4
-code Unknown = 5
 code Busy = 6
 code NothingDue = 7
-code NoRequest = 8
 code NotPolling = 9
 code NotRemovable = 10
 code NothingRunning = 11
-code NotHeld = 12
 code PlanTwice = 13
 code BadKind = 14
 code BadOutcome = 15
@@ -40,7 +33,6 @@ code NotJson = 19
 code NotAnObject = 20
 code BadVersion = 21
 code BadOuter = 22
-code BadKey = 23
 code BadMember = 24
 code BadRecord = 25
 code BadHolding = 26

@@ -1,8 +1,8 @@
 //! What crosses to C: enums as numbers, ids as two halves, structs, and the statuses that calls return.
 //!
-//! The three static libraries that make up `libosb` stand on it: `osb_c` (the platform and the broker behind
-//! handles), `osb_c_instance` (one instance as a value) and `osb_c_wire` (HTTP and JSON). Each type here has its
-//! declaration in `include/osb.h`. All of it is this project's choice.
+//! The three static libraries that make up `libosb` stand on it: `osb_c` (ids, the platform's tables and the version),
+//! `osb_c_instance` (one instance as a value) and `osb_c_wire` (HTTP and JSON). Each type here has its declaration in
+//! `include/osb.h`. All of it is this project's choice.
 #![tactic(auto)]
 
 mod answers;
@@ -21,7 +21,7 @@ pub use answers::{OsbAnswer, answer_from, answer_out};
 pub use buffers::write_text;
 pub use ids::{OsbId, id_from, id_out};
 pub use kinds::{kind_from, kind_out, out_from, out_out};
-pub use modes::{mode_from, mode_if};
+pub use modes::mode_from;
 pub use outcomes::outcome_from;
 pub use plans::{OsbPlan, plan_out};
 pub use requests::{OsbRequest, request_from, request_out};

@@ -1,6 +1,6 @@
 //! The numbers that stand for how a plan works.
 ghost use Rattle.std.specs.Prelude.{◌≡◌};
-ghost use Rattle.osb_c_types.specs.Modes.{mode_as, mode_of};
+ghost use Rattle.osb_c_types.specs.Modes.{mode_of};
 
 use osb_message::Mode;
 
@@ -13,16 +13,5 @@ pub fn mode_from(code: u8) -> Option<Option<Mode>>
         1 => Some(Some(Mode::Async)),
         255 => Some(None),
         _ => None,
-    }
-}
-
-/// How a plan works.
-pub fn mode_if(is_asynchronous: bool) -> Mode
-    ensures mode { result ≡ mode_as is_asynchronous }
-{
-    if is_asynchronous {
-        Mode::Async
-    } else {
-        Mode::Sync
     }
 }

@@ -3,35 +3,23 @@ ghost use Rattle.std.specs.Prelude.{◌≡◌};
 ghost use Rattle.osb_c_types.specs.Status.{code};
 
 /// What became of a call. Each has one meaning, whichever export returns it (this project's choice). No number ever
-/// changes.
+/// changes, and none is used again: 2, 3, 4, 5, 8, 12 and 23 were statuses of calls that version 0.3.0 removed.
 #[derive(Clone, Copy)]
 pub enum Status {
     /// It was done.
     Done,
     /// Out of memory: an allocation failed.
     Memory,
-    /// The handle is empty.
-    EmptyHandle,
-    /// The handle isn't empty.
-    FullHandle,
-    /// The id is recorded already, in any state.
-    IdUsed,
-    /// The id isn't recorded.
-    Unknown,
     /// A request is in flight.
     Busy,
     /// No request is in flight, and none is due: the state is `ready`, `gone` or `unsettled`.
     NothingDue,
-    /// No request of the instance is in flight.
-    NoRequest,
     /// No request is in flight, and the state isn't `polling`.
     NotPolling,
     /// No request is in flight, and the state is none of `polling`, `ready` and `unsettled`.
     NotRemovable,
     /// The instance is neither being made nor being deleted.
     NothingRunning,
-    /// The broker has no row of the instance.
-    NotHeld,
     /// Two of the plans have the same service and plan.
     PlanTwice,
     /// The number stands for no kind of request.
@@ -52,8 +40,6 @@ pub enum Status {
     BadVersion,
     /// The members of the object aren't those of its format.
     BadOuter,
-    /// Some instance's name isn't the text of an id in lower case.
-    BadKey,
     /// Some member isn't what its format has there.
     BadMember,
     /// The struct is no record that a call gives.
@@ -128,17 +114,11 @@ impl Status {
         match self {
             Status::Done => 0,
             Status::Memory => 1,
-            Status::EmptyHandle => 2,
-            Status::FullHandle => 3,
-            Status::IdUsed => 4,
-            Status::Unknown => 5,
             Status::Busy => 6,
             Status::NothingDue => 7,
-            Status::NoRequest => 8,
             Status::NotPolling => 9,
             Status::NotRemovable => 10,
             Status::NothingRunning => 11,
-            Status::NotHeld => 12,
             Status::PlanTwice => 13,
             Status::BadKind => 14,
             Status::BadOutcome => 15,
@@ -149,7 +129,6 @@ impl Status {
             Status::NotAnObject => 20,
             Status::BadVersion => 21,
             Status::BadOuter => 22,
-            Status::BadKey => 23,
             Status::BadMember => 24,
             Status::BadRecord => 25,
             Status::BadHolding => 26,

@@ -1,9 +1,8 @@
-//! What happens between a platform and a broker, and what a replay of it does besides.
+//! What happens between a platform and a broker.
 //!
 //! An [`Event`] is an operator's command, or the work of the network, a clock or the broker's backend. What
 //! each does to a platform and a broker is `osb_world`'s to say, and how a schedule spells it
-//! `osb_language`'s. [`Options`] is what a replay does besides running its events and reporting, and [`TraceOptions`]
-//! which events a trace tells of.
+//! `osb_language`'s.
 //!
 //! ```
 //! let event = Event::Send { id: InstanceId::from_value(1) };
@@ -15,7 +14,5 @@
 #![tactic(auto)]
 
 mod event;
-mod options;
 
 pub use event::Event;
-pub use options::{Options, TraceOptions};

@@ -1,2 +1,2 @@
-pub mod Ascents
-pub mod Orders
+pub mod Keys
+pub mod Indexes

@@ -1,8 +1,8 @@
--- The entries of a world's messages, and an order of them.
-use Rattle.std.specs.Prelude.{◌≡◌, ℕ, ◌<◌, List, None, length, map, slice_index_or}
-use Rattle.std.specs.FinMap.{FinMap, from_entries}
+-- The entries of a world's messages, and what finds them.
+use Rattle.std.specs.Prelude.{◌≡◌, ℕ, ◌<◌, ◌≤◌, List, None, Some, length, slice_index_or}
+use Rattle.std.specs.FinMap.{FinMap, from_entries, get}
 use Rattle.std.specs.Ordering.{nat_cmp}
-use Rattle.osb_in_flight.specs.Ascending.{IsAscending, pairs}
+use Rattle.osb_in_flight.specs.Keys.{IsAt, pairs}
 use Rattle.osb_in_flight.specs.declared.message_list.Entry.{Entry}
 use Rattle.osb_in_flight.specs.declared.messages.Messages.{Messages}
 
@@ -22,20 +22,16 @@ silence = record { out = None; travelling = None }
 abbrev pub silenced : Entry → Entry
 silenced entry = record { id = entry.id; messages = silence }
 
--- the entry at a place; beyond the list one that says nothing
-abbrev pub entry_at : List Entry → ℕ → Entry
-entry_at entries place = slice_index_or entries place (record { id = 0; messages = silence })
+-- the messages of the entries, by their ids
+abbrev pub messages_in : List Entry → FinMap nat_cmp Messages
+messages_in entries = from_entries (pairs id_of messages_of entries)
 
--- the entries at these places
-abbrev pub at_places : List Entry → List ℕ → List Entry
-at_places entries places = map (entry_at entries) places
-
--- the messages of the entries at these places, by their ids
-abbrev pub messages_at : List Entry → List ℕ → FinMap nat_cmp Messages
-messages_at entries places = from_entries (pairs id_of messages_of (at_places entries places))
-
--- places in the list, one for each entry, at which the ids ascend
-pub record IsOrder (entries : List Entry) (places : List ℕ) : Type 0 where
-  pub in_range : (i : ℕ) → i < length places → slice_index_or places i 0 < length entries
-  pub complete : length places ≡ length entries
-  pub ascending : IsAscending id_of (at_places entries places)
+-- so many of the first entries ascend by their ids, and the places of the others are known by their ids
+pub record IsIndexed (entries : List Entry) (ascending : ℕ) (places : FinMap nat_cmp ℕ) : Type 0 where
+  pub in_range : ascending ≤ length entries
+  pub rising : (i j : ℕ) (d : Entry) → i < j → j < ascending
+      → id_of (slice_index_or entries i d) < id_of (slice_index_or entries j d)
+  pub placed : (id place : ℕ) → get places id ≡ Some place → IsAt id_of entries id place
+  pub complete : (i : ℕ) (d : Entry) → ascending ≤ i → i < length entries
+      → get places (id_of (slice_index_or entries i d)) ≡ Some i
+  pub apart : (i : ℕ) (d : Entry) → i < ascending → get places (id_of (slice_index_or entries i d)) ≡ None

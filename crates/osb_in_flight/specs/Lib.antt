@@ -1,2 +1,2 @@
-pub mod Ascending
+pub mod Keys
 pub mod Entries

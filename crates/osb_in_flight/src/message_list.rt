@@ -1,20 +1,19 @@
-//! The messages of each instance: a list of entries, and an order of them, in which an id is found
-//! by binary search.
+//! The messages of each instance: a list of entries, and what finds the entry of an id in it.
 //!
-//! The entries stand as they came, and an insert moves none of them. The order has the place of each
-//! in that list, in ascending order of their ids. So an insert moves four bytes for each id above the
-//! new one, and not the more than a hundred that an entry has.
+//! The entries stand as they came, and keep their places. Ids often come in ascending order: as many of
+//! the first entries as ascend by their ids are found by binary search, and need nothing else. A tree
+//! has the places of the entries after those. So an insert below others shifts none of them.
 //!
 //! Contracts see a finite map from ids to messages.
-ghost use Rattle.std.specs.Prelude.{◌≡◌, ℕ, OnOk, OnErr, IsSome, IsOk, IfOk, IfErr, option_map, map};
+ghost use Rattle.std.specs.Prelude.{◌≡◌, ℕ, OnOk, OnErr, IsSome, IsOk, IfOk, IfErr, IfSome, IfNone, IsTrue};
+ghost use Rattle.std.specs.Prelude.{length, map, option_map};
 ghost use Rattle.std.specs.FinMap as finite;
-ghost use Rattle.osb_in_flight.specs.Ascending.{IsAt, IsGapFor};
-ghost use Rattle.osb_in_flight.specs.Entries.{IsOrder, at_places, id_of, messages_at, silence, silenced};
+ghost use Rattle.osb_in_flight.specs.Keys.{IsAbove, IsAbsent, IsAscending, IsAt};
+ghost use Rattle.osb_in_flight.specs.Entries.{IsIndexed, id_of, messages_in, silence, silenced};
 
 use crate::messages::{Messages, SILENCE};
-use osb_message::{InstanceId, Memory};
+use osb_message::{InstanceId, Memory, Rows};
 use std::alloc::Global;
-use std::cmp::Ordering;
 use std::marker::Model;
 
 // An instance, and what is between the platform and the broker about it.
@@ -24,76 +23,74 @@ struct Entry {
     messages: Messages,
 }
 
-// Where in the order the id is, or where it would go: a binary search.
-fn search(entries: &[Entry], order: &[u32], id: InstanceId) -> Result<usize, usize>
-    requires ordered { IsOrder entries.now order.now }
-    ensures found { IfOk result (IsAt id_of (at_places entries.now order.now) id) }
-    ensures absent { IfErr result (IsGapFor id_of (at_places entries.now order.now) id) }
+// Where the id is among entries that ascend by their ids.
+fn search(entries: &[Entry], id: InstanceId) -> Result<usize, usize>
+    requires ascending { IsAscending id_of entries.now }
+    ensures found { IfOk result (IsAt id_of entries.now id) }
+    ensures absent { IfErr result (λ _. IsAbsent id_of entries.now id) }
 {
-    let mut low = 0;
-    let mut high = order.len();
-    while low < high {
-        let middle = low + (high - low) / 2;
-        match entries[order[middle] as usize].id.cmp(&id) {
-            Ordering::Less => low = middle + 1,
-            Ordering::Equal => return Ok(middle),
-            Ordering::Greater => high = middle,
+    entries.binary_search_by_key(&id, |entry| entry.id)
+}
+
+// Whether all entries ascend, and the id is above them.
+fn rises(entries: &[Entry], ascending: usize, id: InstanceId) -> bool
+    requires ascending { ascending ≡ length entries.now → IsAscending id_of entries.now }
+    ensures above { IsTrue result → IsAbove id_of entries.now id }
+    ensures ascending { IsTrue result → ascending ≡ length entries.now }
+{
+    if ascending != entries.len() {
+        return false;
+    }
+    match entries.last() {
+        Some(last) => last.id < id,
+        None => true,
+    }
+}
+
+// The place of the entry of the id. The last is looked at first, since the events of an instance often
+// follow each other.
+fn place(entries: &[Entry], ascending: usize, places: &Rows<usize>, id: InstanceId) -> Option<usize>
+    requires indexed { IsIndexed entries.now ascending places.now }
+    ensures found { IfSome result (IsAt id_of entries.now id) }
+    ensures absent { IfNone result (IsAbsent id_of entries.now id) }
+{
+    if rises(entries, ascending, id) {
+        return None;
+    }
+    if let Some(last) = entries.last() {
+        if last.id == id {
+            return Some(entries.len() - 1);
         }
     }
-    Err(low)
-}
-
-// Where in the order the id is, or where it would go. The last is looked at first, since ids often
-// come in rising order.
-fn place(entries: &[Entry], order: &[u32], id: InstanceId) -> Result<usize, usize>
-    requires ordered { IsOrder entries.now order.now }
-    ensures found { IfOk result (IsAt id_of (at_places entries.now order.now) id) }
-    ensures absent { IfErr result (IsGapFor id_of (at_places entries.now order.now) id) }
-{
-    let Some(last) = order.last() else {
-        return Err(0);
-    };
-    match entries[*last as usize].id.cmp(&id) {
-        Ordering::Less => Err(order.len()),
-        Ordering::Equal => Ok(order.len() - 1),
-        Ordering::Greater => search(entries, order, id),
+    match search(&entries[..ascending], id) {
+        Ok(at) => Some(at),
+        Err(_) => places.get(id),
     }
 }
 
-// Writes over the entry of the id, which is there in the order.
-fn write(entries: &mut Vec<Entry>, order: &[u32], at: usize, id: InstanceId, messages: Messages)
-    requires ordered { IsOrder entries.old.items order.now }
-    requires there { IsAt id_of (at_places entries.old.items order.now) id at }
-    ensures ordered { IsOrder entries.new.items order.now }
-    ensures written { messages_at entries.new.items order.now
-        ≡ finite.insert (messages_at entries.old.items order.now) id messages }
-{
-    entries[order[at] as usize] = Entry { id, messages };
-}
-
-// Makes an entry for the id, which would go there in the order. Memory for the entry is taken first, so
-// that nothing is written where an allocation fails. A place is below 2^32, and an entry that would
-// come at a higher one is refused as where memory runs out.
+// Makes the entry of an id that has none. Memory for it is taken first, so that nothing is written where
+// an allocation fails.
 fn add(
     entries: &mut Vec<Entry>,
-    order: &mut Vec<u32>,
-    at: usize,
+    ascending: &mut usize,
+    places: &mut Rows<usize>,
     id: InstanceId,
     messages: Messages,
 ) -> Result<(), Memory>
-    requires ordered { IsOrder entries.old.items order.old.items }
-    requires absent { IsGapFor id_of (at_places entries.old.items order.old.items) id at }
-    ensures ordered { IsOrder entries.new.items order.new.items }
-    ensures ok { OnOk result (messages_at entries.new.items order.new.items
-        ≡ finite.insert (messages_at entries.old.items order.old.items) id messages) }
-    ensures err { OnErr result (messages_at entries.new.items order.new.items
-        ≡ messages_at entries.old.items order.old.items) }
+    requires indexed { IsIndexed entries.old.items ascending.old places.old }
+    requires absent { IsAbsent id_of entries.old.items id }
+    ensures indexed { IsIndexed entries.new.items ascending.new places.new }
+    ensures ok { OnOk result (messages_in entries.new.items
+        ≡ finite.insert (messages_in entries.old.items) id messages) }
+    ensures err { OnErr result (messages_in entries.new.items ≡ messages_in entries.old.items) }
 {
-    let Ok(end) = u32::try_from(entries.len()) else {
-        return Err(Memory);
-    };
     entries.reserve(1)?;
-    order.insert(at, end)?;
+    if rises(entries, *ascending, id) {
+        entries.push(Entry { id, messages })?;
+        *ascending = entries.len();
+        return Ok(());
+    }
+    places.insert(id, entries.len())?;
     Ok(entries.push(Entry { id, messages })?)
 }
 
@@ -112,8 +109,10 @@ fn silence_entries(entries: &mut Vec<Entry>)
 pub struct MessageList {
     // As they came.
     entries: Vec<Entry>,
-    // The place in `entries` of each, in ascending order of the ids.
-    order: Vec<u32>,
+    // So many of the first entries ascend by their ids.
+    ascending: usize,
+    // The place in `entries` of each id that came after those.
+    places: Rows<usize>,
 }
 
 impl Model for MessageList {
@@ -122,15 +121,15 @@ impl Model for MessageList {
     ghost use Rattle.std.specs.Coded.{coded_ℕ};
     ghost use Rattle.osb_in_flight.specs.declared.messages.Messages.{Messages};
     ghost use Rattle.osb_in_flight.specs.contracts.messages.Messages as messages;
-    ghost use Rattle.osb_in_flight.specs.Entries.{IsOrder, messages_at};
+    ghost use Rattle.osb_in_flight.specs.Entries.{IsIndexed, messages_in};
 
     ghost Value = { map.FinMap nat_cmp Messages };
 
     ghost coded = { map.code coded_ℕ messages.the_row.coded };
 
-    ghost view = { λ a. messages_at a.entries.items a.order.items };
+    ghost view = { λ a. messages_in a.entries.items };
 
-    ghost invariant = { λ a. IsOrder a.entries.items a.order.items };
+    ghost invariant = { λ a. IsIndexed a.entries.items a.ascending a.places };
 }
 
 impl MessageList {
@@ -140,7 +139,8 @@ impl MessageList {
     {
         MessageList {
             entries: Vec::new(alloc),
-            order: Vec::new(alloc),
+            ascending: 0,
+            places: Rows::new(alloc),
         }
     }
 
@@ -148,9 +148,9 @@ impl MessageList {
     pub fn get(&self, id: InstanceId) -> Option<Messages>
         ensures found { result ≡ finite.get self.now id }
     {
-        match place(&self.entries, &self.order, id) {
-            Ok(at) => Some(self.entries[self.order[at] as usize].messages),
-            Err(_) => None,
+        match place(&self.entries, self.ascending, &self.places, id) {
+            Some(at) => Some(self.entries[at].messages),
+            None => None,
         }
     }
 
@@ -159,19 +159,25 @@ impl MessageList {
     ///
     /// # Errors
     ///
-    /// [`Memory`] where an allocation failed, or where 2^32 instances have an entry, and the list is as
-    /// before. It comes only of an instance that has no entry.
+    /// [`Memory`] where an allocation failed, and the list is as before. It comes only of an instance
+    /// that has no entry.
     pub fn insert(&mut self, id: InstanceId, messages: Messages) -> Result<(), Memory>
         ensures ok { OnOk result (self.new ≡ finite.insert self.old id messages) }
         ensures err { OnErr result (self.new ≡ self.old) }
         ensures written { IsSome (finite.get self.old id) → IsOk result }
     {
-        match place(&self.entries, &self.order, id) {
-            Ok(at) => {
-                write(&mut self.entries, &self.order, at, id, messages);
+        match place(&self.entries, self.ascending, &self.places, id) {
+            Some(at) => {
+                self.entries[at] = Entry { id, messages };
                 Ok(())
             }
-            Err(at) => add(&mut self.entries, &mut self.order, at, id, messages),
+            None => add(
+                &mut self.entries,
+                &mut self.ascending,
+                &mut self.places,
+                id,
+                messages,
+            ),
         }
     }
 
@@ -181,10 +187,10 @@ impl MessageList {
         requires present { IsSome (finite.get self.old id) }
         ensures replaced { self.new ≡ finite.insert self.old id messages }
     {
-        let Ok(at) = place(&self.entries, &self.order, id) else {
+        let Some(at) = place(&self.entries, self.ascending, &self.places, id) else {
             unreachable!()
         };
-        write(&mut self.entries, &self.order, at, id, messages);
+        self.entries[at] = Entry { id, messages };
     }
 
     /// Silences every instance, in its entry. It takes no memory.

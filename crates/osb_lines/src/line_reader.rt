@@ -230,7 +230,8 @@ impl<S: Sink> LineReader<S> {
         Ok(())
     }
 
-    /// Takes a last line that no line feed ends, and says whether there was one. No more is taken then.
+    /// Takes a last line that no line feed ends, and says whether there was one. Call this once, at the end of the
+    /// input: nothing is said of a piece that is taken after it.
     ///
     /// # Errors
     ///

@@ -1,5 +1,5 @@
 //! The plan lines of a schedule.
-ghost use Rattle.std.specs.Prelude.{◌≡◌, None, IfErr, OnOk};
+ghost use Rattle.std.specs.Prelude.{◌≡◌, None, IfErr, OnErr, OnOk};
 ghost use Rattle.std.specs.FinMap as map;
 ghost use Rattle.osb_lines.specs.Sink.{IsLineFault};
 ghost use Rattle.osb_lines.specs.Schedule.{plan_fault};
@@ -12,8 +12,9 @@ use osb_message::{AddFault, Catalogue, Mode, PlanId, ServiceId};
 ///
 /// # Errors
 ///
-/// [`LineFault::LatePlan`] where it is late, and [`LineFault::DuplicatePlan`] where the catalogue has it, each as
-/// [`ScheduleFault::At`]. [`ScheduleFault::Memory`] where an allocation failed. The catalogue is then as before.
+/// [`LineFault::LatePlan`] if it is late, and [`LineFault::DuplicatePlan`] if the catalogue has it, each as
+/// [`ScheduleFault::At`]. [`ScheduleFault::Memory`] if an allocation failed. After any of these the catalogue is as
+/// before.
 pub fn add_plan(
     catalogue: &mut Catalogue,
     is_late: bool,
@@ -25,6 +26,7 @@ pub fn add_plan(
     ensures good { OnOk result ((plan_fault is_late catalogue.old service plan ≡ None)
         × (catalogue.new ≡ map.insert catalogue.old (service, plan) mode)) }
     ensures refused { IfErr result (IsLineFault number (plan_fault is_late catalogue.old service plan)) }
+    ensures err { OnErr result (catalogue.new ≡ catalogue.old) }
 {
     if is_late {
         return Err(ScheduleFault::At {

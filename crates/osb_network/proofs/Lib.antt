@@ -9,3 +9,4 @@ pub mod Agreements
 pub mod Rounds
 pub mod Numbers
 pub mod Many
+pub mod PartWay

@@ -1,5 +1,6 @@
 -- Many instances, each by itself (this project's choice).
-use Rattle.std.specs.Prelude.{ℕ, Bool, false, ◌==◌, if◌then◌else◌, Option, Some, None, List, [], ◌∷◌, option_map}
+use Rattle.std.specs.Prelude.{◌≡◌, ℕ, ◌<◌, Bool, false, ◌==◌, if◌then◌else◌, Option, Some, None, option_map}
+use Rattle.std.specs.Prelude.{List, [], ◌∷◌, length, take}
 use Rattle.osb_network.specs.declared.event.Event.{Event}
 use Rattle.osb_network.specs.declared.event.InstanceEvent.{InstanceEvent}
 use Rattle.osb_network.specs.Cell.{Cell}
@@ -27,3 +28,8 @@ asks_memory event (Some cell) = takes_memory cell event
 -- what an id has after a list of events: its own alone, one after the other
 abbrev pub stepped_through : ℕ → List InstanceEvent → Option Cell → Option Cell
 stepped_through id events cell = option_map (λ c. cell_steps c (events_of id events)) cell
+
+-- some of the events have happened, from the first on, and not all: each id has what those of its own lead to
+abbrev pub ArePartWay : List InstanceEvent → (ℕ → Option Cell) → (ℕ → Option Cell) → Type 0
+ArePartWay events old new =
+    (n : ℕ) × (n < length events) × ((id : ℕ) → new id ≡ stepped_through id (take n events) (old id))

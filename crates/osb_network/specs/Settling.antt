@@ -1,8 +1,8 @@
 -- Cleaning up comes to an end: a few rounds without a fault settle an instance (this project's choice; the
 -- standard says that a platform goes on until the broker tells it of the end, section Orphan Mitigation, and not
 -- how long that takes).
-use Rattle.std.specs.Prelude.{ℕ, ◌+◌, ◌-◌, ◌≤◌, ⊤, true, if◌then◌else◌, is_some, length}
-use Rattle.std.specs.Prelude.{Option, Some, None, IfSome}
+use Rattle.std.specs.Prelude.{◌≡◌, ℕ, zero, suc, ◌+◌, ◌-◌, ◌<◌, ◌≤◌, ⊤, true, if◌then◌else◌, is_some}
+use Rattle.std.specs.Prelude.{Option, Some, None, IfSome, List, [], ◌∷◌, ◌++◌, length}
 use Rattle.osb_message.specs.declared.messages.Kind.{Kind}
 use Rattle.osb_message.specs.declared.messages.Kind.TheVariants.{Provision}
 use Rattle.osb_message.specs.declared.messages.Request.{Request}
@@ -32,9 +32,61 @@ good_thing (Some request) row = good_of request.kind
 good_thing None (Some row) = good_in row.phase
 good_thing None None = Absent
 
+-- the number of the request that is out, and 0, which no request has, where none is
+abbrev pub number_out : Option Recorded → ℕ
+number_out None = 0
+number_out (Some recorded) = if is_some recorded.row.out then recorded.attempt else 0
+
+-- ---- the events of a fault-free round, each as it turns on the cell that it happens to
+
+-- what is under way goes well for the thing
+abbrev pub good_work : Cell → Event
+good_work cell = Event.Work (good_thing cell.held.work cell.held.row)
+
+-- what is out arrives
+abbrev pub arrival : Cell → Event
+arrival cell = Event.Arrive (number_out cell.recorded)
+
+-- the latest answer is taken
+abbrev pub latest_answer : Cell → Event
+latest_answer cell = Event.Take (length cell.given - 1)
+
+-- the recorded work ends well, if there is some
+abbrev pub work_events : List (Cell → Event)
+work_events = good_work ∷ (λ cell. Event.End Done) ∷ []
+
+-- the operation that runs ends well, if one does
+abbrev pub operation_events : List (Cell → Event)
+operation_events = good_work ∷ (λ cell. Event.Finish true) ∷ []
+
+-- the request that is due is sent, arrives, its work ends well, and its answer is taken
+abbrev pub exchange_events : List (Cell → Event)
+exchange_events = (λ cell. Event.Send) ∷ arrival ∷ (work_events ++ latest_answer ∷ [])
+
+-- the request that is out is given up, the recorded work ends well, the operation that runs ends well, and the
+-- request that is due is sent, done and answered
+abbrev pub round_events : List (Cell → Event)
+round_events = (λ cell. Event.Timeout) ∷ (work_events ++ (operation_events ++ exchange_events))
+
+-- three rounds
+abbrev pub settling_events : List (Cell → Event)
+settling_events = round_events ++ (round_events ++ round_events)
+
+-- the cell after the first n of these events
+abbrev pub after_first : ℕ → List (Cell → Event) → Cell → Cell
+after_first zero events cell = cell
+after_first (suc n) [] cell = cell
+after_first (suc n) (event ∷ more) cell = after_first n more (cell_step cell (event cell))
+
+-- some of these events have happened, from the first on, and not all
+abbrev pub IsPartWay : List (Cell → Event) → Cell → Cell → Type 0
+IsPartWay events old new = (n : ℕ) × (n < length events) × (new ≡ after_first n events old)
+
+-- ---- what they lead to
+
 -- what is under way has gone well for the thing
 abbrev pub with_good : Cell → Cell
-with_good cell = cell_step cell (Event.Work (good_thing cell.held.work cell.held.row))
+with_good cell = cell_step cell (good_work cell)
 
 -- the recorded work ends well, if there is some
 abbrev pub worked_well : Cell → Cell
@@ -44,18 +96,13 @@ worked_well cell = cell_step (with_good cell) (Event.End Done)
 abbrev pub operated_well : Cell → Cell
 operated_well cell = cell_step (with_good cell) (Event.Finish true)
 
--- the number of the request that is out, and 0, which no request has, where none is
-abbrev pub number_out : Option Recorded → ℕ
-number_out None = 0
-number_out (Some recorded) = if is_some recorded.row.out then recorded.attempt else 0
-
 -- what is out arrives
 abbrev pub with_arrival : Cell → Cell
-with_arrival cell = cell_step cell (Event.Arrive (number_out cell.recorded))
+with_arrival cell = cell_step cell (arrival cell)
 
 -- the latest answer is taken
 abbrev pub with_answer : Cell → Cell
-with_answer cell = cell_step cell (Event.Take (length cell.given - 1))
+with_answer cell = cell_step cell (latest_answer cell)
 
 -- the request that is due is sent, arrives, its work ends well, and its answer is taken
 abbrev pub exchanged : Cell → Cell
@@ -69,6 +116,10 @@ after_round cell = exchanged (operated_well (worked_well (cell_step cell Event.T
 -- the cell after three of them
 abbrev pub settled_cell : Cell → Cell
 settled_cell cell = after_round (after_round (after_round cell))
+
+-- it is the cell after all of the settling's events, one after another
+abbrev pub SettlesByEvents : Type 0
+SettlesByEvents = (cell : Cell) → settled_cell cell ≡ after_first (length settling_events) settling_events cell
 
 -- the states in which nothing is due and nothing is out
 abbrev pub IsSettledIn : State → Type 0

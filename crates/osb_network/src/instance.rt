@@ -4,6 +4,8 @@ ghost use Rattle.osb_network.specs.Agreement.{Agrees};
 ghost use Rattle.osb_network.specs.Cell.{IsPossible, empty_cell};
 ghost use Rattle.osb_network.specs.Settling.{after_round, settled_cell, HasNumbers, IsSettled, ThreeRoundsSettle};
 ghost use Rattle.osb_network.specs.Settling.{number_out, operated_well, with_answer, with_arrival, with_good, worked_well};
+ghost use Rattle.osb_network.specs.Settling.{operation_events, round_events, settling_events, work_events};
+ghost use Rattle.osb_network.specs.Settling.{IsPartWay, SettlesByEvents};
 ghost use Rattle.osb_network.specs.Steps.{applies, cell_step, cell_steps, step_of, takes_memory};
 ghost use Rattle.osb_instance.specs.declared.record.Sent.{Sent};
 
@@ -125,6 +127,7 @@ impl Instance {
     // The recorded work, or the operation that runs, has gone well for the thing.
     fn go_well(&mut self, alloc: Global) -> Result<(), Memory>
         ensures cell { OnOk result (self.new ≡ with_good self.old) }
+        ensures err { OnErr result (self.new ≡ self.old) }
     {
         let thing = good_thing(self.parts.holding.work(), self.parts.holding.row());
         self.step(alloc, Event::Work { thing })?;
@@ -134,6 +137,7 @@ impl Instance {
     // The recorded work ends well, if there is some.
     fn work_well(&mut self, alloc: Global) -> Result<(), Memory>
         ensures cell { OnOk result (self.new ≡ worked_well self.old) }
+        ensures err { OnErr result (IsPartWay work_events self.old self.new) }
     {
         self.go_well(alloc)?;
         let outcome = Outcome::Done;
@@ -144,6 +148,7 @@ impl Instance {
     // The operation that runs ends well, if one does.
     fn operate_well(&mut self, alloc: Global) -> Result<(), Memory>
         ensures cell { OnOk result (self.new ≡ operated_well self.old) }
+        ensures err { OnErr result (IsPartWay operation_events self.old self.new) }
     {
         self.go_well(alloc)?;
         self.step(alloc, Event::Finish { ok: true })?;
@@ -166,6 +171,7 @@ impl Instance {
     // What is out arrives.
     fn arrive_out(&mut self, alloc: Global) -> Result<(), Memory>
         ensures cell { OnOk result (self.new ≡ with_arrival self.old) }
+        ensures err { OnErr result (self.new ≡ self.old) }
     {
         let attempt = self.number_out();
         self.step(alloc, Event::Arrive { attempt })?;
@@ -175,6 +181,7 @@ impl Instance {
     // The latest answer is taken.
     fn take_latest(&mut self, alloc: Global) -> Result<(), Memory>
         ensures cell { OnOk result (self.new ≡ with_answer self.old) }
+        ensures err { OnErr result (self.new ≡ self.old) }
     {
         let at = self.parts.given.len().saturating_sub(1);
         self.step(alloc, Event::Take { at })?;
@@ -184,6 +191,7 @@ impl Instance {
     // A fault-free round.
     fn round(&mut self, alloc: Global) -> Result<(), Memory>
         ensures cell { OnOk result (self.new ≡ after_round self.old) }
+        ensures err { OnErr result (IsPartWay round_events self.old self.new) }
     {
         self.step(alloc, Event::Timeout)?;
         self.work_well(alloc)?;
@@ -197,6 +205,7 @@ impl Instance {
     // Three fault-free rounds.
     fn rounds(&mut self, alloc: Global) -> Result<(), Memory>
         ensures cell { OnOk result (self.new ≡ settled_cell self.old) }
+        ensures err { OnErr result (IsPartWay settling_events self.old self.new) }
     {
         self.round(alloc)?;
         self.round(alloc)?;
@@ -216,14 +225,16 @@ impl Instance {
     ///
     /// # Errors
     ///
-    /// [`Memory`] where an allocation failed. Some of these events have happened then, and the contract says no more
-    /// than that both sides and the backend agree.
+    /// [`Memory`] if an allocation failed. The first few of these events have happened then, and none after them.
+    /// Both sides and the backend agree. Settle the instance again to go on from there.
     pub fn settle(&mut self, alloc: Global) -> Result<(), Memory>
         ensures cell { OnOk result (self.new ≡ settled_cell self.old) }
+        ensures err { OnErr result (IsPartWay settling_events self.old self.new) }
         ensures settled { HasNumbers 3 self.old → OnOk result (IsSettled self.new) }
         ensures agrees { Agrees self.new }
         // So it is from every cell that can come about.
         ensures always { ThreeRoundsSettle }
+        ensures by_events { SettlesByEvents }
     {
         self.agreement();
         let settled = self.rounds(alloc);

@@ -6,7 +6,7 @@ ghost use Rattle.std.specs.BTreeMap as tree;
 ghost use Rattle.std.specs.Ordering.{nat_cmp};
 ghost use Rattle.osb_network.specs.Agreement.{Agrees};
 ghost use Rattle.osb_network.specs.Cell.{empty_cell};
-ghost use Rattle.osb_network.specs.Many.{applies_to, asks_memory, stepped_by, stepped_through};
+ghost use Rattle.osb_network.specs.Many.{applies_to, asks_memory, stepped_by, stepped_through, ArePartWay};
 ghost use Rattle.osb_network.specs.Steps.{step_of};
 
 use crate::{Event, Instance, InstanceEvent, Order, Step};
@@ -134,11 +134,13 @@ impl Network {
     ///
     /// # Errors
     ///
-    /// [`Memory`] at the first event where an allocation failed. The contract says nothing of what has happened by
-    /// then: who needs that lets the events happen one by one, by [`Network::step`].
+    /// [`Memory`] at the first event where an allocation failed. The events before it have happened then, and none
+    /// after them: each instance is where its own events among these lead it. The call doesn't say how many these are.
+    /// If you need the number, let the events happen one by one, by [`Network::step`].
     pub fn steps(&mut self, alloc: Global, events: &[InstanceEvent]) -> Result<(), Memory>
         ensures cells { OnOk result ((id : ℕ) →
             finite.get self.new id ≡ stepped_through id events.now (finite.get self.old id)) }
+        ensures err { OnErr result (ArePartWay events.now (finite.get self.old) (finite.get self.new)) }
     {
         for named in events {
             self.step(alloc, named.id, named.event)?;

@@ -59,7 +59,7 @@ pub outs_of : (cat : Catalogue) (events : List Event) (plans : Catalogue) (held 
     → n ≡ count_by (λ id. is_some (cell_at world id).out) ids
     → IsChangeCount cat events n
 outs_of cat events plans held world ids n told is ascending listed counted =
-    let after : IsWorldAfter cat events world = (rw is at told).1 in
+    let after : IsWorldAfter cat events world = rw is at told in
     let out : ℕ → Bool = λ id. is_some (cell_after cat id events).out in (
       filter out ids,
       IsStrictlySortedBy-filter nat_cmp out ids ascending,

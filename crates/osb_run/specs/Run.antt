@@ -1,5 +1,5 @@
 -- What the lines so far have done.
-use Rattle.std.specs.Prelude.{◌≡◌, ℕ, ◌+◌, ◌<◌, List, [], Option, Some, None, length}
+use Rattle.std.specs.Prelude.{◌≡◌, ℕ, ◌+◌, List, [], Option, Some, None, length}
 use Rattle.osb_message.specs.Plans.{Catalogue}
 use Rattle.osb_event.specs.declared.event.Event.{Event}
 use Rattle.osb_world.specs.Events.{cell_after}
@@ -13,10 +13,11 @@ use Rattle.osb_lines.specs.Schedule.{catalogue_in, events_in}
 abbrev pub IsWorldAfter : Catalogue → List Event → WorldState → Type 0
 IsWorldAfter cat events world = (catalogue_of world ≡ cat) × ((q : ℕ) → cell_at world q ≡ cell_after cat q events)
 
--- there is no world before the first event, and it has the whole catalogue from then on
+-- without a world no event has happened; a world has the whole catalogue, also one in which none has happened, since
+-- the first found no memory
 abbrev pub IsWorldOf : Catalogue → List Event → Catalogue → Option WorldState → Type 0
 IsWorldOf cat events plans None = (events ≡ []) × (plans ≡ cat)
-IsWorldOf cat events plans (Some world) = (0 < length events) × IsWorldAfter cat events world
+IsWorldOf cat events plans (Some world) = IsWorldAfter cat events world
 
 -- the counts of these events: n applied, and m didn't
 pub record AreCounts (cat : Catalogue) (events : List Event) (n m : ℕ) : Type 0 where

@@ -78,6 +78,14 @@ impl Run {
         }
     }
 
+    // Whether an event has happened.
+    fn any_happened(&self) -> bool
+        ensures begun { (cat : Plans) (events : List Happening) → IsRunOf cat events self.now
+            → result ≡ has_begun events }
+    {
+        self.applied > 0 || self.skipped > 0
+    }
+
     fn add_plan(
         &mut self,
         number: u32,
@@ -90,9 +98,15 @@ impl Run {
             × IsRunOf (map.insert cat (service, plan) mode) events self.new) }
         ensures refused { (cat : Plans) (events : List Happening) → IsRunOf cat events self.old
             → IfErr result (IsLineFault number (plan_fault (has_begun events) cat service plan)) }
+        ensures err { (cat : Plans) (events : List Happening) → IsRunOf cat events self.old
+            → OnErr result (IsRunOf cat events self.new) }
         ensures counted { happened self.new ≡ happened self.old }
     {
-        let is_late = self.world.is_some();
+        let is_late = self.any_happened();
+        if self.world.is_some() && !is_late {
+            // The world has the catalogue already.
+            return Err(ScheduleFault::Memory);
+        }
         add_plan(&mut self.catalogue, is_late, number, service, plan, mode)
     }
 
@@ -115,7 +129,8 @@ impl Run {
     ///
     /// # Errors
     ///
-    /// [`ScheduleFault::Memory`] where an allocation failed. The event is not counted then.
+    /// [`ScheduleFault::Memory`] if an allocation failed. The event hasn't happened then and isn't counted: the run is
+    /// still that of the events before it, and takes the event again.
     pub fn take_event(&mut self, event: Event) -> Result<Step, ScheduleFault>
         requires room { happened self.old < MOST_LINES }
         ensures good { (cat : Plans) (events : List Happening) → IsRunOf cat events self.old
@@ -123,6 +138,8 @@ impl Run {
         ensures step { (cat : Plans) (events : List Happening) → IsRunOf cat events self.old
             → IfOk result (λ step. step ≡ step_of (applies_at (λ id. cell_after cat id events) event)) }
         ensures memory { IfErr result (λ fault. fault ≡ Why.Memory) }
+        ensures err { (cat : Plans) (events : List Happening) → IsRunOf cat events self.old
+            → OnErr result (IsRunOf cat events self.new) }
         ensures counted { OnOk result (happened self.new ≡ happened self.old + 1) }
         ensures uncounted { OnErr result (happened self.new ≡ happened self.old) }
     {
@@ -149,7 +166,9 @@ impl Run {
     /// # Errors
     ///
     /// [`ScheduleFault::At`] with the fault of what the line says, after those that were taken before.
-    /// [`ScheduleFault::Memory`] where an allocation failed. No event has happened then.
+    /// [`ScheduleFault::Memory`] if an allocation failed; and for a plan, if an allocation failed for the first event,
+    /// since the catalogue is in use by then. After any of these the run is still that of the lines before, with the
+    /// same catalogue and the same events.
     pub fn take_said(&mut self, number: u32, said: Line) -> Result<(), ScheduleFault>
         requires room { happened self.old < MOST_LINES }
         ensures good { (cat : Plans) (events : List Happening) → IsRunOf cat events self.old
@@ -157,6 +176,8 @@ impl Run {
             × IsRunOf (with_plan cat (Ok said)) (events ++ event_in (Ok said)) self.new) }
         ensures refused { (cat : Plans) (events : List Happening) → IsRunOf cat events self.old
             → IfErr result (IsLineFault number (fault_after cat events (Ok said))) }
+        ensures err { (cat : Plans) (events : List Happening) → IsRunOf cat events self.old
+            → OnErr result (IsRunOf cat events self.new) }
         ensures counted { OnOk result (happened self.new ≤ happened self.old + 1) }
         ensures uncounted { OnErr result (happened self.new ≡ happened self.old) }
     {

@@ -19,7 +19,7 @@ use Rattle.osb_world.specs.declared.cell.Cell.{Cell}
 use Rattle.osb_event.specs.declared.event.Event.{Event}
 use Rattle.osb_world.specs.Settling.{settled_cell}
 use Rattle.osb_world.specs.Views.{WorldState, catalogue_of, cell_at, records_of}
-use Rattle.osb_event.specs.declared.options.Options.{Options}
+use Rattle.osb_options.specs.declared.options.Options.{Options}
 use Rattle.osb_run.specs.declared.run.Ended.{Ended}
 use Rattle.osb_lines.specs.Lines.{lines}
 use Rattle.osb_world.specs.Counts.{applied_count}

@@ -1,7 +1,7 @@
 -- What a replay has written.
 use Rattle.std.specs.Prelude.{ℕ, List, Option}
 use Rattle.std.specs.Io.KnownBytes.{Appends}
-use Rattle.osb_event.specs.declared.options.Options.{Options}
+use Rattle.osb_options.specs.declared.options.Options.{Options}
 use Rattle.osb_schedule.specs.Report.{IsReport}
 
 -- the writer has got the report of these bytes, and nothing else

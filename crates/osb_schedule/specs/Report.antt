@@ -17,7 +17,7 @@ use Rattle.osb_event.specs.declared.event.Event.{Event}
 use Rattle.osb_world.specs.Events.{cell_after}
 use Rattle.osb_world.specs.Settling.{settled_cell}
 use Rattle.osb_world.specs.Views.{WorldState, catalogue_of, cell_at}
-use Rattle.osb_event.specs.declared.options.Options.{Options}
+use Rattle.osb_options.specs.declared.options.Options.{Options}
 use Rattle.osb_lines.specs.Lines.{lines}
 use Rattle.osb_world.specs.Counts.{applied_count}
 use Rattle.osb_run.specs.Created.{creates, AreCreated}

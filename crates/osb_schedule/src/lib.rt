@@ -36,8 +36,8 @@ mod replaying;
 mod report;
 
 pub use osb_device::{DeviceFault, Input, Output};
-pub use osb_event::Options;
 pub use osb_language::{Line, LineFault, ReplayFault, ScheduleFault, read_line, status_of};
 pub use osb_lines::{Schedule, read_schedule};
+pub use osb_options::Options;
 pub use osb_table::write_table;
 pub use replaying::replay;

@@ -7,10 +7,10 @@ ghost use Rattle.osb_language.specs.declared.replay_fault.ReplayFault.TheVariant
 
 use crate::report::report;
 use osb_device::{DeviceFault, Input, Output};
-use osb_event::Options;
 use osb_language::ReplayFault;
 use osb_lines::read_lines;
 use osb_message::Memory;
+use osb_options::Options;
 use osb_run::Run;
 use std::alloc::Global;
 use std::io::{Read, Write};

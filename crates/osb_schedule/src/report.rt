@@ -11,8 +11,8 @@ ghost use Rattle.osb_run.specs.Run.{IsEndOf};
 ghost use Rattle.osb_world.specs.Views.{cell_at, records_of};
 
 use osb_broker::BrokerRow;
-use osb_event::Options;
 use osb_message::{InstanceId, Memory};
+use osb_options::Options;
 use osb_platform::SaveFault;
 use osb_run::Ended;
 use osb_world::World;

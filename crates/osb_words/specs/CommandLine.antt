@@ -10,7 +10,7 @@ use Rattle.clap.specs.Simple.{App, new_app, new_rule, on_top, subcommand_of, wit
 use Rattle.clap.specs.declared.builder.action.ArgAction.TheVariants.{Set, SetTrue}
 use Rattle.clap.specs.declared.error.kind.ErrorKind.{ErrorKind}
 use Rattle.clap.specs.declared.error.kind.ErrorKind.TheVariants.{DisplayHelp, OutOfMemory}
-use Rattle.osb_event.specs.declared.options.Options.{Options}
+use Rattle.osb_options.specs.declared.options.Options.{Options}
 use Rattle.osb_message.specs.IdText.{id_of}
 use Rattle.osb_words.specs.declared.command_line.Asked.{Asked}
 use Rattle.osb_words.specs.declared.command_line.Asked.TheVariants.{Replay, Table, Trace}

@@ -10,8 +10,8 @@ ghost use Rattle.clap.specs.declared.builder.command.Command.TheViews.{out-Comma
 use crate::help;
 use clap::error::ErrorKind;
 use clap::{Arg, ArgAction, ArgMatches, Command};
-use osb_event::{Options, TraceOptions};
 use osb_message::InstanceId;
+use osb_options::{Options, TraceOptions};
 use std::alloc::{AllocError, Global};
 use thiserror::Error;
 

@@ -3,27 +3,27 @@
 - `Record` and `Holding`: one instance as a value, as a platform and as a broker keep it in a database.
 - `osb.wire`: requests and answers as HTTP and JSON have them.
 - `osb.wsgi.BrokerApplication`: a broker as a WSGI application. `osb.client.Client`: a platform over HTTP.
-- `Platform` and `Broker`: all instances in one process, behind handles; `osb.tables`: the platform's tables.
+- `osb.tables`: the platform's tables.
 
 The environment variable LIBOSB names the library's file; else libosb.so.0 is loaded, as the system finds it. What isn't
 done raises `OsbError`. docs/python.md has a first program.
 """
 from __future__ import annotations
 
-from osb._lib import version
-from osb.broker import Broker
+from osb._lib import VERSION, version
 from osb.enums import Body, Kind, Mode, Outcome, Phase, State, Status, Work
 from osb.errors import OsbError, Refusal
 from osb.holding import Holding, work_of
 from osb.ids import Id
 from osb.messages import Answer, BrokerRow, Plan, PlatformRow, Request
-from osb.platform import Platform
 from osb.record import Record
+
+__version__ = f"{VERSION // 10000}.{VERSION // 100 % 100}.{VERSION % 100}"
+"""The version of this package, and of the header that it is written for."""
 
 __all__ = [
     "Answer",
     "Body",
-    "Broker",
     "BrokerRow",
     "Holding",
     "Id",
@@ -33,7 +33,6 @@ __all__ = [
     "Outcome",
     "Phase",
     "Plan",
-    "Platform",
     "PlatformRow",
     "Record",
     "Refusal",
@@ -41,6 +40,7 @@ __all__ = [
     "State",
     "Status",
     "Work",
+    "__version__",
     "version",
     "work_of",
 ]

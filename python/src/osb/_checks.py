@@ -19,8 +19,14 @@ def check_prefix(prefix: str) -> None:
     """Refuses a prefix that isn't a path."""
     if not prefix:
         return
-    if not prefix.startswith("/") or prefix.endswith("/") or re.search(r"[?#\s\x00-\x1f\x7f]", prefix):
-        raise ValueError("a prefix begins with a slash, ends with none, and has no query, blank or line end")
+    if (
+        not prefix.startswith("/")
+        or prefix.endswith("/")
+        or re.search(r"[?#\s\x00-\x1f\x7f]", prefix)
+    ):
+        raise ValueError(
+            "a prefix begins with a slash, ends with none, and has no query, blank or line end"
+        )
     check_texts("the prefix", prefix)
 
 

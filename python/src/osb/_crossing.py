@@ -56,15 +56,9 @@ def answer_from(answer: CAnswer) -> Answer:
 
 
 def platform_row_to(row: PlatformRow) -> CPlatformRow:
-    return CPlatformRow(id_to(row.service), id_to(row.plan), State(row.state).value, kind_to(row.out))
-
-
-def platform_row_from(row: CPlatformRow) -> PlatformRow:
-    return PlatformRow(id_from(row.service), id_from(row.plan), State(row.state), kind_from(row.out))
-
-
-def plan_to(plan: Plan) -> CPlan:
-    return CPlan(id_to(plan.service), id_to(plan.plan), bool(plan.is_asynchronous))
+    return CPlatformRow(
+        id_to(row.service), id_to(row.plan), State(row.state).value, kind_to(row.out)
+    )
 
 
 def plan_from(plan: CPlan) -> Plan:

@@ -43,14 +43,25 @@ class Address(NamedTuple):
     def of(cls, url: str) -> Address:
         """Reads a URL. Raises ValueError where it isn't http or https, or has more than a host, a port and a path."""
         if not re.fullmatch("[!-~]+", url):
-            raise ValueError("the URL of a broker is ASCII, with no space and no control character")
+            raise ValueError(
+                "the URL of a broker is ASCII, with no space and no control character"
+            )
         parts = urlsplit(url)
         if parts.scheme not in ("http", "https") or not parts.hostname:
-            raise ValueError("the URL of a broker begins with http:// or https:// and has a host")
+            raise ValueError(
+                "the URL of a broker begins with http:// or https:// and has a host"
+            )
         if parts.username is not None or "?" in url or "#" in url:
-            raise ValueError("the URL of a broker has no user, no query and no fragment")
+            raise ValueError(
+                "the URL of a broker has no user, no query and no fragment"
+            )
         is_tls = parts.scheme == "https"
-        return cls(is_tls, parts.hostname, parts.port or (443 if is_tls else 80), parts.path.rstrip("/"))
+        return cls(
+            is_tls,
+            parts.hostname,
+            parts.port or (443 if is_tls else 80),
+            parts.path.rstrip("/"),
+        )
 
 
 class Deadline:
@@ -70,7 +81,9 @@ class Deadline:
 class _Reader(io.RawIOBase):
     """What comes on a connection. All reads together may take the time that is left, and give so many bytes."""
 
-    def __init__(self, connection: socket.socket, deadline: Deadline, most: int) -> None:
+    def __init__(
+        self, connection: socket.socket, deadline: Deadline, most: int
+    ) -> None:
         self._connection, self._deadline, self._left = connection, deadline, most
 
     def readable(self) -> bool:
@@ -100,7 +113,9 @@ class _Timed:
     on which so many bytes may come.
     """
 
-    def __init__(self, connection: socket.socket, deadline: Deadline, most: int) -> None:
+    def __init__(
+        self, connection: socket.socket, deadline: Deadline, most: int
+    ) -> None:
         self._connection, self._deadline, self._most = connection, deadline, most
 
     def sendall(self, data: bytes) -> None:
@@ -131,7 +146,12 @@ class FarEnd:
         return Deadline(self.seconds)
 
     def exchange(
-        self, deadline: Deadline, method: str, target: str, body: bytes, headers: dict[str, str]
+        self,
+        deadline: Deadline,
+        method: str,
+        target: str,
+        body: bytes,
+        headers: dict[str, str],
     ) -> Response | None:
         """Sends a request on a connection of its own, and takes its response, of which no redirect is followed. None
         where no whole response came within the limits, or a connection didn't come about; the log has why. Only the
@@ -140,7 +160,9 @@ class FarEnd:
         try:
             deadline.left()
             with _connected(self.address, self.tls, deadline) as connection:
-                asking = self._asking(_Timed(connection, deadline, self.longest + _AROUND))
+                asking = self._asking(
+                    _Timed(connection, deadline, self.longest + _AROUND)
+                )
                 asking.putrequest(method, target, skip_accept_encoding=True)
                 for name, value in headers.items():
                     asking.putheader(name, value)
@@ -148,8 +170,18 @@ class FarEnd:
                     asking.putheader("Content-Length", str(len(body)))
                 asking.endheaders(body or None)
                 return _taken(asking.getresponse(), self.longest)
-        except (OSError, http.client.HTTPException, ValueError) as error:  # that of an odd size of a chunk, for one
-            _log.warning("%s %s at %s has no answer: %r", method, target.partition("?")[0], self.address.host, error)
+        except (
+            OSError,
+            http.client.HTTPException,
+            ValueError,
+        ) as error:  # that of an odd size of a chunk, for one
+            _log.warning(
+                "%s %s at %s has no answer: %r",
+                method,
+                target.partition("?")[0],
+                self.address.host,
+                error,
+            )
             return None
 
     def _asking(self, connection: _Timed) -> http.client.HTTPConnection:
@@ -179,7 +211,9 @@ def _taken(response: http.client.HTTPResponse, longest: int) -> Response:
 
 
 @contextlib.contextmanager
-def _connected(address: Address, tls: ssl.SSLContext, deadline: Deadline) -> Iterator[socket.socket]:
+def _connected(
+    address: Address, tls: ssl.SSLContext, deadline: Deadline
+) -> Iterator[socket.socket]:
     with _open(address, deadline) as plain:
         if not address.is_tls:
             yield plain

@@ -1,6 +1,6 @@
 """The library, loaded once, and its exports with the types that include/osb.h gives them.
 
-A call keeps the interpreter's lock: the calls are short, and so one call at a time is made on what is shared.
+A call keeps the interpreter's lock, since the calls are short.
 """
 from __future__ import annotations
 
@@ -8,23 +8,10 @@ import ctypes as c
 import os
 from typing import Any
 
-from osb._structs import (
-    CAnswer,
-    CAsked,
-    CBegun,
-    CBroker,
-    CBrokerRow,
-    CHolding,
-    CId,
-    CPlan,
-    CPlatform,
-    CPlatformRow,
-    CRecord,
-    CRequest,
-)
+from osb._structs import CAnswer, CAsked, CBegun, CHolding, CId, CPlan, CPlatformRow, CRecord, CRequest
 
 # OSB_VERSION of the header that this package is written for.
-VERSION = 200
+VERSION = 300
 
 _BYTE, _SHORT, _INT, _LONG, _SIZE, _BOOL, _TEXT = (
     c.c_uint8,
@@ -36,13 +23,7 @@ _BYTE, _SHORT, _INT, _LONG, _SIZE, _BOOL, _TEXT = (
     c.c_char_p,
 )
 _NEEDED, _SECONDS = c.POINTER(c.c_size_t), c.POINTER(c.c_uint64)
-_PLATFORM, _BROKER, _ID, _REQUEST, _ANSWER = (
-    c.POINTER(CPlatform),
-    c.POINTER(CBroker),
-    c.POINTER(CId),
-    c.POINTER(CRequest),
-    c.POINTER(CAnswer),
-)
+_ID, _REQUEST, _ANSWER = c.POINTER(CId), c.POINTER(CRequest), c.POINTER(CAnswer)
 _RECORD, _HOLDING, _BEGUN, _ASKED, _PLAN = (
     c.POINTER(CRecord),
     c.POINTER(CHolding),
@@ -50,7 +31,7 @@ _RECORD, _HOLDING, _BEGUN, _ASKED, _PLAN = (
     c.POINTER(CAsked),
     c.POINTER(CPlan),
 )
-_PLATFORM_ROW, _BROKER_ROW = c.POINTER(CPlatformRow), c.POINTER(CBrokerRow)
+_PLATFORM_ROW = c.POINTER(CPlatformRow)
 # A text that is read: where it is, and its length. A text that is written: the buffer, its length, what is needed.
 _READ, _WRITTEN = [_TEXT, _SIZE], [_TEXT, _SIZE, _NEEDED]
 
@@ -66,23 +47,6 @@ EXPORTS: list[tuple[str, Any, list[Any]]] = [
     ("osb_decide_poll", _BYTE, [_BYTE, CAnswer]),
     ("osb_decide_timeout", _BYTE, [_BYTE]),
     ("osb_decide_restart", _BYTE, [_BYTE]),
-    ("osb_platform_new", _INT, [_PLATFORM]),
-    ("osb_platform_free", None, [_PLATFORM]),
-    ("osb_platform_create", _INT, [_PLATFORM, CId, CId, CId, _BOOL, _REQUEST]),
-    ("osb_platform_send", _INT, [_PLATFORM, CId, _REQUEST]),
-    ("osb_platform_answer", _INT, [_PLATFORM, CId, CAnswer]),
-    ("osb_platform_timeout", _INT, [_PLATFORM, CId]),
-    ("osb_platform_expire", _INT, [_PLATFORM, CId]),
-    ("osb_platform_remove", _INT, [_PLATFORM, CId]),
-    ("osb_platform_row", _INT, [_PLATFORM, CId, _PLATFORM_ROW]),
-    ("osb_platform_ids", _INT, [_PLATFORM, _ID, _SIZE, _NEEDED]),
-    ("osb_platform_save", _INT, [_PLATFORM, *_WRITTEN]),
-    ("osb_platform_load", _INT, [_PLATFORM, *_READ]),
-    ("osb_broker_new", _INT, [_BROKER, _PLAN, _SIZE]),
-    ("osb_broker_free", None, [_BROKER]),
-    ("osb_broker_handle", _INT, [_BROKER, _REQUEST, _BYTE, _ANSWER]),
-    ("osb_broker_finish", _INT, [_BROKER, CId, _BOOL]),
-    ("osb_broker_row", _INT, [_BROKER, CId, _BROKER_ROW]),
     ("osb_record_create", None, [CId, CId, CId, _BOOL, _RECORD, _REQUEST]),
     ("osb_record_from_row", _INT, [_PLATFORM_ROW, _RECORD]),
     ("osb_record_send", _INT, [_RECORD, CId, _REQUEST]),
@@ -123,16 +87,22 @@ def _load() -> c.PyDLL:
     try:
         library = c.PyDLL(name)
     except OSError as error:
-        raise ImportError(f"libosb isn't found: {error} (LIBOSB names its file)") from error
+        raise ImportError(
+            f"libosb isn't found: {error} (LIBOSB names its file)"
+        ) from error
     try:
         for export, given, taken in EXPORTS:
             function = getattr(library, export)
             function.restype, function.argtypes = given, taken
     except AttributeError as error:
-        raise ImportError(f"{name} is the library of another version: {error}") from error
+        raise ImportError(
+            f"{name} is the library of another version: {error}"
+        ) from error
     found = library.osb_version()
     if found // 100 != VERSION // 100:
-        raise ImportError(f"{name} has the version {found}, and this package is for {VERSION}")
+        raise ImportError(
+            f"{name} has the version {found}, and this package is for {VERSION}"
+        )
     return library
 
 

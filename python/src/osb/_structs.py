@@ -12,23 +12,26 @@ class CId(c.Structure):
 
 
 class CRequest(c.Structure):
-    _fields_ = [("kind", c.c_uint8), ("accepts_incomplete", c.c_bool), ("id", CId), ("service", CId), ("plan", CId)]
+    _fields_ = [
+        ("kind", c.c_uint8),
+        ("accepts_incomplete", c.c_bool),
+        ("id", CId),
+        ("service", CId),
+        ("plan", CId),
+    ]
 
 
 class CAnswer(c.Structure):
     _fields_ = [("status", c.c_uint16), ("body", c.c_uint8)]
 
 
-class CPlatform(c.Structure):
-    _fields_ = [("at", c.c_void_p)]
-
-
 class CPlatformRow(c.Structure):
-    _fields_ = [("service", CId), ("plan", CId), ("state", c.c_uint8), ("out", c.c_uint8)]
-
-
-class CBroker(c.Structure):
-    _fields_ = [("at", c.c_void_p)]
+    _fields_ = [
+        ("service", CId),
+        ("plan", CId),
+        ("state", c.c_uint8),
+        ("out", c.c_uint8),
+    ]
 
 
 class CPlan(c.Structure):
@@ -40,7 +43,13 @@ class CBrokerRow(c.Structure):
 
 
 class CRecord(c.Structure):
-    _fields_ = [("service", CId), ("plan", CId), ("attempt", c.c_uint64), ("state", c.c_uint8), ("out", c.c_uint8)]
+    _fields_ = [
+        ("service", CId),
+        ("plan", CId),
+        ("attempt", c.c_uint64),
+        ("state", c.c_uint8),
+        ("out", c.c_uint8),
+    ]
 
 
 class CHolding(c.Structure):

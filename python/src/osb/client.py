@@ -100,12 +100,21 @@ class Client:
             "Accept": CONTENT_TYPE,
             "Connection": "close",
         }
-        self._far_end = FarEnd(Address.of(url), tls or ssl.create_default_context(), seconds, longest_body)
+        self._far_end = FarEnd(
+            Address.of(url), tls or ssl.create_default_context(), seconds, longest_body
+        )
         self._records, self._organization, self._space = records, organization, space
 
-    def create(self, id: Id, service: Id, plan: Id, accepts_incomplete: bool = True, further: str = "{}") -> Exchanged:
+    def create(
+        self,
+        id: Id,
+        service: Id,
+        plan: Id,
+        accepts_incomplete: bool = True,
+        further: str = "{}",
+    ) -> Exchanged:
         """Records a new instance, and sends its Provision. `further` is the text of an object with the members that the
-        body has besides, as parameters. Raises ID_USED, NOT_JSON, NOT_AN_OBJECT, NOT_UTF8: nothing is then recorded or
+        body has besides, as parameters. Raises `IdUsed`, NOT_JSON, NOT_AN_OBJECT, NOT_UTF8: nothing is then recorded or
         sent.
         """
         deadline = self._far_end.deadline()
@@ -115,26 +124,28 @@ class Client:
         return self._exchange(deadline, _Sent(request, record.attempt, None), body)
 
     def step(self, id: Id) -> Exchanged:
-        """Sends the request that is due: a Poll or a Deprovision. Raises UNKNOWN, BUSY, NOTHING_DUE,
+        """Sends the request that is due: a Poll or a Deprovision. Raises `UnknownId`, BUSY, NOTHING_DUE,
         ATTEMPTS_USED_UP: nothing is then sent.
         """
 
         def sent(kept: Kept) -> tuple[Kept, _Sent]:
             record, request = kept.record.send(id)
             operation = kept.operation if request.kind == Kind.POLL else None
-            return Kept(record, kept.operation), _Sent(request, record.attempt, operation)
+            return Kept(record, kept.operation), _Sent(
+                request, record.attempt, operation
+            )
 
         deadline = self._far_end.deadline()
         return self._exchange(deadline, self._records.update(id, sent), b"")
 
     def remove(self, id: Id) -> Record:
-        """Has the instance deleted, as an operator asks: its Deprovision is then due. Raises UNKNOWN, BUSY,
+        """Has the instance deleted, as an operator asks: its Deprovision is then due. Raises `UnknownId`, BUSY,
         NOT_REMOVABLE.
         """
         return self._changed(id, Record.remove)
 
     def expire(self, id: Id) -> Record:
-        """Gives up polling, as the maximum polling duration has passed: a Deprovision is then due. Raises UNKNOWN,
+        """Gives up polling, as the maximum polling duration has passed: a Deprovision is then due. Raises `UnknownId`,
         BUSY, NOT_POLLING.
         """
         return self._changed(id, Record.expire)
@@ -142,20 +153,27 @@ class Client:
     def give_up(self, id: Id) -> Record:
         """Gives up the request in flight, as what a crash left there, or a `create` or a `step` whose last transaction
         failed in the store: it may be done or not, and what is due then finds out. Where none is in flight, nothing
-        changes. Raises UNKNOWN.
+        changes. Raises `UnknownId`.
         """
-        return self._changed(id, lambda record: record if record.out is None else record.timeout(record.attempt))
+        return self._changed(
+            id,
+            lambda record: record
+            if record.out is None
+            else record.timeout(record.attempt),
+        )
 
     def catalogue(self) -> tuple[int, bytes] | None:
         """Asks the broker for its catalogue: the status of its answer, and the body, which with 200 is the document; or
         None where none came whole. Nothing is recorded.
         """
         target = self._far_end.address.prefix + "/v2/catalog"
-        response = self._far_end.exchange(self._far_end.deadline(), "GET", target, b"", self._headers)
+        response = self._far_end.exchange(
+            self._far_end.deadline(), "GET", target, b"", self._headers
+        )
         return None if response is None else (response.status, response.body)
 
     def record(self, id: Id) -> Record:
-        """What is recorded of the instance. Raises UNKNOWN."""
+        """What is recorded of the instance. Raises `UnknownId`."""
         return self._changed(id, lambda record: record)
 
     def _changed(self, id: Id, call: Callable[[Record], Record]) -> Record:
@@ -169,16 +187,26 @@ class Client:
         """The deadline is from before the request was recorded: after it the request can't leave any more."""
         response = self._response(deadline, sent.request, sent.operation, body)
         heard = None if response is None else _heard(sent.request.kind, response)
-        record, answer = self._records.update(sent.request.id, lambda kept: _taken(kept, sent, heard))
+        record, answer = self._records.update(
+            sent.request.id, lambda kept: _taken(kept, sent, heard)
+        )
         named = None if response is None else response.retry_after
         return Exchanged(record, answer, None if named is None else retry_after(named))
 
-    def _response(self, deadline: Deadline, request: Request, operation: str | None, body: bytes) -> Response | None:
-        headers = {**self._headers, "Content-Type": CONTENT_TYPE} if body else self._headers
-        target = _unless_memory(lambda: write_target(request, operation, self._far_end.address.prefix))
+    def _response(
+        self, deadline: Deadline, request: Request, operation: str | None, body: bytes
+    ) -> Response | None:
+        headers = (
+            {**self._headers, "Content-Type": CONTENT_TYPE} if body else self._headers
+        )
+        target = _unless_memory(
+            lambda: write_target(request, operation, self._far_end.address.prefix)
+        )
         if target is None:
             return None
-        return self._far_end.exchange(deadline, write_method(request.kind), target, body, headers)
+        return self._far_end.exchange(
+            deadline, write_method(request.kind), target, body, headers
+        )
 
 
 def _unless_memory(call: Callable[[], T]) -> T | None:
@@ -197,14 +225,22 @@ def _heard(kind: Kind, response: Response) -> _Heard | None:
     def read() -> _Heard | None:
         answer = read_answer(kind, response.status, response.body)
         if answer is None:
-            _log.warning("an answer of %d to a %s isn't surely the broker's", response.status, kind.name.lower())
+            _log.warning(
+                "an answer of %d to a %s isn't surely the broker's",
+                response.status,
+                kind.name.lower(),
+            )
             return None
-        return _Heard(answer, read_operation(response.body) if response.status == 202 else None)
+        return _Heard(
+            answer, read_operation(response.body) if response.status == 202 else None
+        )
 
     return _unless_memory(read)
 
 
-def _taken(kept: Kept, sent: _Sent, heard: _Heard | None) -> tuple[Kept, tuple[Record, Answer | None]]:
+def _taken(
+    kept: Kept, sent: _Sent, heard: _Heard | None
+) -> tuple[Kept, tuple[Record, Answer | None]]:
     """What is kept after the answer or the timeout, and the answer that was taken. Where the request was given up
     meanwhile, what is kept is as before, and no answer is taken.
     """

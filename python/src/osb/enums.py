@@ -20,21 +20,15 @@ class _Named(enum.IntEnum):
 
 
 class Status(_Named):
-    """What became of a call. `OsbError` has the meaning of each."""
+    """What became of a call. `OsbError` has the meaning of each. No number ever changes or is used again."""
 
     DONE = 0
     MEMORY = 1
-    EMPTY_HANDLE = 2
-    FULL_HANDLE = 3
-    ID_USED = 4
-    UNKNOWN = 5
     BUSY = 6
     NOTHING_DUE = 7
-    NO_REQUEST = 8
     NOT_POLLING = 9
     NOT_REMOVABLE = 10
     NOTHING_RUNNING = 11
-    NOT_HELD = 12
     PLAN_TWICE = 13
     BAD_KIND = 14
     BAD_OUTCOME = 15
@@ -45,7 +39,6 @@ class Status(_Named):
     NOT_AN_OBJECT = 20
     BAD_VERSION = 21
     BAD_OUTER = 22
-    BAD_KEY = 23
     BAD_MEMBER = 24
     BAD_RECORD = 25
     BAD_HOLDING = 26

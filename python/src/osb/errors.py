@@ -11,17 +11,11 @@ from osb.enums import Status
 MEANINGS: dict[Status, str] = {
     Status.DONE: "it was done",
     Status.MEMORY: "out of memory: an allocation failed",
-    Status.EMPTY_HANDLE: "the handle is empty",
-    Status.FULL_HANDLE: "the handle isn't empty",
-    Status.ID_USED: "the id is recorded already, in any state",
-    Status.UNKNOWN: "the id isn't recorded",
     Status.BUSY: "a request is in flight",
     Status.NOTHING_DUE: "in ready, gone and unsettled no request is due",
-    Status.NO_REQUEST: "no request of the instance is in flight",
     Status.NOT_POLLING: "none is in flight, and the state isn't polling",
     Status.NOT_REMOVABLE: "none is in flight, and the state isn't polling, ready or unsettled",
     Status.NOTHING_RUNNING: "the instance is neither being made nor being deleted",
-    Status.NOT_HELD: "the broker has no row of the instance",
     Status.PLAN_TWICE: "two of the plans have the same service and plan",
     Status.BAD_KIND: "the number stands for no kind of request",
     Status.BAD_OUTCOME: "the number stands for no outcome",
@@ -32,7 +26,6 @@ MEANINGS: dict[Status, str] = {
     Status.NOT_AN_OBJECT: "the value isn't an object",
     Status.BAD_VERSION: "the version in the text isn't that of its format",
     Status.BAD_OUTER: "the members of the object aren't those of its format",
-    Status.BAD_KEY: "some instance's name isn't the text of an id in lower case",
     Status.BAD_MEMBER: "some member isn't what its format has there",
     Status.BAD_RECORD: "the struct is no record that a call gives",
     Status.BAD_HOLDING: "the struct is no holding that a call gives",
@@ -88,7 +81,9 @@ class Refusal(OsbError):
         super().__init__(status)
         self.http_status = int(lib.osb_refusal_status(self.status))
         done, self.body = written(
-            lambda buffer, length, needed: int(lib.osb_refusal_body(self.status, buffer, length, needed))
+            lambda buffer, length, needed: int(
+                lib.osb_refusal_body(self.status, buffer, length, needed)
+            )
         )
         if done != Status.DONE:
             raise OsbError(done)

@@ -33,7 +33,10 @@ class Holding:
     @property
     def is_unfinished(self) -> bool:
         """Whether somebody has to go on with it: work is recorded, or an operation runs."""
-        running = self.row is not None and self.row.phase in (Phase.MAKING, Phase.DELETING)
+        running = self.row is not None and self.row.phase in (
+            Phase.MAKING,
+            Phase.DELETING,
+        )
         return running or self.work is not None
 
     def fits(self, mode: Mode | None) -> bool:
@@ -42,14 +45,18 @@ class Holding:
         """
         return bool(lib.osb_holding_fits(_to(self), mode_to(mode)))
 
-    def begin(self, mode: Mode | None, request: Request) -> tuple[Holding, Answer | Work]:
+    def begin(
+        self, mode: Mode | None, request: Request
+    ) -> tuple[Holding, Answer | Work]:
         """Begins with a request to this instance: gives the answer to send, or the work that is due and is recorded.
 
         The holding is written to the database where it differs, before the work begins or the answer is sent.
         """
         holding, begun = _to(self), CBegun()
         check(lib.osb_holding_begin(holding, mode_to(mode), request_to(request), begun))
-        due: Answer | Work = answer_from(begun.answer) if begun.work == WORK_NONE else Work(begun.work)
+        due: Answer | Work = (
+            answer_from(begun.answer) if begun.work == WORK_NONE else Work(begun.work)
+        )
         return _from(holding), due
 
     def end(self, mode: Mode | None, outcome: Outcome) -> tuple[Holding, Answer]:
@@ -57,7 +64,9 @@ class Holding:
         holding is written to the database before the answer is sent. Raises NOTHING_BEGUN.
         """
         holding, answer = _to(self), CAnswer()
-        check(lib.osb_holding_end(holding, mode_to(mode), Outcome(outcome).value, answer))
+        check(
+            lib.osb_holding_end(holding, mode_to(mode), Outcome(outcome).value, answer)
+        )
         return _from(holding), answer_from(answer)
 
     def finish(self, ok: bool) -> Holding:
@@ -66,19 +75,31 @@ class Holding:
         check(lib.osb_holding_finish(holding, ok))
         return _from(holding)
 
-    def handle(self, mode: Mode | None, request: Request, outcome: Outcome) -> tuple[Holding, Answer]:
+    def handle(
+        self, mode: Mode | None, request: Request, outcome: Outcome
+    ) -> tuple[Holding, Answer]:
         """`begin`, and where work is due `end` with this outcome, with nothing between: for tests, and for brokers
         whose work can't be interrupted.
         """
         holding, answer = _to(self), CAnswer()
-        check(lib.osb_holding_handle(holding, mode_to(mode), request_to(request), Outcome(outcome).value, answer))
+        check(
+            lib.osb_holding_handle(
+                holding,
+                mode_to(mode),
+                request_to(request),
+                Outcome(outcome).value,
+                answer,
+            )
+        )
         return _from(holding), answer_from(answer)
 
     def to_text(self) -> str:
         """The text of the holding, for a column of a database."""
         holding = _to(self)
         return text_of(
-            lambda buffer, length, needed: int(lib.osb_holding_to_text(holding, buffer, length, needed))
+            lambda buffer, length, needed: int(
+                lib.osb_holding_to_text(holding, buffer, length, needed)
+            )
         ).decode()
 
     @classmethod
@@ -104,7 +125,9 @@ def work_of(kind: Kind, mode: Mode | None) -> Work | None:
 
 def _to(holding: Holding) -> CHolding:
     made = CHolding(
-        has_row=holding.row is not None, has_work=holding.work is not None, is_marked=bool(holding.is_marked)
+        has_row=holding.row is not None,
+        has_work=holding.work is not None,
+        is_marked=bool(holding.is_marked),
     )
     if holding.row is not None:
         made.row = broker_row_to(holding.row)

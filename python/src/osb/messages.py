@@ -33,7 +33,7 @@ class Answer:
 
 @dataclass(frozen=True)
 class PlatformRow:
-    """What a `Platform` has recorded of an instance."""
+    """An instance as a saved record of version 0.2 or earlier names it (docs/saved-record.md)."""
 
     service: Id
     plan: Id

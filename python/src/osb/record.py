@@ -32,20 +32,24 @@ class Record:
         _in_range(self.attempt)
 
     @classmethod
-    def create(cls, id: Id, service: Id, plan: Id, accepts_incomplete: bool) -> tuple[Record, Request]:
+    def create(
+        cls, id: Id, service: Id, plan: Id, accepts_incomplete: bool
+    ) -> tuple[Record, Request]:
         """A new instance, wanted, and its Provision, which is then in flight with the number 1.
 
         The record is written to the database under the id before the request is sent, and never deleted; the database
         has to refuse an id that is there.
         """
         record, request = CRecord(), CRequest()
-        lib.osb_record_create(id_to(id), id_to(service), id_to(plan), accepts_incomplete, record, request)
+        lib.osb_record_create(
+            id_to(id), id_to(service), id_to(plan), accepts_incomplete, record, request
+        )
         return _from(record), request_from(request)
 
     @classmethod
     def from_platform_row(cls, row: PlatformRow) -> Record:
-        """The first record of an instance that a `Platform` has recorded until now, as after a restart. Called once
-        for an instance, as a platform moves to a database. Raises BAD_ROW.
+        """The first record of an instance that a saved record names, as after a restart. Call it once for each
+        instance, when a platform moves from a saved record to a database. Raises BAD_ROW.
         """
         record = CRecord()
         check(lib.osb_record_from_row(platform_row_to(row), record))
@@ -89,7 +93,9 @@ class Record:
         """The text of the record, for a column of a database."""
         record = _to(self)
         return text_of(
-            lambda buffer, length, needed: int(lib.osb_record_to_text(record, buffer, length, needed))
+            lambda buffer, length, needed: int(
+                lib.osb_record_to_text(record, buffer, length, needed)
+            )
         ).decode()
 
     @classmethod
@@ -110,11 +116,19 @@ def _in_range(attempt: int) -> int:
 
 def _to(record: Record) -> CRecord:
     return CRecord(
-        id_to(record.service), id_to(record.plan), record.attempt, State(record.state).value, kind_to(record.out)
+        id_to(record.service),
+        id_to(record.plan),
+        record.attempt,
+        State(record.state).value,
+        kind_to(record.out),
     )
 
 
 def _from(record: CRecord) -> Record:
     return Record(
-        id_from(record.service), id_from(record.plan), record.attempt, State(record.state), kind_from(record.out)
+        id_from(record.service),
+        id_from(record.plan),
+        record.attempt,
+        State(record.state),
+        kind_from(record.out),
     )

@@ -6,8 +6,7 @@ import threading
 from dataclasses import dataclass
 from typing import Callable, Protocol, TypeVar
 
-from osb.enums import State, Status
-from osb.errors import OsbError
+from osb.enums import State
 from osb.ids import Id
 from osb.record import Record
 from osb.sqlite import Path, transaction
@@ -30,14 +29,28 @@ class Kept:
         return self.record.state not in _AT_REST
 
 
+class IdUsed(Exception):
+    """The id of a new instance is recorded already, in any state. An id is never used twice."""
+
+    def __init__(self, id: Id) -> None:
+        super().__init__(f"{id}: the id is recorded already")
+
+
+class UnknownId(Exception):
+    """The id isn't recorded."""
+
+    def __init__(self, id: Id) -> None:
+        super().__init__(f"{id}: the id isn't recorded")
+
+
 class RecordStore(Protocol):
     """Where a platform keeps a row for each instance: its id, the text of its record, and the operation of its Polls.
     No row is ever deleted.
     """
 
     def insert(self, id: Id, kept: Kept) -> None:
-        """Writes a new row, and commits. Raises `OsbError` (ID_USED) where the id has one; it stays as it was. So the
-        id is the primary key.
+        """Writes a new row, and commits. Raises `IdUsed` if the id has one, which stays as it was. So the id is the
+        primary key.
         """
         ...
 
@@ -46,7 +59,7 @@ class RecordStore(Protocol):
 
         Hands what is kept to `change`, writes what it gives where it differs, and commits; returns the rest of what it
         gives. Once `update` returns, what was written stays. Where `change` raises, nothing is written, and `update`
-        raises the same. Raises `OsbError` (UNKNOWN) where the id has no row.
+        raises the same. Raises `UnknownId` if the id has no row.
         """
         ...
 
@@ -66,14 +79,14 @@ class MemoryRecords:
         """As `RecordStore` says."""
         with self._lock:
             if id in self._kept:
-                raise OsbError(Status.ID_USED, str(id))
+                raise IdUsed(id)
             self._kept[id] = kept
 
     def update(self, id: Id, change: Callable[[Kept], tuple[Kept, T]]) -> T:
         """As `RecordStore` says."""
         with self._lock:
             if id not in self._kept:
-                raise OsbError(Status.UNKNOWN, str(id))
+                raise UnknownId(id)
             self._kept[id], given = change(self._kept[id])
             return given
 
@@ -94,15 +107,20 @@ class SqliteRecords:
                 "CREATE TABLE IF NOT EXISTS records (id TEXT PRIMARY KEY, record TEXT NOT NULL, "
                 "operation TEXT, pending INTEGER NOT NULL) WITHOUT ROWID"
             )
-            database.execute("CREATE INDEX IF NOT EXISTS pending_records ON records (id) WHERE pending")
+            database.execute(
+                "CREATE INDEX IF NOT EXISTS pending_records ON records (id) WHERE pending"
+            )
 
     def insert(self, id: Id, kept: Kept) -> None:
         """As `RecordStore` says."""
         with transaction(self._path, self._seconds) as database:
             try:
-                database.execute("INSERT INTO records VALUES (?, ?, ?, ?)", [str(id), *_columns(kept)])
+                database.execute(
+                    "INSERT INTO records VALUES (?, ?, ?, ?)",
+                    [str(id), *_columns(kept)],
+                )
             except sqlite3.IntegrityError as error:
-                raise OsbError(Status.ID_USED, str(id)) from error
+                raise IdUsed(id) from error
 
     def update(self, id: Id, change: Callable[[Kept], tuple[Kept, T]]) -> T:
         """As `RecordStore` says."""
@@ -111,7 +129,7 @@ class SqliteRecords:
                 "SELECT record, operation FROM records WHERE id = ?", [str(id)]
             ).fetchone()
             if found is None:
-                raise OsbError(Status.UNKNOWN, str(id))
+                raise UnknownId(id)
             before = Kept(Record.from_text(found[0]), found[1])
             after, given = change(before)
             if after != before:
@@ -124,7 +142,12 @@ class SqliteRecords:
     def pending(self) -> list[Id]:
         """As `RecordStore` says."""
         with transaction(self._path, self._seconds) as database:
-            return [Id.of(text) for (text,) in database.execute("SELECT id FROM records WHERE pending ORDER BY id")]
+            return [
+                Id.of(text)
+                for (text,) in database.execute(
+                    "SELECT id FROM records WHERE pending ORDER BY id"
+                )
+            ]
 
 
 def _columns(kept: Kept) -> tuple[str, str | None, bool]:

@@ -78,11 +78,20 @@ class LostWork(Exception):
 class BrokerService:
     """A broker of these plans. Any number of threads may use it, as far as the store and the worker allow it."""
 
-    def __init__(self, plans: Iterable[Plan], store: Store, worker: Worker, lock: Lock | None = None) -> None:
+    def __init__(
+        self,
+        plans: Iterable[Plan],
+        store: Store,
+        worker: Worker,
+        lock: Lock | None = None,
+    ) -> None:
         """`lock`: held by who works at an instance, from before what is recorded is read until its end is written.
         Without one, nothing keeps `resume` from working where a request's work is being done.
         """
-        self._modes = {(it.service, it.plan): Mode.ASYNC if it.is_asynchronous else Mode.SYNC for it in plans}
+        self._modes = {
+            (it.service, it.plan): Mode.ASYNC if it.is_asynchronous else Mode.SYNC
+            for it in plans
+        }
         self._store, self._worker, self._lock = store, worker, lock
 
     def mode(self, service: Id, plan: Id) -> Mode | None:
@@ -94,14 +103,21 @@ class BrokerService:
         it was read.
         """
         while True:
-            request, begun = self._store.update(asked.id, lambda holding: self._begin(holding, asked))
+            request, begun = self._store.update(
+                asked.id, lambda holding: self._begin(holding, asked)
+            )
             if isinstance(begun, Answer):
                 return begun
             task = Task(begun, request, body, False)
             if self._lock is None:
                 return self._work(task)
             with self._lock(asked.id):
-                if self._store.update(asked.id, lambda holding: (holding, holding.work)) == request:
+                if (
+                    self._store.update(
+                        asked.id, lambda holding: (holding, holding.work)
+                    )
+                    == request
+                ):
                     return self._work(task)
             # Whoever had the lock before has done this work: then it is as if the request arrived again.
 
@@ -116,7 +132,9 @@ class BrokerService:
         def finished(holding: Holding) -> tuple[Holding, None]:
             self._check(id, holding)
             if holding.work is not None:
-                raise StillRecorded(f"the work that starts the operation on {id} is still recorded")
+                raise StillRecorded(
+                    f"the work that starts the operation on {id} is still recorded"
+                )
             return holding.finish(ok), None
 
         self._store.update(id, finished)
@@ -148,16 +166,29 @@ class BrokerService:
             return holding, holding.work
 
         request = self._store.update(id, recorded)
-        work = None if request is None else work_of(request.kind, self.mode(request.service, request.plan))
+        work = (
+            None
+            if request is None
+            else work_of(request.kind, self.mode(request.service, request.plan))
+        )
         if request is not None and work is not None:
             self._work(Task(work, request, None, True))
 
     def running(self) -> dict[Id, BrokerRow]:
         """The instances on which an operation runs, with what is held of them: each goes on until `finish`."""
-        rows = {id: self._store.update(id, lambda holding: (holding, holding.row)) for id in self._store.unfinished()}
-        return {id: row for id, row in rows.items() if row is not None and row.phase in (Phase.MAKING, Phase.DELETING)}
+        rows = {
+            id: self._store.update(id, lambda holding: (holding, holding.row))
+            for id in self._store.unfinished()
+        }
+        return {
+            id: row
+            for id, row in rows.items()
+            if row is not None and row.phase in (Phase.MAKING, Phase.DELETING)
+        }
 
-    def _begin(self, holding: Holding, asked: Asked) -> tuple[Holding, tuple[Request, Answer | Work]]:
+    def _begin(
+        self, holding: Holding, asked: Asked
+    ) -> tuple[Holding, tuple[Request, Answer | Work]]:
         self._check(asked.id, holding)
         row = holding.row
         request = asked.request(None if row is None else (row.service, row.plan))

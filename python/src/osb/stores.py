@@ -61,7 +61,9 @@ class SqliteStore:
                 "CREATE TABLE IF NOT EXISTS holdings (id TEXT PRIMARY KEY, holding TEXT NOT NULL, "
                 "unfinished INTEGER NOT NULL) WITHOUT ROWID"
             )
-            database.execute("CREATE INDEX IF NOT EXISTS unfinished_holdings ON holdings (id) WHERE unfinished")
+            database.execute(
+                "CREATE INDEX IF NOT EXISTS unfinished_holdings ON holdings (id) WHERE unfinished"
+            )
 
     def update(self, id: Id, change: Callable[[Holding], tuple[Holding, T]]) -> T:
         """As `Store` says."""
@@ -82,4 +84,9 @@ class SqliteStore:
     def unfinished(self) -> list[Id]:
         """As `Store` says."""
         with transaction(self._path, self._seconds) as database:
-            return [Id.of(text) for (text,) in database.execute("SELECT id FROM holdings WHERE unfinished ORDER BY id")]
+            return [
+                Id.of(text)
+                for (text,) in database.execute(
+                    "SELECT id FROM holdings WHERE unfinished ORDER BY id"
+                )
+            ]

@@ -47,7 +47,9 @@ def read_answer(kind: Kind, status: int, body: bytes) -> Answer | None:
     it isn't surely the broker's: a timeout is taken in its place.
     """
     answer = CAnswer()
-    done = lib.osb_read_answer(Kind(kind).value, _status(status), body, len(body), answer)
+    done = lib.osb_read_answer(
+        Kind(kind).value, _status(status), body, len(body), answer
+    )
     if done == Status.NO_ANSWER:
         return None
     check(done)
@@ -59,7 +61,9 @@ def read_operation(body: bytes) -> str | None:
     None where it names none.
     """
     status, text = written(
-        lambda buffer, length, needed: int(lib.osb_read_operation(body, len(body), buffer, length, needed))
+        lambda buffer, length, needed: int(
+            lib.osb_read_operation(body, len(body), buffer, length, needed)
+        )
     )
     return _operation(status, text)
 
@@ -67,11 +71,15 @@ def read_operation(body: bytes) -> str | None:
 def write_method(kind: Kind) -> str:
     """The method of a request of the kind: PUT, GET or DELETE."""
     return text_of(
-        lambda buffer, length, needed: int(lib.osb_write_method(Kind(kind).value, buffer, length, needed))
+        lambda buffer, length, needed: int(
+            lib.osb_write_method(Kind(kind).value, buffer, length, needed)
+        )
     ).decode()
 
 
-def write_target(request: Request, operation: str | None = None, prefix: str = "") -> str:
+def write_target(
+    request: Request, operation: str | None = None, prefix: str = ""
+) -> str:
     """The target of a request: the path, which begins with the prefix (what the broker's URL has before /v2, with no
     `?`), and the query. The operation is the broker's; give one to a Poll alone. Raises NOT_UTF8.
     """
@@ -79,20 +87,36 @@ def write_target(request: Request, operation: str | None = None, prefix: str = "
     return text_of(
         lambda buffer, length, needed: int(
             lib.osb_write_target(
-                front, len(front), given, operation is not None, named, len(named), buffer, length, needed
+                front,
+                len(front),
+                given,
+                operation is not None,
+                named,
+                len(named),
+                buffer,
+                length,
+                needed,
             )
         )
     ).decode()
 
 
-def write_body(request: Request, organization: str, space: str, further: str = "{}") -> bytes:
+def write_body(
+    request: Request, organization: str, space: str, further: str = "{}"
+) -> bytes:
     """The body of a request: of a Provision an object of the ids, the organization and the space, neither of which may
     be empty, and the members of `further`, the text of an object, as context, parameters or maintenance_info; else an
     empty text. Raises NOT_UTF8, NOT_JSON, NOT_AN_OBJECT.
     """
-    given, texts = request_to(request), [utf8(it) for it in (organization, space, further)]
+    given, texts = request_to(request), [
+        utf8(it) for it in (organization, space, further)
+    ]
     lengths = [part for text in texts for part in (text, len(text))]
-    return text_of(lambda buffer, length, needed: int(lib.osb_write_body(given, *lengths, buffer, length, needed)))
+    return text_of(
+        lambda buffer, length, needed: int(
+            lib.osb_write_body(given, *lengths, buffer, length, needed)
+        )
+    )
 
 
 def retry_after(value: str) -> int | None:
@@ -134,11 +158,17 @@ class Asked:
         )
         service, plan = held or (nothing, nothing)
         request = CRequest()
-        check(lib.osb_asked_request(asked, held is not None, id_to(service), id_to(plan), request))
+        check(
+            lib.osb_asked_request(
+                asked, held is not None, id_to(service), id_to(plan), request
+            )
+        )
         return request_from(request)
 
 
-def read_request(method: str, target: bytes, body: bytes, longest_body: int, prefix: str = "") -> Asked:
+def read_request(
+    method: str, target: bytes, body: bytes, longest_body: int, prefix: str = ""
+) -> Asked:
     """Reads what a request asks of a broker, from its method, its target (path and query, as the request line has them)
     and all of its body. A body of more than `longest_body` bytes is refused unread. Raises `Refusal`, the first that
     fits in the order of docs/wire.md, and NOT_UTF8.
@@ -146,7 +176,16 @@ def read_request(method: str, target: bytes, body: bytes, longest_body: int, pre
     front, way, asked = utf8(prefix), utf8(method), CAsked()
     check(
         lib.osb_read_request(
-            front, len(front), longest_body, way, len(way), target, len(target), body, len(body), asked
+            front,
+            len(front),
+            longest_body,
+            way,
+            len(way),
+            target,
+            len(target),
+            body,
+            len(body),
+            asked,
         )
     )
     return Asked(
@@ -161,7 +200,9 @@ def read_request(method: str, target: bytes, body: bytes, longest_body: int, pre
 def asked_operation(target: bytes) -> str | None:
     """The operation that the target of a Poll names, or None. Raises `Refusal`: it stands twice."""
     status, text = written(
-        lambda buffer, length, needed: int(lib.osb_asked_operation(target, len(target), buffer, length, needed))
+        lambda buffer, length, needed: int(
+            lib.osb_asked_operation(target, len(target), buffer, length, needed)
+        )
     )
     return _operation(status, text)
 
@@ -171,7 +212,9 @@ def write_answer(answer: Answer, operation: str | None = None) -> bytes:
     given, named = answer_to(answer), utf8(operation or "")
     return text_of(
         lambda buffer, length, needed: int(
-            lib.osb_write_answer(given, operation is not None, named, len(named), buffer, length, needed)
+            lib.osb_write_answer(
+                given, operation is not None, named, len(named), buffer, length, needed
+            )
         )
     )
 
@@ -190,7 +233,11 @@ def basic_auth(value: str | None, user: str, password: str) -> bool:
     """
     if value is None:
         return False
-    given = [part for text in (value, user, password) for part in (utf8(text), len(utf8(text)))]
+    given = [
+        part
+        for text in (value, user, password)
+        for part in (utf8(text), len(utf8(text)))
+    ]
     status = lib.osb_basic_auth(*given)
     if status == Status.UNAUTHORIZED:
         return False
@@ -204,10 +251,14 @@ def catalogue_plans(document: bytes) -> list[Plan]:
     BAD_SERVICE, NO_PLANS, BAD_PLAN, BAD_PLAN_MODE, PLAN_TWICE.
     """
     needed, buffer = c.c_size_t(0), (CPlan * 16)()
-    status = lib.osb_catalogue_plans(document, len(document), buffer, len(buffer), needed)
+    status = lib.osb_catalogue_plans(
+        document, len(document), buffer, len(buffer), needed
+    )
     if status == Status.TOO_SMALL:
         buffer = (CPlan * needed.value)()
-        status = lib.osb_catalogue_plans(document, len(document), buffer, len(buffer), needed)
+        status = lib.osb_catalogue_plans(
+            document, len(document), buffer, len(buffer), needed
+        )
     check(status)
     return [plan_from(it) for it in buffer[: needed.value]]
 

@@ -59,7 +59,9 @@ class BrokerApplication:
         self._catalogue, self._user, self._password = catalogue, user, password
         self._prefix, self._longest_body = prefix, longest_body
 
-    def __call__(self, environ: Environ, start_response: Callable[..., Any]) -> Iterable[bytes]:
+    def __call__(
+        self, environ: Environ, start_response: Callable[..., Any]
+    ) -> Iterable[bytes]:
         """Answers a request, as WSGI has it. What is raised on the way, as by the store, the worker or the lock, is
         logged, and answered with 500, or with 503 where memory was wanting.
         """
@@ -68,7 +70,11 @@ class BrokerApplication:
         except Exception as error:
             _log.exception("a request to %s wasn't done", environ.get("PATH_INFO", ""))
             reply = _failed(error)
-        headers = [("Content-Type", CONTENT_TYPE), ("Content-Length", str(len(reply.body))), *reply.headers]
+        headers = [
+            ("Content-Type", CONTENT_TYPE),
+            ("Content-Length", str(len(reply.body))),
+            *reply.headers,
+        ]
         start_response(_line(reply.status), headers)
         return [reply.body]
 
@@ -89,7 +95,9 @@ class BrokerApplication:
         return self._service.running()
 
     def _reply(self, environ: Environ) -> _Reply:
-        if not basic_auth(environ.get("HTTP_AUTHORIZATION"), self._user, self._password):
+        if not basic_auth(
+            environ.get("HTTP_AUTHORIZATION"), self._user, self._password
+        ):
             return _error(401, ("WWW-Authenticate", 'Basic realm="broker"'))
         try:
             api_version(environ.get("HTTP_X_BROKER_API_VERSION"))
@@ -98,7 +106,9 @@ class BrokerApplication:
         method, target = str(environ["REQUEST_METHOD"]), _target(environ)
         path = target.partition(b"?")[0]
         if path == (self._prefix + "/v2/catalog").encode():
-            return _Reply(200, self._catalogue) if method == "GET" else _not_allowed("GET")
+            return (
+                _Reply(200, self._catalogue) if method == "GET" else _not_allowed("GET")
+            )
         body = _body(environ, self._longest_body)
         if body is None:
             return _error(408)
@@ -122,7 +132,9 @@ def _target(environ: Environ) -> bytes:
         if environ.get(name):
             return str(environ[name]).encode("latin-1")
     decoded = environ.get("SCRIPT_NAME", "") + environ.get("PATH_INFO", "")
-    path, query = quote(decoded, safe="/:@!$&'()*+,;=-._~", encoding="latin-1"), environ.get("QUERY_STRING", "")
+    path, query = quote(
+        decoded, safe="/:@!$&'()*+,;=-._~", encoding="latin-1"
+    ), environ.get("QUERY_STRING", "")
     return (f"{path}?{query}" if query else path).encode("latin-1")
 
 
@@ -130,7 +142,9 @@ def _body(environ: Environ, longest: int) -> bytes | None:
     """The body, of which at most one byte more is read than it may have; or None where it didn't arrive whole, or where
     its end can't be told: then the platform may send the same request again and be heard.
     """
-    given, ends = str(environ.get("CONTENT_LENGTH") or ""), bool(environ.get("wsgi.input_terminated"))
+    given, ends = str(environ.get("CONTENT_LENGTH") or ""), bool(
+        environ.get("wsgi.input_terminated")
+    )
     if given and not (given.isascii() and given.isdigit()):
         return None
     if not given and not ends:
@@ -170,7 +184,9 @@ def _failed(error: Exception) -> _Reply:
     """500, or 503 where the library is out of memory. Neither takes memory from it."""
     if isinstance(error, OsbError) and error.status == Status.MEMORY:
         return _refused(Refusal(Status.MEMORY))
-    return _Reply(500, b'{"description":"The operation failed.","error":"InternalServerError"}')
+    return _Reply(
+        500, b'{"description":"The operation failed.","error":"InternalServerError"}'
+    )
 
 
 def _line(status: int) -> str:

@@ -3,7 +3,7 @@ use super::{events, orders, sides};
 use crate::words::first;
 use anyhow::{Context, Result};
 use osb_message::InstanceId;
-use osb_network::{InstanceEvent, Network, Order};
+use osb_network::{Event, InstanceEvent, Network, Order};
 use std::alloc::Global;
 
 // The event of `ID EVENT`.
@@ -43,4 +43,37 @@ pub(crate) fn tell(rt: &impl Print, alloc: Global, line: &str) -> Result<()> {
     tell_one(rt, &network, 1)?;
     tell_one(rt, &network, 2)?;
     tell_one(rt, &network, 3)
+}
+
+// `instances COUNT`: how many of as many instances are there, each created, and how many answers the first one was given
+// once its Provision, whose work goes on, has arrived as often again
+pub(crate) fn large(rt: &impl Print, alloc: Global, rest: &str) -> Result<()> {
+    let count: u128 = rest.parse::<u128>()?;
+    let order = orders::order("sync accepts")?;
+    let mut network = Network::new(alloc);
+    for value in 1..=count {
+        take_in(alloc, &mut network, order, value)?;
+        network.step(alloc, InstanceId::from_value(value), Event::Create)?;
+    }
+    network.step(
+        alloc,
+        InstanceId::from_value(1),
+        Event::Arrive { attempt: 1 },
+    )?;
+    let mut found: u128 = 0;
+    for value in 1..=count {
+        network.step(
+            alloc,
+            InstanceId::from_value(1),
+            Event::Arrive { attempt: 1 },
+        )?;
+        if network.instance(InstanceId::from_value(value)).is_some() {
+            found = found.saturating_add(1);
+        }
+    }
+    let first = network
+        .instance(InstanceId::from_value(1))
+        .context("no instance")?;
+    println!(rt; "  {found} instances, {} answers", first.given().len())?;
+    Ok(())
 }

@@ -48,6 +48,28 @@ fn asked(rt: &impl Print, asked: Asked) -> Result<()> {
     Ok(())
 }
 
+// `refusals`: the status and the text of each refusal
+pub(crate) fn refusals(rt: &impl Print) -> Result<()> {
+    for refusal in &[
+        Refusal::NoSuchTarget,
+        Refusal::NoSuchMethod,
+        Refusal::BadVersion,
+        Refusal::TooLong,
+        Refusal::BadInstance,
+        Refusal::Repeated,
+        Refusal::BadService,
+        Refusal::BadPlan,
+        Refusal::BadAcceptsIncomplete,
+        Refusal::NotAnObject,
+        Refusal::BadOrganization,
+        Refusal::BadSpace,
+        Refusal::Memory,
+    ] {
+        println!(rt; "  {} {refusal}", refusal.status())?;
+    }
+    Ok(())
+}
+
 // `request PREFIX LONGEST METHOD TARGET BODY`
 pub(crate) fn request(rt: &impl Print, alloc: Global, rest: &str) -> Result<()> {
     let (prefix, rest) = first(rest);

@@ -4,7 +4,10 @@ use anyhow::{Context, Result};
 use osb_message::{
     Answer, Body, ErrorCode, InstanceId, Kind, LastState, PlanId, Request, ServiceId,
 };
-use osb_wire::{read_answer, read_operation, retry_after, write_answer, write_request};
+use osb_wire::{
+    API_VERSION, API_VERSION_HEADER, CONTENT_TYPE, read_answer, read_operation, read_request,
+    retry_after, write_answer, write_request,
+};
 use serde_json::{Map, Value};
 use std::alloc::Global;
 
@@ -82,19 +85,24 @@ fn members_of(alloc: Global, text: &str) -> Map<String, Value> {
     }
 }
 
+// A request of instance 1, service 2 and plan 3.
+fn request(kind: Kind, accepts_incomplete: bool) -> Request {
+    Request {
+        kind,
+        id: InstanceId::from_value(1),
+        service: ServiceId::from_value(2),
+        plan: PlanId::from_value(3),
+        accepts_incomplete,
+    }
+}
+
 // `send KIND ACCEPTS PREFIX OPERATION FURTHER`, of instance 1, service 2 and plan 3
 pub(crate) fn send(rt: &impl Print, alloc: Global, rest: &str) -> Result<()> {
     let (kind_word, rest) = first(rest);
     let (accepts, rest) = first(rest);
     let (prefix, rest) = first(rest);
     let (operation, further) = first(rest);
-    let request = Request {
-        kind: kind(kind_word)?,
-        id: InstanceId::from_value(1),
-        service: ServiceId::from_value(2),
-        plan: PlanId::from_value(3),
-        accepts_incomplete: accepts == "yes",
-    };
+    let request = request(kind(kind_word)?, accepts == "yes");
     let sent = write_request(
         alloc,
         given(prefix).unwrap_or(""),
@@ -106,6 +114,81 @@ pub(crate) fn send(rt: &impl Print, alloc: Global, rest: &str) -> Result<()> {
     )?;
     println!(rt; "  {} {}", sent.method, sent.target.as_str())?;
     println!(rt; "  {}", sent.body.as_str())?;
+    Ok(())
+}
+
+// Lists as deep within one another.
+fn nested_lists(alloc: Global, depth: usize) -> Result<Value> {
+    let mut value = Value::Null;
+    for _ in 0..depth {
+        let mut list = Vec::new(alloc);
+        list.push(value)?;
+        value = Value::Array(list);
+    }
+    Ok(value)
+}
+
+// `deep DEPTH`: a Provision with a further member whose value has lists as deep within one another, and whether a broker
+// can read it
+pub(crate) fn deep(rt: &impl Print, alloc: Global, rest: &str) -> Result<()> {
+    let value = nested_lists(alloc, rest.parse().ok().context("no depth")?)?;
+    let mut further = Map::new(alloc);
+    serde_json::put(&mut further, alloc, "parameters", value)?;
+    let asked = request(Kind::Provision, false);
+    let sent = write_request(alloc, "", &asked, None, "organization", "space", further)?;
+    let (target, body) = (sent.target.as_bytes(), sent.body.as_bytes());
+    match read_request(alloc, "", body.len(), sent.method, target, body) {
+        Ok(_) => println!(rt; "  read")?,
+        Err(refusal) => println!(rt; "  {} {}", refusal.status(), refusal.body())?,
+    }
+    Ok(())
+}
+
+// `members COUNT`: a Provision with as many further members, and whether a broker can read it
+pub(crate) fn members(rt: &impl Print, alloc: Global, rest: &str) -> Result<()> {
+    let count: usize = rest.parse().ok().context("no count")?;
+    let mut further = Map::new(alloc);
+    for number in 0..count {
+        let name = format!(in alloc; "member{number}")?;
+        serde_json::put(&mut further, alloc, name.as_str(), Value::Null)?;
+    }
+    let asked = request(Kind::Provision, false);
+    let sent = write_request(alloc, "", &asked, None, "organization", "space", further)?;
+    match Value::from_str(alloc, sent.body.as_str()) {
+        Ok(Value::Object(written)) => println!(rt; "  {} members", written.len())?,
+        _ => println!(rt; "  no object")?,
+    }
+    Ok(())
+}
+
+// `large COUNT`: a body of a blank so many times and an accepted Provision's object
+pub(crate) fn large(rt: &impl Print, alloc: Global, rest: &str) -> Result<()> {
+    let blanks = repeated(alloc, " ", rest.parse().ok().context("no count")?)?;
+    let body = format!(in alloc; "{}{{}}", blanks.as_str())?;
+    tell_answer(rt, alloc, Kind::Provision, 201, body.as_bytes())
+}
+
+// `target COUNT`: the length of the target of a Poll that names an operation of so many characters
+pub(crate) fn target(rt: &impl Print, alloc: Global, rest: &str) -> Result<()> {
+    let operation = repeated(alloc, "a", rest.parse().ok().context("no count")?)?;
+    let asked = request(Kind::Poll, false);
+    let sent = write_request(
+        alloc,
+        "",
+        &asked,
+        Some(operation.as_str()),
+        "",
+        "",
+        Map::new(alloc),
+    )?;
+    println!(rt; "  {} bytes", sent.target.len())?;
+    Ok(())
+}
+
+// `constants`: the header of the version and the type of a body
+pub(crate) fn constants(rt: &impl Print) -> Result<()> {
+    println!(rt; "  {}: {}", API_VERSION_HEADER, API_VERSION)?;
+    println!(rt; "  Content-Type: {}", CONTENT_TYPE)?;
     Ok(())
 }
 

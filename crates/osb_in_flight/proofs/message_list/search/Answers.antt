@@ -1,23 +1,13 @@
-use Rattle.std.proofs.Common.{arith, sym, ◌∙◌, ◌+◌, ◌-◌, ◌/◌}
-use Rattle.osb_in_flight.proofs.Orders.{smaller_to, greater_from}
+use Rattle.std.proofs.Common.{rules}
+use Rattle.std.proofs.lemmas.List.Sorted.{answers_always}
+use Rattle.osb_in_flight.specs.Entries.{id_of, messages_of}
+use Rattle.osb_in_flight.proofs.Keys.{searched}
 use Rattle.osb_in_flight.proofs.message_list.search.Goals as goal
 
-pub loop-low-preserved-in-Less : goal.loop-low-preserved-in-Less
-loop-low-preserved-in-Less c = record {
-  low_bound = omega arith;
-  high_bound = c.loop-low.invariant.high_bound;
-  smaller_before = smaller_to c.args.entries.now c.args.order.now c.requires.ordered
-      (c.loop-low.low + (c.loop-low.high - c.loop-low.low) / 2) c.args.id c.index-entries-order.result (omega arith)
-      (sym c.in-Less.is ∙ c.cmp.ensures);
-  greater_from = c.loop-low.invariant.greater_from;
-}
-
-pub loop-low-preserved : goal.loop-low-preserved
-loop-low-preserved c = record {
-  low_bound = omega arith;
-  high_bound = omega arith;
-  smaller_before = c.loop-low.invariant.smaller_before;
-  greater_from = greater_from c.args.entries.now c.args.order.now c.requires.ordered
-      (c.loop-low.low + (c.loop-low.high - c.loop-low.low) / 2) c.args.id c.index-entries-order.result (omega arith)
-      (sym c.in-Greater.is ∙ c.cmp.ensures);
-}
+-- the closure gives an entry's id
+pub returns : goal.returns
+returns c =
+    let facts = c.binary_search_by_key.ensures in
+    let by_key = facts.position id_of (answers_always _ _ _ (λ f a r h called. search rules)) in
+    let both = searched id_of messages_of c.args.entries.now c.requires.ascending c.args.id _ facts.bound by_key in
+    record { found = both.0; absent = both.1 }

@@ -1,13 +1,22 @@
-use Rattle.std.proofs.Common.{ap, sym, subst, IsSome}
-use Rattle.std.specs.FinMap.{get}
-use Rattle.osb_in_flight.specs.Entries.{at_places, id_of, messages_of}
-use Rattle.osb_in_flight.proofs.Ascents.{not_in_gap}
+use Rattle.std.proofs.Common.{ap, refl, sym, subst, ◌∙◌, IsSome}
+use Rattle.std.specs.FinMap.{get, insert}
+use Rattle.osb_in_flight.specs.Entries.{id_of, messages_of}
+use Rattle.osb_in_flight.proofs.Keys.{not_absent, rows-set}
+use Rattle.osb_in_flight.proofs.Indexes.{distinct}
 use Rattle.osb_in_flight.proofs.message_list.MessageList.insert.Goals as goal
 
+-- the id was there, and its entry is written over
+pub returns-in-Some-clause-ok : goal.returns-in-Some-clause-ok
+returns-in-Some-clause-ok c =
+    let entries = c.self.inside.entries.items in
+    rows-set id_of messages_of entries c.args.id c.in-Some.at (rw (← c.deref.ensures.value) c.in-Some.ensures.found)
+    (distinct entries c.self.inside.ascending c.self.inside.places c.self.invariant)
+    record { id = c.args.id; messages = c.args.messages } refl
+    ∙ ap (λ m. insert m c.args.id c.args.messages) c.self.view_is
+
 -- the id was not there
-pub returns-in-Err-clause-written : goal.returns-in-Err-clause-written
-returns-in-Err-clause-written c found =
-    absurd (not_in_gap id_of messages_of (at_places c.self.inside.entries.items c.self.inside.order.items) c.args.id
-    c.in-Err.at
-    (rw (← c.deref.ensures.value, ← c.deref-2.ensures.value) c.in-Err.ensures.absent)
+pub returns-in-None-clause-written : goal.returns-in-None-clause-written
+returns-in-None-clause-written c found =
+    absurd (not_absent id_of messages_of c.self.inside.entries.items c.args.id
+    (rw (← c.deref.ensures.value) c.in-None.ensures.absent)
     (subst IsSome (ap (λ m. get m c.args.id) (sym c.self.view_is)) found))

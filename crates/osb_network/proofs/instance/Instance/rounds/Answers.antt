@@ -1,8 +1,23 @@
+use Rattle.osb_network.proofs.PartWay.{left, in_first, in_second, in_third}
 use Rattle.osb_network.proofs.Rounds.{three_cells}
 use Rattle.osb_network.proofs.instance.Instance.rounds.Goals as goal
 
-pub returns : goal.returns
-returns c = record {
-  cell = three_cells c.args.self.now c.round.new.self c.round-2.new.self c.round-3.new.self
-      c.in_ok-round.ensures.cell c.in_ok-round-2.ensures.cell c.in_ok-round-3.ensures.cell;
-}
+pub returns-in_err-round-clause-err : goal.returns-in_err-round-clause-err
+returns-in_err-round-clause-err c = left _ (in_first c.args.self.now c.round.new.self c.in_err-round.ensures.err)
+
+pub returns-in_err-round-2-clause-err : goal.returns-in_err-round-2-clause-err
+returns-in_err-round-2-clause-err c =
+    left _
+    (in_second c.args.self.now c.round.new.self c.round-2.new.self c.in_ok-round.ensures.cell
+    c.in_err-round-2.ensures.err)
+
+pub returns-in_err-round-3-clause-err : goal.returns-in_err-round-3-clause-err
+returns-in_err-round-3-clause-err c =
+    left _
+    (in_third c.args.self.now c.round.new.self c.round-2.new.self c.round-3.new.self c.in_ok-round.ensures.cell
+    c.in_ok-round-2.ensures.cell c.in_err-round-3.ensures.err)
+
+pub returns-clause-cell : goal.returns-clause-cell
+returns-clause-cell c =
+    three_cells c.args.self.now c.round.new.self c.round-2.new.self c.round-3.new.self c.in_ok-round.ensures.cell
+    c.in_ok-round-2.ensures.cell c.in_ok-round-3.ensures.cell

@@ -1,3 +1,4 @@
+use Rattle.osb_network.proofs.PartWay.{settles_by_events}
 use Rattle.osb_network.proofs.Rounds.{settled_if, three_rounds_settle}
 use Rattle.osb_network.proofs.instance.Instance.settle.Goals as goal
 
@@ -7,3 +8,6 @@ returns-clause-settled c =
 
 pub returns-clause-always : goal.returns-clause-always
 returns-clause-always c = three_rounds_settle
+
+pub returns-clause-by_events : goal.returns-clause-by_events
+returns-clause-by_events c = settles_by_events

@@ -1,3 +1,0 @@
-mod BoxValues
-mod BrokerValues
-mod PlatformValues

@@ -1,0 +1,64 @@
+"""The platform's tables, the library's version, and libraries that can't be loaded."""
+from __future__ import annotations
+
+import os
+import subprocess
+import sys
+import unittest
+
+from osb import Answer, Body, Kind, State, __version__, version
+from osb.tables import (
+    decide_deprovision,
+    decide_poll,
+    decide_provision,
+    decide_restart,
+    decide_timeout,
+    mitigates,
+    well_formed,
+)
+
+
+class Tables(unittest.TestCase):
+    def test_tables(self) -> None:
+        self.assertTrue(well_formed(Kind.POLL, Answer(200, Body.SUCCEEDED)))
+        self.assertFalse(well_formed(Kind.PROVISION, Answer(200, Body.SUCCEEDED)))
+        self.assertTrue(mitigates(Answer(201, Body.MALFORMED)))
+        self.assertFalse(mitigates(Answer(200, Body.MALFORMED)))
+        self.assertEqual(decide_provision(Answer(422, Body.ASYNC_REQUIRED)), State.GONE)
+        self.assertEqual(
+            decide_deprovision(Answer(202, Body.EMPTY)), State.CLEANING_POLLING
+        )
+        self.assertEqual(
+            decide_poll(State.CLEANING_POLLING, Answer(200, Body.SUCCEEDED)), State.GONE
+        )
+        self.assertEqual(
+            (decide_timeout(State.WANTED), decide_restart(State.UNSETTLED)),
+            (State.CLEANING, State.UNSETTLED),
+        )
+        self.assertRaises(ValueError, Answer, 2**16 + 200, Body.EMPTY)
+
+    def test_version(self) -> None:
+        self.assertEqual((version() // 100, __version__), (3, "0.3.0"))
+
+
+class Loading(unittest.TestCase):
+    def test_no_library(self) -> None:
+        """What can't be loaded, or is another library, is an ImportError that says so."""
+        for name, said in (
+            ("/nowhere/libosb.so", "libosb isn't found"),
+            ("libc.so.6", "of another version"),
+        ):
+            ran = subprocess.run(
+                [sys.executable, "-c", "import osb"],
+                env={**os.environ, "LIBOSB": name},
+                text=True,
+                capture_output=True,
+                check=False,
+            )
+            self.assertEqual(ran.returncode, 1)
+            self.assertIn("ImportError", ran.stderr.splitlines()[-1])
+            self.assertIn(said, ran.stderr.splitlines()[-1])
+
+
+if __name__ == "__main__":
+    unittest.main()
