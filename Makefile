@@ -29,11 +29,12 @@ one: ## one test by its name or file: make one T=test_locks, make one T=... A="-
 prebuilt: ## prove and build the library and osb-replay, and write prebuilt/
 	scripts/prebuilt
 
-format: ## format all Python, bash and Go
+format: ## format all Python, bash and Go, and embed files in the documents
 	scripts/files python | xargs black -q
 	scripts/files python | xargs isort -q
 	scripts/files bash | xargs shfmt -w -i 4 -ci
 	gofmt -w go examples/go
+	scripts/embed.py
 
 quick-format:
 	scripts/files python | xargs black -q --check

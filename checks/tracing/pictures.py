@@ -13,7 +13,7 @@ import sys
 import tempfile
 from pathlib import Path
 
-from looking.browser import Browser, browser, found
+from page.browser import Browser, browser, found
 
 ID = "00000000-0000-0000-0000-000000000001"
 HEADER = "line\tevent\tstep\tplatform\tbroker\tout\tanswer\n"

@@ -1,0 +1,153 @@
+"""Broker and platform as processes, which are started, killed and started again. None but these is ever ended."""
+from __future__ import annotations
+
+import os
+import re
+import signal
+import subprocess
+import threading
+import time
+from pathlib import Path
+from random import Random
+from typing import NamedTuple, Sequence
+
+from storm.log import Log
+
+# A line of the platform's log; the broker's are JSON. A traceback right after it is told by it.
+_LOGGED = re.compile(r"\d{4}-\d\d-\d\d [\d:,]+ [A-Z]+ ")
+_TRACEBACK = "Traceback (most recent call last):"
+
+
+class Program(NamedTuple):
+    """How a program is started."""
+
+    name: str
+    line: list[str]
+    environment: dict[str, str]
+    log: Path
+
+
+class Killed:
+    """A program that is killed again and again: at each of its crash points, and in between at random."""
+
+    def __init__(
+        self, program: Program, points: Sequence[str], chance: Random, refusals: Sequence[int], log: Log
+    ) -> None:
+        """`refusals`: statuses with which it may end by itself, if its store ends a session while it starts."""
+        self._program, self._chance, self._log = program, chance, log
+        self._usual = [-9, *refusals]
+        self._open = list(points)
+        self.hit: list[str] = []
+        self._tried = ""  # the point at which it is to be killed now, where that hasn't come about
+        self.kills = 0
+        self._odd: list[str] = []
+        self._process: subprocess.Popen[bytes] | None = None
+        self._stop = threading.Event()
+        self._thread = threading.Thread(target=self._run, daemon=True)
+
+    def begin(self) -> None:
+        """Starts it, and has it killed from now on."""
+        self._thread.start()
+
+    def begin_calmly(self) -> None:
+        """Starts it, and leaves it alone."""
+        self._open = []
+        self._start("")
+
+    def calm(self) -> None:
+        """From now on it runs without being killed."""
+        if self._thread.is_alive():
+            self._stop.set()
+            self._thread.join()
+            self._kill()
+            self._start("")
+
+    def is_up(self) -> bool:
+        """Whether it runs."""
+        return self._process is not None and self._process.poll() is None
+
+    def end(self) -> None:
+        """Ends it, as an operator does."""
+        if self._process is None:
+            return
+        if self._process.poll() is not None:
+            self._odd.append(f"{self._program.name} has ended with {self._process.returncode} in the calm")
+        else:
+            self._process.send_signal(signal.SIGTERM)
+            try:
+                self._note(self._process.wait(40), [0])
+            except subprocess.TimeoutExpired:
+                self._odd.append(f"{self._program.name} didn't end at SIGTERM")
+                self._kill()
+
+    def odd(self) -> list[str]:
+        """Ends that nobody had a hand in, and what it has said of an error that it didn't expect."""
+        said = self._program.log.read_text(encoding="utf-8", errors="replace") if self._program.log.exists() else ""
+        return self._odd + [f"{self._program.name}: {it}" for it in cries(said)]
+
+    def left(self) -> list[str]:
+        """The crash points that weren't hit."""
+        return sorted(it for it in (*self._open, self._tried) if it)
+
+    def _run(self) -> None:
+        while not self._stop.is_set():
+            point = self._tried = self._open.pop(0) if self._open and self._chance.random() < 0.8 else ""
+            self._start(point)
+            is_hit = self._dies(4.0 if point else self._chance.uniform(0.8, 4.0)) and point != ""
+            if is_hit:
+                self.hit.append(point)
+                self._count()
+            elif point:
+                self._open.append(point)
+            self._tried = ""
+            self._kill()
+            self._stop.wait(self._chance.uniform(0.0, 0.5))
+
+    def _dies(self, seconds: float) -> bool:
+        """Whether it is killed of itself within so many seconds."""
+        process = self._process
+        assert process is not None
+        until = time.monotonic() + seconds
+        while time.monotonic() < until and not self._stop.is_set():
+            try:
+                self._note(process.wait(0.1), self._usual)
+                return process.returncode == -9
+            except subprocess.TimeoutExpired:
+                continue
+        return False
+
+    def _start(self, point: str) -> None:
+        with open(self._program.log, "ab") as log:
+            self._process = subprocess.Popen(
+                self._program.line,
+                env={**self._program.environment, "OSB_CRASH_AT": point},
+                stdin=subprocess.DEVNULL,
+                stdout=log,
+                stderr=log,
+            )
+
+    def _kill(self) -> None:
+        if self._process is not None and self._process.poll() is None:
+            os.kill(self._process.pid, signal.SIGKILL)
+            self._process.wait()
+            self._count()
+
+    def _count(self) -> None:
+        self.kills += 1
+        self._log.say(killed=self._program.name)
+
+    def _note(self, status: int, usual: list[int]) -> None:
+        if status not in usual:
+            self._odd.append(f"{self._program.name} ended with {status}")
+
+
+def cries(log: str) -> list[str]:
+    """What the errors were that nothing has caught: their tracebacks follow no line of the log. Those of the errors
+    that they came of are parted from them by an empty line.
+    """
+    found, before, lines = [], "-", log.split("\n")
+    for at, line in enumerate(lines):
+        if line == _TRACEBACK and before and not _LOGGED.match(before):
+            found.append(next((it for it in lines[at + 1 :] if it and not it.startswith(" ")), "a traceback"))
+        before = line
+    return found
