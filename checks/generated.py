@@ -9,9 +9,12 @@ how many times as many examples are wanted: they are then drawn at random.
 from __future__ import annotations
 
 import os
+from collections.abc import Callable
+from typing import TypeVar
 
-from hypothesis import HealthCheck, settings
+from hypothesis import HealthCheck, seed, settings
 
+Test = TypeVar("Test", bound=Callable[..., None])
 _TIMES = int(os.environ.get("OSB_EXAMPLES", "0"))
 
 
@@ -27,3 +30,8 @@ def examples(count: int, steps: int = 50) -> settings:
         report_multiple_bugs=False,
         suppress_health_check=list(HealthCheck),
     )
+
+
+def vary(number: int) -> Callable[[Test], Test]:
+    """Gives a test with parameters other examples for each number."""
+    return seed(number) if _TIMES == 0 else lambda test: test

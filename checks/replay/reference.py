@@ -1,0 +1,272 @@
+"""What `osb-replay trace` is to write, once more: from the tables of docs/, and by no code of the crates.
+
+    python3 -m tracing.reference [--instance ID] [--settle] < SCHEDULE
+
+It takes schedules without a fault.
+"""
+
+from __future__ import annotations
+
+import argparse
+import sys
+from collections.abc import Callable, Iterator
+from dataclasses import dataclass, field
+
+HEADER = "line\tevent\tstep\tplatform\tbroker\tout\tanswer"
+DUE = {"polling": "poll", "cleaning": "deprovision", "cleaning-polling": "poll"}
+REMOVABLE = ("polling", "ready", "unsettled")
+
+Answer = tuple[int, str]
+
+
+@dataclass
+class Cell:
+    """All that there is of one instance."""
+
+    plan: tuple[str, str] = ("", "")
+    accepts: bool = False
+    platform: str | None = None
+    phase: str | None = None
+    out: str | None = None
+    travelling: Answer | None = None
+
+    def columns(self) -> str:
+        answer = "-" if self.travelling is None else "-".join(filter(None, map(str, self.travelling)))
+        return "\t".join((self.platform or "none", self.phase or "none", self.out or "-", answer))
+
+    def close(self, state: str) -> None:
+        self.platform, self.out, self.travelling = state, None, None
+
+
+@dataclass
+class World:
+    """The cells, and how each plan works."""
+
+    plans: dict[tuple[str, str], str] = field(default_factory=dict)
+    cells: dict[str, Cell] = field(default_factory=dict)
+
+    def cell(self, instance: str) -> Cell:
+        return self.cells.get(instance, Cell())
+
+
+def provision(cell: Cell, mode: str | None, outcome: str) -> Answer:
+    """The broker's table for a Provision. The row's plan is the record's: no id is used again."""
+    if mode is None:
+        return 400, "Other"
+    if mode == "async" and not cell.accepts:
+        return 422, "AsyncRequired"
+    if cell.phase is not None:
+        known: dict[str, Answer] = {"making": (202, ""), "ready": (200, ""), "deleting": (422, "ConcurrencyError")}
+        return known.get(cell.phase, (500, "Other"))
+    if outcome == "before":
+        return 500, "Other"
+    cell.phase = "ready" if mode == "sync" else "making"
+    if outcome == "after":
+        return 500, "Other"
+    return (201, "") if mode == "sync" else (202, "")
+
+
+def deprovision(cell: Cell, mode: str | None, outcome: str) -> Answer:
+    """The broker's table for a Deprovision, which always accepts an asynchronous operation here."""
+    if cell.phase is None:
+        return 410, "Other"
+    if cell.phase == "making":
+        return 422, "ConcurrencyError"
+    if cell.phase == "deleting":
+        return 202, ""
+    if outcome == "before":
+        return 500, "Other"
+    cell.phase = None if mode == "sync" else "deleting"
+    if outcome == "after":
+        return 500, "Other"
+    return (200, "") if mode == "sync" else (202, "")
+
+
+def poll(cell: Cell, _mode: str | None, outcome: str) -> Answer:
+    """The broker's table for a Poll."""
+    if cell.phase is None:
+        return 410, "Other"
+    if outcome != "done":
+        return 500, "Other"
+    if cell.phase in ("making", "deleting"):
+        return 200, "in-progress"
+    return 200, "succeeded" if cell.phase == "ready" else "failed"
+
+
+HANDLED: dict[str, Callable[[Cell, str | None, str], Answer]] = {
+    "provision": provision,
+    "deprovision": deprovision,
+    "poll": poll,
+}
+
+
+def provisioned(answer: Answer) -> str:
+    """The platform's table for the answer to a Provision."""
+    status, body = answer
+    if status in (200, 201) and body == "":
+        return "ready"
+    if status == 202 and body == "":
+        return "polling"
+    if status in (200, 408, 409):
+        return "unsettled"
+    if status == 422:
+        return "gone" if body == "AsyncRequired" else "unsettled"
+    return "gone" if 400 <= status <= 499 else "cleaning"
+
+
+def polled(state: str, answer: Answer) -> str:
+    """The platform's table for the answer to a Poll."""
+    status, body = answer
+    if status == 200 and body == "succeeded":
+        return "ready" if state == "polling" else "gone"
+    if status == 200 and body == "failed":
+        return "cleaning"
+    return "gone" if status == 410 and state == "cleaning-polling" else state
+
+
+def deprovisioned(answer: Answer) -> str:
+    """The platform's table for the answer to a Deprovision."""
+    status, body = answer
+    if status == 410 or (status == 200 and body == ""):
+        return "gone"
+    return "cleaning-polling" if status == 202 and body == "" else "cleaning"
+
+
+def answered(cell: Cell, answer: Answer) -> str:
+    assert cell.platform is not None
+    if cell.out == "provision":
+        return provisioned(answer)
+    return polled(cell.platform, answer) if cell.out == "poll" else deprovisioned(answer)
+
+
+def timed_out(state: str) -> str:
+    return "cleaning" if state == "wanted" else state
+
+
+def why_skipped(cell: Cell, verb: str) -> str | None:
+    """Why the event doesn't apply to the cell, or None where it does."""
+    if verb == "create":
+        return None if cell.platform is None else "id-used"
+    if cell.platform is None:
+        return "unknown"
+    if verb in ("remove", "send", "expire"):
+        able, why = {
+            "remove": (cell.platform in REMOVABLE, "not-removable"),
+            "send": (cell.platform in DUE, "nothing-due"),
+            "expire": (cell.platform == "polling", "not-polling"),
+        }[verb]
+        return why if not able else None if cell.out is None else "busy"
+    if verb in ("deliver", "timeout", "gateway"):
+        return None if cell.out is not None else "nothing-out"
+    if verb == "finish":
+        return None if cell.phase in ("making", "deleting") else "nothing-running"
+    return None if cell.travelling is not None else "nothing-travels"
+
+
+def finished(phase: str, well: bool) -> str | None:
+    if phase == "making":
+        return "ready" if well else "failed"
+    return None if well else "delete-failed"
+
+
+def apply(world: World, cell: Cell, words: list[str]) -> None:
+    """Changes the cell as the event does that applies to it."""
+    verb, last = words[0], words[-1]
+    assert cell.platform is not None
+    if verb in ("remove", "expire"):
+        cell.platform = "cleaning"
+    elif verb == "send":
+        cell.out = DUE[cell.platform]
+    elif verb in ("deliver", "repeat"):
+        assert cell.out is not None
+        answer = HANDLED[cell.out](cell, world.plans.get(cell.plan), last)
+        cell.travelling = answer if verb == "deliver" else cell.travelling
+    elif verb == "lose":
+        cell.travelling = None
+    elif verb == "garble":
+        assert cell.travelling is not None
+        cell.travelling = cell.travelling[0], "malformed"
+    elif verb == "gateway":
+        cell.travelling = int(last), "malformed"
+    elif verb == "answer":
+        assert cell.travelling is not None
+        cell.close(answered(cell, cell.travelling))
+    elif verb == "timeout":
+        cell.close(timed_out(cell.platform))
+    elif verb == "finish":
+        assert cell.phase is not None
+        cell.phase = finished(cell.phase, last == "ok")
+
+
+def step(world: World, words: list[str]) -> str:
+    """Lets the event happen to the instance that it names, and says `applied`, or why it was skipped."""
+    instance = words[1].lower()
+    cell = world.cell(instance)
+    why = why_skipped(cell, words[0])
+    if why is not None:
+        return why
+    if words[0] == "create":
+        plan = words[2].lower(), words[3].lower()
+        world.cells[instance] = Cell(plan, words[4] == "yes", platform="wanted", out="provision")
+    else:
+        apply(world, cell, words)
+    return "applied"
+
+
+def restart(world: World) -> int:
+    """Restarts the platform, and says how many instances that changed."""
+    changed = [cell for cell in world.cells.values() if cell.out is not None]
+    for cell in changed:
+        assert cell.platform is not None
+        cell.close(timed_out(cell.platform))
+    return len(changed)
+
+
+def line_of(world: World, number: str, words: list[str]) -> str:
+    said = step(world, words)
+    return "\t".join((number, " ".join(words), said, world.cell(words[1].lower()).columns()))
+
+
+def rounds(world: World, instance: str) -> Iterator[str]:
+    for number in (1, 2, 3):
+        for event in ("timeout {}", "finish {} ok", "send {}", "deliver {} done", "answer {}"):
+            yield line_of(world, f"round {number}", event.format(instance).split())
+
+
+def trace(schedule: bytes, instance: str | None = None, settle: bool = False) -> Iterator[str]:
+    """The lines of the trace, without their line feeds."""
+    world = World()
+    yield HEADER
+    for number, line in enumerate(schedule.decode("ascii").split("\n"), 1):
+        words = line.removesuffix("\r").replace("\t", " ").split(" ")
+        words = [word for word in words if word]
+        if not words or words[0].startswith("#"):
+            continue
+        if words[0] == "plan":
+            world.plans[words[1].lower(), words[2].lower()] = words[3]
+        elif words[0] == "restart":
+            changed = restart(world)
+            columns = "-\t-\t-\t-" if instance is None else world.cell(instance).columns()
+            yield f"{number}\trestart\tapplied, {changed} changed\t{columns}"
+        else:
+            told = line_of(world, str(number), words)
+            if instance in (None, words[1].lower()):
+                yield told
+    if settle:
+        for created in sorted(world.cells):
+            if instance in (None, created):
+                yield from rounds(world, created)
+
+
+def main() -> None:
+    parser = argparse.ArgumentParser(description=__doc__)
+    parser.add_argument("--instance")
+    parser.add_argument("--settle", action="store_true")
+    asked = parser.parse_args()
+    instance = asked.instance.lower() if asked.instance else None
+    for line in trace(sys.stdin.buffer.read(), instance, asked.settle):
+        print(line)
+
+
+if __name__ == "__main__":
+    main()
