@@ -1,4 +1,4 @@
-# The worked schedules of checks/worked.txt, one after the other; for checks that read this file.
+# The worked schedules of checks/replay/worked.txt, one after the other; for checks that read this file.
 
 # The two plans on sale.
 worked_plans='plan S P sync; plan S Q async; '
@@ -44,7 +44,7 @@ worked_input() {
 }
 
 worked_lines() {
-    grep -v '^#' checks/worked.txt
+    grep -v '^#' checks/replay/worked.txt
 }
 
 # The saved record of the instances of a report on standard input, all of the synchronous plan.
