@@ -1,14 +1,10 @@
 """What `osb-replay trace` is to write, once more: from the tables of docs/, and by no code of the crates.
 
-    python3 -m tracing.reference [--instance ID] [--settle] < SCHEDULE
-
 It takes schedules without a fault.
 """
 
 from __future__ import annotations
 
-import argparse
-import sys
 from collections.abc import Callable, Iterator
 from dataclasses import dataclass, field
 
@@ -256,17 +252,3 @@ def trace(schedule: bytes, instance: str | None = None, settle: bool = False) ->
         for created in sorted(world.cells):
             if instance in (None, created):
                 yield from rounds(world, created)
-
-
-def main() -> None:
-    parser = argparse.ArgumentParser(description=__doc__)
-    parser.add_argument("--instance")
-    parser.add_argument("--settle", action="store_true")
-    asked = parser.parse_args()
-    instance = asked.instance.lower() if asked.instance else None
-    for line in trace(sys.stdin.buffer.read(), instance, asked.settle):
-        print(line)
-
-
-if __name__ == "__main__":
-    main()

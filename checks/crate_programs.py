@@ -1,0 +1,27 @@
+"""The programs of crates that are for checks alone: `library_cases` and `refusal_cases`.
+
+They aren't shipped. `rt ci` builds them, and so does `rt run` in the crate's folder. A test that needs one is skipped
+if it isn't built from the sources as they stand.
+"""
+
+from __future__ import annotations
+
+import os
+from pathlib import Path
+
+import pytest
+
+TOP = Path(__file__).resolve().parent.parent
+
+
+def program_of(crate: str) -> Path:
+    """The built program of the crate, below OSB_CRATES if that is set. Skips the test if there is none."""
+    crates = Path(os.environ.get("OSB_CRATES") or TOP / "crates")
+    program = crates / crate / "out" / crate
+    if not program.exists():
+        pytest.skip(f"{crate} isn't built: run `rt run` in crates/{crate}, which needs the Rattle kit")
+    built = program.stat().st_mtime
+    parts = ("src", "specs", "proofs")
+    if any(file.stat().st_mtime > built for part in parts for file in crates.glob(f"*/{part}/**/*")):
+        pytest.skip(f"{crate} is older than the sources: run `rt run` in crates/{crate}, which needs the Rattle kit")
+    return program

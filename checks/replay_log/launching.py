@@ -1,0 +1,119 @@
+"""Runs the launcher osb-replay-log, and programs in the place of osb-replay that are slow or don't end."""
+
+from __future__ import annotations
+
+import os
+import signal
+import subprocess
+import time
+from collections.abc import Callable
+from pathlib import Path
+from typing import IO
+
+from replay.running import TOP, Ran
+
+LAUNCHER = TOP / "osb-replay-log"
+SECONDS = 120
+# In the place of osb-replay. Each run makes the next of the folders calls/1, calls/2 and so on. The first run is for
+# the plans alone.
+NUMBERED = """#!/usr/bin/env bash
+n=1
+until mkdir "{calls}/$n" 2>/dev/null; do n=$((n + 1)); done
+"""
+SLOW = NUMBERED + '[ $n -ne {killed} ] || kill -9 $PPID\n[ $n -eq 1 ] || sleep {seconds}\nexec "{program}" "$@"\n'
+ENDLESS = NUMBERED + '[ $n -ne 1 ] || exec "{program}" "$@"\necho $$ >"{calls}/$n/pid"\necho written\nexec sleep 30\n'
+
+
+def until(what: Callable[[], object], seconds: float = 60) -> None:
+    """Waits until this is so."""
+    end = time.monotonic() + seconds
+    while not what():
+        assert time.monotonic() < end, "it didn't come about"
+        time.sleep(0.05)
+
+
+class Launcher:
+    """The launcher, with a folder of its own: its work directory is `room` in it."""
+
+    def __init__(self, folder: Path, program: Path) -> None:
+        self.folder, self.program = folder, program
+        self.room, self.calls = folder / "room", folder / "calls"
+        self.room.mkdir()
+        self.environment = {**os.environ, "OSB_REPLAY": str(program)}
+        self.environment.pop("PYTHONSAFEPATH", None)
+
+    def run(
+        self, *arguments: str, out: int | IO[bytes] = subprocess.PIPE, environment: dict[str, str] | None = None
+    ) -> Ran:
+        """Runs it with these arguments. It leaves nothing in its work directory."""
+        return self.run_by([str(LAUNCHER)], *arguments, out=out, environment=environment)
+
+    def run_by(
+        self,
+        command: list[str],
+        *arguments: str,
+        out: int | IO[bytes] = subprocess.PIPE,
+        environment: dict[str, str] | None = None,
+    ) -> Ran:
+        """The same, by this command in the launcher's place."""
+        ran = subprocess.run(
+            [*command, *arguments],
+            stdin=subprocess.DEVNULL,
+            stdout=out,
+            stderr=subprocess.PIPE,
+            env={**self.environment, **(environment or {})},
+            check=False,
+            timeout=SECONDS,
+        )
+        assert not [*self.room.iterdir()]
+        return Ran(ran.returncode, (ran.stdout or b"").decode(), ran.stderr.decode())
+
+    def begin(self, *arguments: str, environment: dict[str, str]) -> subprocess.Popen[bytes]:
+        """Starts it in a session of its own."""
+        return subprocess.Popen(
+            [LAUNCHER, *arguments],
+            stdin=subprocess.DEVNULL,
+            stdout=subprocess.PIPE,
+            stderr=subprocess.PIPE,
+            env={**self.environment, **environment},
+            start_new_session=True,
+        )
+
+    def instead(self, text: str, killed: int = 0, seconds: float = 0.0) -> str:
+        """Writes a program in the place of osb-replay, of which the run of this number kills its worker."""
+        self.calls.mkdir()
+        path = self.folder / "instead"
+        path.write_text(text.format(calls=self.calls, program=self.program, killed=killed, seconds=seconds))
+        path.chmod(0o755)
+        return str(path)
+
+
+def fails(ran: Ran, status: int, message: str) -> None:
+    """It ended with this status, reports this, and wrote nothing else."""
+    assert ran.status == status, ran
+    assert message in ran.err, ran
+    assert ran.out == "", ran
+
+
+def states(pid: int) -> list[str]:
+    """The states of the processes of a session, without those that have ended and wait for their parent."""
+    ran = subprocess.run(["ps", "-o", "stat=", "-s", str(pid)], capture_output=True, text=True, check=False)
+    return [it for it in ran.stdout.split() if not it.startswith("Z")]
+
+
+def is_running(pid: int) -> bool:
+    ran = subprocess.run(["ps", "-o", "stat=", "-p", str(pid)], capture_output=True, text=True, check=False)
+    return ran.stdout.strip()[:1] not in ("", "Z")
+
+
+def parent(pid: int) -> int:
+    ran = subprocess.run(["ps", "-o", "ppid=", "-p", str(pid)], capture_output=True, text=True, check=True)
+    return int(ran.stdout)
+
+
+def terminate(process: subprocess.Popen[bytes]) -> Ran:
+    """Ends it by SIGTERM, and waits until all processes of its session have ended."""
+    process.send_signal(signal.SIGTERM)
+    out, err = process.communicate(timeout=SECONDS)
+    until(lambda: not states(process.pid), seconds=10)
+    return Ran(process.returncode, out.decode(), err.decode())

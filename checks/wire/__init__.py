@@ -1,0 +1,1 @@
+"""Compares what libosb reads of answers and requests with Python's json and urllib."""

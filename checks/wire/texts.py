@@ -1,0 +1,191 @@
+"""Bodies and targets: whole ones, and such with bytes that are missing, added or replaced."""
+
+from __future__ import annotations
+
+import json
+from collections.abc import Iterator
+from typing import NamedTuple
+
+from hypothesis import strategies as st
+
+KINDS = ["provision", "deprovision", "poll"]
+STATUSES = [200, 200, 200, 200, 200, 201, 202, 204, 400, 401, 404, 408, 409, 410, 422, 429, 499, 500, 503]
+VALUES = [
+    '"state"',
+    '"error"',
+    '"succeeded"',
+    '"failed"',
+    '"in progress"',
+    '"AsyncRequired"',
+    '"ConcurrencyError"',
+    '"x"',
+    "1",
+    "-0",
+    "1e5",
+    "1e400",
+    "123456789012345678901",
+    "0.1",
+    "true",
+    "null",
+    "{}",
+    "[]",
+    "[1,2]",
+    '{"state":"failed"}',
+    '"\\u0061"',
+    '"st\\u0061te"',
+    '"\\ud800"',
+    '"\\ud83d\\ude00"',
+    '"é"',
+    '"\\n"',
+    "NaN",
+    "01",
+    '""',
+]
+NAMES = ['"state"', '"error"', '"st\\u0061te"', '"description"', '"a"', '"err\\u006fr"']
+# The bytes that are added to a body, to a target, and to the body of a Provision.
+IN_BODY = b'{}[]",:\\ \x00\xff\xc3a1-.eE\r'
+IN_TARGET = b"/?&=%+-0aZ\xff\xc3\xa9"
+IN_PROVISION = b'{}[]",:\\ "a0-'
+BYTE_ORDER_MARK = b"\xef\xbb\xbf"
+
+
+# ---- edits
+
+
+def edited(whole: bytes, edits: list[tuple[str, int, int]]) -> bytes:
+    """The bytes after each edit: a byte is deleted, inserted or replaced."""
+    made = bytearray(whole)
+    for what, place, byte in edits:
+        at = place % (len(made) + 1)
+        if what == "insert":
+            made.insert(at, byte)
+        elif at < len(made):
+            made[at : at + 1] = bytes([byte] if what == "replace" else [])
+    return bytes(made)
+
+
+def edits(of: bytes) -> st.SearchStrategy[list[tuple[str, int, int]]]:
+    """None, one or two edits."""
+    kind = st.sampled_from(["delete", "insert", "replace"])
+    return st.lists(st.tuples(kind, st.integers(0, 400), st.sampled_from([*of])), max_size=2)
+
+
+def neighbours(whole: bytes, of: bytes) -> Iterator[bytes]:
+    """The bytes themselves, each beginning of them, and what each edit of one byte makes of them."""
+    yield whole
+    for at in range(len(whole)):
+        yield whole[:at]
+        yield whole[:at] + whole[at + 1 :]
+        for byte in of:
+            yield whole[:at] + bytes([byte]) + whole[at + 1 :]
+    for at in range(len(whole) + 1):
+        for byte in of:
+            yield whole[:at] + bytes([byte]) + whole[at:]
+
+
+# ---- bodies of answers
+
+
+def joined(pairs: list[tuple[str, str, str]], comma: str) -> str:
+    return "{" + comma.join("".join(pair) for pair in pairs) + "}"
+
+
+def objects(values: st.SearchStrategy[str]) -> st.SearchStrategy[str]:
+    pair = st.tuples(st.sampled_from(NAMES), st.sampled_from([":", " : ", "\t:"]), st.sampled_from(VALUES[:8]) | values)
+    return st.builds(joined, st.lists(pair, max_size=4), st.sampled_from([",", " ,", ", "]))
+
+
+def nested(values: st.SearchStrategy[str]) -> st.SearchStrategy[str]:
+    arrays = st.lists(values, max_size=2).map(lambda them: "[" + ",".join(them) + "]")
+    return arrays | objects(values)
+
+
+VALUE = st.recursive(st.sampled_from(VALUES), nested, max_leaves=6)
+OBJECT = objects(VALUE)
+WHOLE_BODY = st.one_of(OBJECT, OBJECT, OBJECT, VALUE).map(str.encode)
+MARK = st.sampled_from([b""] * 30 + [BYTE_ORDER_MARK])
+BODY = st.builds(
+    lambda mark, whole, changes: bytes(mark + edited(whole, changes)),
+    MARK,
+    WHOLE_BODY,
+    edits(IN_BODY),
+)
+
+
+# ---- requests
+
+
+def cased(number: int, mask: int) -> str:
+    """A GUID, of which the digits that the mask has are capitals."""
+    digits = "".join(it.upper() if mask >> at & 1 else it for at, it in enumerate(f"{number:032x}"))
+    return "-".join((digits[:8], digits[8:12], digits[12:16], digits[16:20], digits[20:]))
+
+
+GUIDS = st.builds(cased, st.integers(0, 2**128 - 1), st.sampled_from([0, 0, 2**32 - 1, 0xA5A5A5A5]))
+
+
+def escaped(text: str, places: set[int]) -> str:
+    return "".join(f"%{ord(c):02X}" if at in places else c for at, c in enumerate(text))
+
+
+PLACES = st.sets(st.integers(0, 40), max_size=3)
+EQUALS = st.sampled_from(["="] * 20 + ["==", "=%20", "=+"])
+FURTHER = st.sampled_from(["", "x=1", "operation=a%20b", "operation=", "y", "%zz=1", "%ff=2", "service_id"])
+
+
+@st.composite
+def parameters(draw: st.DrawFn, name: str) -> list[str]:
+    """The parameter of this name: mostly once, at times never or twice."""
+    values = GUIDS if name != "accepts_incomplete" else st.sampled_from(["true", "false"] * 5 + ["True", ""])
+    return [
+        escaped(name, draw(PLACES)) + draw(EQUALS) + escaped(draw(values), draw(PLACES))
+        for _ in range(draw(st.sampled_from([1] * 12 + [0, 2])))
+    ]
+
+
+@st.composite
+def queries(draw: st.DrawFn) -> str:
+    made = [it for name in ("service_id", "plan_id", "accepts_incomplete") for it in draw(parameters(name))]
+    made += draw(st.lists(FURTHER, max_size=2))
+    return draw(st.sampled_from(["&"] * 20 + ["&&", ";"])).join(draw(st.permutations(made)))
+
+
+class Asked(NamedTuple):
+    """A request as HTTP has it, and the longest body that is read."""
+
+    method: str
+    target: bytes
+    body: bytes
+    longest: int
+
+
+ENDS = {"GET": "/last_operation", "PUT": "", "DELETE": ""}
+
+
+@st.composite
+def provisions(draw: st.DrawFn) -> bytes:
+    """The body of a Provision."""
+    made = {name: draw(GUIDS) for name in ("service_id", "plan_id", "organization_guid", "space_guid")}
+    if draw(st.sampled_from([False] * 4 + [True])):
+        made[draw(st.sampled_from([*made]))] = draw(st.sampled_from(["", "x"]))
+    return json.dumps(made).encode()
+
+
+@st.composite
+def whole_requests(draw: st.DrawFn) -> Asked:
+    """A request, mostly of a method that its target has."""
+    of = draw(st.sampled_from(["GET", "PUT", "DELETE"]))
+    method = draw(st.sampled_from([of] * 14 + ["GET", "PUT", "DELETE", "POST", "put"]))
+    end = draw(st.sampled_from([ENDS[of]] * 14 + ["", "/", "/last_operation", "/service_bindings/1"]))
+    query = draw(st.sampled_from(["?"] * 15 + [""]))
+    target = f"/v2/service_instances/{draw(GUIDS)}{end}{query}{draw(queries()) if query else ''}".encode()
+    body = draw(provisions()) if method == "PUT" else b""
+    return Asked(method, target, body, draw(st.sampled_from([1000] * 15 + [200])))
+
+
+@st.composite
+def requests(draw: st.DrawFn) -> Asked:
+    """A request, half of whose targets and bodies are broken."""
+    method, target, body, longest = draw(whole_requests())
+    body = edited(body, draw(edits(IN_PROVISION))) if body else body
+    return Asked(method, edited(target, draw(edits(IN_TARGET))), body, longest)
