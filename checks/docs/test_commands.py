@@ -1,6 +1,7 @@
 """The commands of the documents, run as they stand there, but for ports and for what only root may do."""
 from __future__ import annotations
 
+import os
 import re
 import shutil
 import subprocess
