@@ -17,7 +17,6 @@ pub(crate) fn tell(rt: &impl Print, alloc: Global, line: &str) -> Result<()> {
         "nested" => platform::nested(rt, alloc, rest),
         "long" => platform::long(rt, alloc, rest),
         "deep" => platform::deep(rt, alloc, rest),
-        "members" => platform::members(rt, alloc, rest),
         "large" => platform::large(rt, alloc, rest),
         "target" => platform::target(rt, alloc, rest),
         "constants" => platform::constants(rt),

@@ -21,10 +21,15 @@ fn take_in(alloc: Global, network: &mut Network, order: Order, value: u128) -> R
     Ok(())
 }
 
-fn tell_one(rt: &impl Print, network: &Network, value: u128) -> Result<()> {
+// All that there is of an instance, and the answers that were given since there were so many.
+fn tell_since(rt: &impl Print, network: &Network, value: u128, before: usize) -> Result<()> {
     let instance = network.instance(InstanceId::from_value(value));
     print!(rt; "  {value}: ")?;
-    sides::tell(rt, instance.context("no instance")?, 0)
+    sides::tell(rt, instance.context("no instance")?, before)
+}
+
+fn tell_one(rt: &impl Print, network: &Network, value: u128) -> Result<()> {
+    tell_since(rt, network, value, 0)
 }
 
 // What a line `MODE accepts|refuses: ID EVENT, ..` makes of the instances, each told on a line of its own.
@@ -45,35 +50,32 @@ pub(crate) fn tell(rt: &impl Print, alloc: Global, line: &str) -> Result<()> {
     tell_one(rt, &network, 3)
 }
 
-// `instances COUNT`: how many of as many instances are there, each created, and how many answers the first one was given
-// once its Provision, whose work goes on, has arrived as often again
+// Takes an instance in and creates it.
+fn create(alloc: Global, network: &mut Network, value: u128) -> Result<()> {
+    take_in(alloc, network, orders::order("sync accepts")?, value)?;
+    network.step(alloc, InstanceId::from_value(value), Event::Create)?;
+    Ok(())
+}
+
+// Has the first request of the first instance arrive, for the first time or again.
+fn arrive(alloc: Global, network: &mut Network) -> Result<()> {
+    let first = InstanceId::from_value(1);
+    network.step(alloc, first, Event::Arrive { attempt: 1 })?;
+    Ok(())
+}
+
+// `instances COUNT`: the last of as many instances, each created, and how many answers the first one was given once its
+// Provision, whose work goes on, has arrived as often again
 pub(crate) fn large(rt: &impl Print, alloc: Global, rest: &str) -> Result<()> {
     let count: u128 = rest.parse::<u128>()?;
-    let order = orders::order("sync accepts")?;
     let mut network = Network::new(alloc);
     for value in 1..=count {
-        take_in(alloc, &mut network, order, value)?;
-        network.step(alloc, InstanceId::from_value(value), Event::Create)?;
+        create(alloc, &mut network, value)?;
     }
-    network.step(
-        alloc,
-        InstanceId::from_value(1),
-        Event::Arrive { attempt: 1 },
-    )?;
-    let mut found: u128 = 0;
-    for value in 1..=count {
-        network.step(
-            alloc,
-            InstanceId::from_value(1),
-            Event::Arrive { attempt: 1 },
-        )?;
-        if network.instance(InstanceId::from_value(value)).is_some() {
-            found = found.saturating_add(1);
-        }
+    arrive(alloc, &mut network)?;
+    for _ in 1..=count {
+        arrive(alloc, &mut network)?;
     }
-    let first = network
-        .instance(InstanceId::from_value(1))
-        .context("no instance")?;
-    println!(rt; "  {found} instances, {} answers", first.given().len())?;
-    Ok(())
+    tell_since(rt, &network, 1, usize::MAX)?;
+    tell_one(rt, &network, count)
 }

@@ -144,23 +144,6 @@ pub(crate) fn deep(rt: &impl Print, alloc: Global, rest: &str) -> Result<()> {
     Ok(())
 }
 
-// `members COUNT`: a Provision with as many further members, and whether a broker can read it
-pub(crate) fn members(rt: &impl Print, alloc: Global, rest: &str) -> Result<()> {
-    let count: usize = rest.parse().ok().context("no count")?;
-    let mut further = Map::new(alloc);
-    for number in 0..count {
-        let name = format!(in alloc; "member{number}")?;
-        serde_json::put(&mut further, alloc, name.as_str(), Value::Null)?;
-    }
-    let asked = request(Kind::Provision, false);
-    let sent = write_request(alloc, "", &asked, None, "organization", "space", further)?;
-    match Value::from_str(alloc, sent.body.as_str()) {
-        Ok(Value::Object(written)) => println!(rt; "  {} members", written.len())?,
-        _ => println!(rt; "  no object")?,
-    }
-    Ok(())
-}
-
 // `large COUNT`: a body of a blank so many times and an accepted Provision's object
 pub(crate) fn large(rt: &impl Print, alloc: Global, rest: &str) -> Result<()> {
     let blanks = repeated(alloc, " ", rest.parse().ok().context("no count")?)?;
