@@ -263,6 +263,6 @@ def test_install_rejects_the_folder_that_it_would_copy_into(library: Path, tmp_p
     for name in ("libosb.a", "libosb.so.0"):
         shutil.copy(library / name, own)
     ran = install(own, tmp_path, "/usr")
-    assert ran.returncode == 70 and "is the folder that would be copied into" in ran.stderr
+    assert ran.returncode == 70 and "into itself: build into another folder" in ran.stderr
     assert {it.name for it in own.rglob("*")} == {"libosb.a", "libosb.so.0"}
     assert (own / "libosb.a").read_bytes() == (library / "libosb.a").read_bytes()

@@ -28,7 +28,7 @@ pytestmark = pytest.mark.slow
 needs_dask = pytest.mark.skipif(
     importlib.util.find_spec("distributed") is None, reason="Dask isn't installed (Debian: python3-distributed)"
 )
-engines = pytest.mark.parametrize("engine", ["processes", pytest.param("dask", marks=needs_dask)])
+engines = pytest.mark.parametrize("engine", ["processes", pytest.param("dask", marks=[needs_dask, pytest.mark.alone])])
 SMALL = ["--part-lines", "600", "--chunk-bytes", "50000"]
 WRITE_FAILED = "osb-replay-log: write failed\n"
 
