@@ -1,14 +1,25 @@
 """The commands of the documents, run as they stand there, but for ports and for what only root may do."""
 from __future__ import annotations
 
+import logging
 import os
 import re
 import shutil
 import subprocess
+import threading
+import time
+from pathlib import Path
+from types import SimpleNamespace
+from typing import Any
 
+import osb
 import pytest
 from docs.pages import TOP, block, blocks, covers, read
 from docs.workdir import Workdir, needs, wait_for
+from osb import Id, service, wsgi
+from osb.stores import MemoryStore
+from osb_tests import support
+from waiting import until
 
 ONE = "00000000-0000-0000-0000-000000000001"
 
@@ -26,6 +37,13 @@ def installed_by_ci() -> set[str]:
     listed = re.search(r"^packages=\((.*?)^\)", read(".ci/run"), re.MULTILINE | re.DOTALL)
     assert listed is not None
     return set(re.sub("#.*", "", listed[1]).split())
+
+
+def test_embedded_blocks_are_current(replay: Path) -> None:
+    """Files and what commands print stand in the documents to the byte. If they don't, run scripts/embed.py."""
+    environment = {**os.environ, "OSB_REPLAY": str(replay)}
+    done = subprocess.run([TOP / "scripts" / "embed.py", "--check"], capture_output=True, text=True, env=environment)
+    assert (done.returncode, done.stdout, done.stderr) == (0, "", "")
 
 
 @covers("README.md", "sudo apt-get install ")
@@ -53,44 +71,11 @@ def test_programs(texts: list[str], workdir: Workdir, port: int) -> None:
     assert [line.split("\t")[1] for line in left if line.count("\t") >= 4] == ["gone"]
 
 
-@covers("README.md", "make test\n", "make prebuilt\ngit diff --exit-code\n")
-def test_tasks(texts: list[str]) -> None:
-    """Each is a task of the Makefile."""
-    for task in re.findall("^make (.*)$", "".join(texts), re.MULTILINE):
-        subprocess.run(["make", "-n", task], cwd=TOP, check=True, stdout=subprocess.DEVNULL)
-
-
-@covers("CONTRIBUTING.md", "make one T=the_columns\n", "make one T=test_terminal ")
-def test_names_of_tests(texts: list[str]) -> None:
-    """Each names a file, a class in a file, or a test."""
-    tests = "".join(it.read_text(encoding="utf-8") for it in TOP.glob("*/*/test_*.py"))
-    names = re.findall(r"def (test_\w+)\(", tests)
-    for given in re.findall(r"^make one T=(\S+)", "".join(texts), re.MULTILINE):
-        file, _, inside = given.partition("::")
-        if file.endswith(".py"):
-            assert (TOP / file).is_file() and f"class {inside}" in read(file), given
-        else:
-            assert any(given in name for name in names), given
-
-
 @covers("CONTRIBUTING.md", "LIBOSB=$(scripts/where library)")
 def test_program_under_the_debugger(texts: list[str], workdir: Workdir) -> None:
     """The command runs the program; here without the debugger."""
     assert "-m pdb " in texts[0]
     workdir.run(texts[0].replace("-m pdb ", ""))
-
-
-@covers("README.md", "./check")
-def test_gate(texts: list[str]) -> None:
-    """What README runs is what the gate runs."""
-    assert f" {texts[0].strip()} " in read(".ci/run")
-    assert os.access(TOP / texts[0].strip(), os.X_OK)
-
-
-@covers("docs/reliability.md", "make one T=checks/replay/")
-def test_refusals(texts: list[str]) -> None:
-    """The check that the page names is there."""
-    assert (TOP / texts[0].strip().removeprefix("make one T=")).is_file()
 
 
 @covers("README.md", "./osb-replay replay --settle ")
@@ -238,7 +223,7 @@ def test_broker_and_platform_in_python(texts: list[str], workdir: Workdir, port:
 
 def _serves(workdir: Workdir, port: int, command: str) -> None:
     """The broker of docs/python.md, under the server that this command starts, answers for its catalogue."""
-    serve, ask = (block("docs/python.md", it).text for it in (_SERVE, _ASK))
+    serve, ask = (block("docs/python.md", it) for it in (_SERVE, _ASK))
     exports = serve.rpartition("python3 ")[0]
     asked = "".join(ask.replace("8080", str(port)).splitlines(True)[:3])
     out = workdir.run(f"{exports}{command.replace('8080', str(port))} &\n{wait_for(port)}{asked}kill %1")
@@ -266,6 +251,41 @@ def test_python_broker_under_waitress(texts: list[str], workdir: Workdir, port: 
     if workdir.run("/usr/bin/python3 -c 'import waitress' 2>&1 || true"):
         pytest.skip("waitress isn't installed (Debian: apt-get install python3-waitress)")
     _serves(workdir, port, waitress)
+
+
+@covers("docs/python.md", "class Slow:")
+def test_slow_worker(texts: list[str], caplog: pytest.LogCaptureFixture) -> None:
+    """It makes and deletes an instance of an asynchronous plan, also after the backend has failed once."""
+    things: set[Id] = set()
+    failures = [OSError("the backend is down")]
+
+    def make(id: Id) -> bool:
+        if failures:
+            raise failures.pop()
+        things.add(id)
+        return True
+
+    def delete(id: Id) -> bool:
+        things.discard(id)
+        return True
+
+    def ended(status: int) -> bool:
+        reply = support.poll(broker, plan=support.ASYNC)
+        return reply.status == status and b"progress" not in reply.body
+
+    quick = SimpleNamespace(sleep=lambda _: time.sleep(0.01))
+    names: dict[str, Any] = {**vars(osb), **vars(service), **vars(wsgi), "logging": logging, "time": quick}
+    names.update(keep=lambda task: None, make=make, delete=delete)
+    exec(texts[0], names)
+    broker = wsgi.BrokerApplication(support.CATALOGUE, MemoryStore(), names["Slow"](), support.USER, support.PASSWORD)
+    caplog.set_level(logging.CRITICAL)
+    threading.Thread(target=names["go_on"], args=[broker], daemon=True).start()
+    assert support.provision(broker, plan=support.ASYNC).status == 202
+    until(lambda: ended(200))
+    assert things == {support.ONE} and not failures
+    assert support.deprovision(broker, plan=support.ASYNC).status == 202
+    until(lambda: ended(410))
+    assert not things
 
 
 # What pip needs without a network: setuptools makes wheels itself from 70.1 on. It prints where that is.
@@ -308,8 +328,7 @@ tail -n +9 examples/unanswered.schedule > february.log
 
 def log_block(command: str) -> str:
     """The beginning of the block of docs/logs.md that has a line which begins with the command."""
-    (found,) = (it.text for it in blocks("docs/logs.md") if f"\n{command} " in f"\n{it.text}" and not it.mark)
-    return found
+    return next(it for it in blocks("docs/logs.md") if f"\n{command} " in f"\n{it}")
 
 
 @covers("docs/logs.md", f"{_LOGS}./osb-replay-log replay ")

@@ -5,11 +5,14 @@ import os
 import re
 import shlex
 import uuid
-from typing import Iterator
+from typing import Callable, Iterator
 from urllib.parse import quote, urlencode
 
+import osb_broker.words
+import osb_platform.words
 import pytest
-from docs.pages import block, covers
+import storm.arguments
+from docs.pages import block, blocks, covers, pages
 from docs.workdir import Workdir, needs
 from osb_program.pg import Sessions
 
@@ -56,12 +59,6 @@ def test_backend_of_a_reader(texts: list[str], workdir: Workdir, port: int) -> N
     assert (workdir.top / "build" / "databases" / "holdings.sqlite").exists()
 
 
-def test_backend_is_short() -> None:
-    """The guide calls it a class with three methods: it has at most 40 lines."""
-    (backend,) = (it for it in [block(BROKER, '"""A backend')] if it.mark == "examples/broker/databases.py")
-    assert len(backend.text.splitlines()) <= 40
-
-
 @covers(PLATFORM, "export OSB_BROKER_PASSWORD=secret ", "curl -u platform:secret ")
 def test_platform(texts: list[str], workdir: Workdir, port: int) -> None:
     """An instance is ordered, seen at the broker, and removed."""
@@ -79,6 +76,25 @@ def test_page(texts: list[str], workdir: Workdir, port: int, other_port: int) ->
     run = moved(texts[0], port, other_port).strip()
     out = workdir.run(f"{run} &\n{ask}\nkill %1; wait $!\n", OSB_PLATFORM_PASSWORD="x")
     assert out.count("<title>") == 1
+
+
+# ---- arguments of all commands, also of those that aren't run here
+
+READERS: dict[str, Callable[[list[str]], object]] = {
+    "./osb-broker": osb_broker.words.read,
+    "./osb-platform": osb_platform.words.read,
+    "checks/storm/run": storm.arguments.read,
+}
+COMMAND = re.compile(rf"(?:^|[\s(])({'|'.join(map(re.escape, READERS))})((?: +[^\s&|;#)]+)+)", re.MULTILINE)
+
+
+@pytest.mark.parametrize("page", pages())
+def test_arguments(page: str) -> None:
+    """The programs take the arguments of every command in the documents. Two points at its end stand for a broker."""
+    for text in blocks(page):
+        for program, words in COMMAND.findall(text.replace("\\\n", " ")):
+            whole = re.sub(r"\$\w+", ONE, re.sub(r" \.\.$", " --broker http://127.0.0.1:8080", words))
+            READERS[program](shlex.split(whole))
 
 
 # ---- PostgreSQL
@@ -134,7 +150,7 @@ def test_broker_over_postgresql(texts: list[str], workdir: Workdir, port: int, s
     exports, _, start = serve.partition("\n")
     assert exports == "export OSB_BROKER_PASSWORD=.. OSB_BACKEND_KEY=.. PGPASSFILE=.."
     started = moved(start, port).replace("postgresql://broker@db/brokers", url).strip()
-    create = moved(block(BROKER, CREATE).text, port).replace("ls build/broker/instances", password)
+    create = moved(block(BROKER, CREATE), port).replace("ls build/broker/instances", password)
     given = {"OSB_BROKER_PASSWORD": "secret", "OSB_BACKEND_KEY": "a key", "PGPASSWORD": "secret"}
     script = f"{started} &\n{healthy(port)}{create}\nkill %1; wait $!\n".replace(ONE, server.instance)
     out = workdir.run(script, **given)
