@@ -3,12 +3,11 @@
 
     scripts/gate.py PYTHON [--tests]
 
-PYTHON is the Python that has pytest. The steps, one after another; with --tests, only the last two:
+PYTHON is the Python that has pytest. The steps, one after another; with --tests, only the last one:
 
 1. `rt ci`: all proofs, the mutants that the prover must reject, and the tests and programs of the crates.
 2. `scripts/prebuilt --compare`: the prebuilt files are what these sources give.
 3. pytest, several tests at once; then by themselves those that go by the clock.
-4. Each executable in checks/.
 """
 
 from __future__ import annotations
@@ -151,9 +150,6 @@ def steps(python: str, *options: str) -> dict[str, Callable[[], Result]]:
         found["scripts/prebuilt --compare"] = compare
     found["pytest -n auto -m 'not alone'"] = partial(test, python, "-n", "auto", "-m", "not alone")
     found["pytest -m alone"] = partial(test, python, "-m", "alone")
-    for file in sorted((TOP / "checks").iterdir()):
-        if file.is_file() and os.access(file, os.X_OK):
-            found[f"checks/{file.name}"] = partial(check, str(file))
     return found
 
 
