@@ -143,7 +143,8 @@ build() {
     log=crates/$(crates_of "$1" | cut -d , -f 1)/out/build.log
     command -v rt >/dev/null || fail "$why. To build from source, put the command rt of the Rattle kit on the PATH"
     command -v python3 >/dev/null || fail "$why. To build from source, put python3, 3.9 or later, on the PATH"
-    mkdir -p "$built" && exec 9>"$built/lock" || fail "can't write ${built#"$top/"}"
+    mkdir -p "$built" || fail "can't write ${built#"$top/"}"
+    exec 9<"$top/crates.txt"
     flock -n 9 || { say "waiting for another start, which builds" && flock 9; }
     if ! is_built "$@"; then
         kit=$(kit_version) || fail "rt doesn't report its version"
@@ -164,18 +165,9 @@ build_library() {
 # build_crates KIND [ARGUMENT ..]: has scripts/build_crates.py prove and build the target's crates. If this shell is
 # ended, so is the build.
 build_crates() {
-    local child signal status wanted=osb_replay
+    local wanted=osb_replay
     [ "$1" = program ] || wanted=$(crates_of library)
-    "$top/scripts/build_crates.py" "$who" "$wanted" "$@" </dev/null &
-    child=$!
-    for signal in INT TERM HUP; do
-        # shellcheck disable=SC2064
-        trap "kill -TERM $child; wait $child; trap - $signal; kill -$signal \$\$" "$signal"
-    done
-    wait "$child"
-    status=$?
-    trap - INT TERM HUP
-    return "$status"
+    setpriv --pdeathsig TERM "$top/scripts/build_crates.py" "$who" "$wanted" "$@" </dev/null
 }
 
 # record FOLDER TARGET SOURCES KIT: writes into the folder's MANIFEST what the target's files are.

@@ -5,12 +5,12 @@ from __future__ import annotations
 import os
 import signal
 import subprocess
-import time
 from pathlib import Path
 from typing import Callable
 
 import pytest
 from launcher.small_repository import Repository
+from waiting import until
 
 pytestmark = pytest.mark.slow
 
@@ -33,28 +33,16 @@ def test_prebuilt_program_runs_without_rt(repository: Repository) -> None:
     assert replay(repository, has_rt=False) == (9, PREBUILT, "")
 
 
-def rewrite_at_another_time(repository: Repository) -> None:
-    os.utime(repository.world / "src" / "lib.rt", (1, 1))
-
-
-def add_file_that_is_no_source(repository: Repository) -> None:
-    (repository.world / "notes").write_text("fn other\n")
-
-
-def change_comment(repository: Repository) -> None:
+def move_checkout(repository: Repository) -> None:
+    """With a comment changed, and a file added that is no source."""
     rows = (repository.top / "crates.txt").read_text()
     (repository.top / "crates.txt").write_text(rows.replace("A comment", "Another one") + "osb_other: uuid\n")
+    (repository.world / "notes").write_text("fn other\n")
+    repository.top = repository.top.rename(repository.folder / "moved")
 
 
-def move_checkout(repository: Repository) -> None:
-    moved = repository.folder / "moved"
-    repository.top.rename(moved)
-    repository.top = moved
-
-
-@pytest.mark.parametrize("change", [rewrite_at_another_time, add_file_that_is_no_source, change_comment, move_checkout])
-def test_what_changes_no_source_builds_nothing(repository: Repository, change: Callable[[Repository], None]) -> None:
-    change(repository)
+def test_what_changes_no_source_builds_nothing(repository: Repository) -> None:
+    move_checkout(repository)
     assert replay(repository) == (9, PREBUILT, "")
 
 
@@ -65,17 +53,8 @@ def edit_keeping_time_and_length(repository: Repository) -> None:
     os.utime(source, ns=(before.st_atime_ns, before.st_mtime_ns))
 
 
-def add_source(repository: Repository) -> None:
-    (repository.world / "specs" / "More.antt").write_text("applies\n")
-
-
 def rename_source(repository: Repository) -> None:
     (repository.world / "specs" / "Steps.antt").rename(repository.world / "specs" / "Other.antt")
-
-
-def remove_folder(repository: Repository) -> None:
-    (repository.world / "specs" / "Steps.antt").unlink()
-    (repository.world / "specs").rmdir()
 
 
 def change_row(repository: Repository) -> None:
@@ -83,41 +62,28 @@ def change_row(repository: Repository) -> None:
     (repository.top / "crates.txt").write_text(rows.replace("osb_world: uuid", "osb_world: uuid clap"))
 
 
-@pytest.mark.parametrize("change", [edit_keeping_time_and_length, add_source, rename_source, remove_folder, change_row])
+@pytest.mark.parametrize("change", [edit_keeping_time_and_length, rename_source, change_row])
 def test_changed_source_is_built_once(repository: Repository, change: Callable[[Repository], None]) -> None:
     change(repository)
+    assert "To build from source, put the command rt" in replay(repository, has_rt=False)[2]
     status, out, reported = replay(repository)
     assert (status, out, repository.builds()) == (9, BUILT, ["osb_world", "osb_replay"])
     assert "was built from other sources" in reported and "crate 2 of 2, osb_replay, 7 functions proved" in reported
-    assert replay(repository) == (9, BUILT, "")
+    assert (repository.kit / "stolen").read_text() == ""  # of the program's standard input
     assert replay(repository, has_rt=False) == (9, BUILT, "")
 
 
-def test_changed_source_without_rt(repository: Repository) -> None:
-    add_source(repository)
-    status, out, reported = replay(repository, has_rt=False)
-    assert (status, out) == (70, "")
-    assert "was built from other sources. To build from source, put the command rt" in reported
-
-
-def test_from_source_builds_although_the_prebuilt_program_fits(repository: Repository) -> None:
+def test_from_source(repository: Repository) -> None:
+    """It builds although the prebuilt program fits, and again under another kit or if the build is damaged."""
     status, out, reported = replay(repository, "--from-source")
-    assert (status, out) == (9, BUILT)
-    assert "--from-source was given" in reported
+    assert (status, out) == (9, BUILT) and "--from-source was given" in reported
     assert replay(repository, "--from-source") == (9, BUILT, "")
     assert replay(repository) == (9, PREBUILT, "")
-
-
-def test_from_source_is_the_first_argument_alone(repository: Repository) -> None:
-    run = repository.run("./osb-replay", "replay", "--from-source", has_rt=False)
-    assert (run.stdout, run.stderr) == ("prebuilt: replay --from-source\na schedule", "")
-
-
-def test_from_source_builds_again_under_another_kit(repository: Repository) -> None:
-    replay(repository, "--from-source")
     (repository.kit / "version").write_text("kit 2\n")
     assert "proving and building" in replay(repository, "--from-source")[2]
-    assert "osb-replay" in (repository.built / "MANIFEST").read_text().partition("kit 2")[0]
+    (repository.built / "osb-replay").write_text("exit 8\n")
+    status, out, reported = replay(repository, "--from-source")
+    assert (status, out) == (9, BUILT) and "osb-replay is damaged" in reported
 
 
 def damage(repository: Repository) -> None:
@@ -125,34 +91,15 @@ def damage(repository: Repository) -> None:
         program.write("# More.\n")
 
 
-def make_unexecutable(repository: Repository) -> None:
-    (repository.prebuilt / "osb-replay").chmod(0o644)
-
-
-def make_manifest_unreadable(repository: Repository) -> None:
+def remove_manifest(repository: Repository) -> None:
     (repository.prebuilt / "MANIFEST").unlink()
-    (repository.prebuilt / "MANIFEST").mkdir()
-
-
-def make_folder_unreadable(repository: Repository) -> None:
-    """A file in its place: root could read a folder without permissions."""
-    repository.prebuilt.rename(repository.folder / "aside")
-    repository.prebuilt.write_text("")
-
-
-def remove_line(repository: Repository) -> None:
-    lines = (repository.prebuilt / "MANIFEST").read_text().splitlines(keepends=True)
-    (repository.prebuilt / "MANIFEST").write_text("".join(it for it in lines if not it.startswith("osb-replay")))
 
 
 @pytest.mark.parametrize(
     ("change", "report"),
     [
         (damage, "osb-replay is damaged: its SHA-256 isn't the one in MANIFEST"),
-        (make_unexecutable, "osb-replay isn't executable"),
-        (make_manifest_unreadable, "MANIFEST can't be read, or has no line for osb-replay"),
-        (make_folder_unreadable, "MANIFEST can't be read, or has no line for osb-replay"),
-        (remove_line, "MANIFEST can't be read, or has no line for osb-replay"),
+        (remove_manifest, "MANIFEST can't be read, or has no line for osb-replay"),
     ],
 )
 def test_unusable_prebuilt_file_is_reported_and_not_used(
@@ -161,23 +108,15 @@ def test_unusable_prebuilt_file_is_reported_and_not_used(
     change(repository)
     status, out, reported = replay(repository, has_rt=False)
     assert (status, out) == (70, "") and report in reported
-    status, out, reported = replay(repository)
-    assert (status, out) == (9, BUILT) and report in reported
-    status, out, reported = replay(repository)  # reported each time
-    assert (status, out) == (9, BUILT) and report in reported and "building" not in reported
+    for _ in range(2):  # reported each time
+        status, out, reported = replay(repository)
+        assert (status, out) == (9, BUILT) and report in reported
 
 
 def test_machine_without_prebuilt_files(repository: Repository) -> None:
     repository.prebuilt.rename(repository.prebuilt.with_name("pdp11-unix"))
     status, out, reported = replay(repository)
     assert (status, out) == (9, BUILT) and f"there is no prebuilt/{repository.prebuilt.name}" in reported
-
-
-def test_damaged_build_is_built_again(repository: Repository) -> None:
-    replay(repository, "--from-source")
-    (repository.built / "osb-replay").write_text("exit 8\n")
-    status, out, reported = replay(repository, "--from-source")
-    assert (status, out) == (9, BUILT) and "osb-replay is damaged" in reported
 
 
 def test_what_is_not_proved_does_not_run(repository: Repository) -> None:
@@ -189,28 +128,26 @@ def test_what_is_not_proved_does_not_run(repository: Repository) -> None:
     assert not (repository.built / "MANIFEST").exists()
 
 
-@pytest.mark.parametrize("name", ["crates.txt", "crates/osb_world/src/lost.rt"])
-def test_source_that_cannot_be_read(repository: Repository, name: str) -> None:
-    (repository.top / name).unlink(missing_ok=True)
-    (repository.top / name).symlink_to("nowhere")
+def test_source_that_cannot_be_read(repository: Repository) -> None:
+    (repository.world / "src" / "lost.rt").symlink_to("nowhere")
     status, out, reported = replay(repository)
     assert (status, out) == (70, "") and "can't read the sources of the crates" in reported
 
 
+def start(repository: Repository) -> subprocess.Popen[str]:
+    return subprocess.Popen(
+        [repository.top / "osb-replay", "--from-source"],
+        env=repository.environment(),
+        stdin=subprocess.DEVNULL,
+        stdout=subprocess.PIPE,
+        stderr=subprocess.PIPE,
+        text=True,
+    )
+
+
 def test_two_starts_build_once(repository: Repository) -> None:
     (repository.kit / "seconds").write_text("1\n")
-    starts = [
-        subprocess.Popen(
-            [repository.top / "osb-replay", "--from-source"],
-            env=repository.environment(),
-            stdin=subprocess.DEVNULL,
-            stdout=subprocess.PIPE,
-            stderr=subprocess.PIPE,
-            text=True,
-        )
-        for _ in range(2)
-    ]
-    ended = [it.communicate(timeout=60) for it in starts]
+    ended = [it.communicate(timeout=60) for it in [start(repository), start(repository)]]
     assert [out for out, _ in ended] == ["built: \n", "built: \n"]
     assert sum("waiting for another start" in reported for _, reported in ended) == 1
     assert repository.builds() == ["osb_world", "osb_replay"]
@@ -219,17 +156,12 @@ def test_two_starts_build_once(repository: Repository) -> None:
 @pytest.mark.parametrize("how", [signal.SIGTERM, signal.SIGKILL])
 def test_end_of_the_launcher_ends_its_build(repository: Repository, how: signal.Signals) -> None:
     (repository.kit / "seconds").write_text("60\n")
-    start = subprocess.Popen(
-        [repository.top / "osb-replay", "--from-source"],
-        env=repository.environment(),
-        stdin=subprocess.DEVNULL,
-        stderr=subprocess.DEVNULL,
-    )
-    wait_until(lambda: bool(repository.builds()))
-    group = int((repository.kit / "builds").read_text().split()[0])
-    start.send_signal(how)
-    assert start.wait(10) == -how
-    wait_until(lambda: not is_alive(group))
+    with start(repository) as launcher:
+        until(repository.builds)
+        group = int((repository.kit / "builds").read_text().split()[0])
+        launcher.send_signal(how)
+        assert launcher.wait(10) == -how
+        until(lambda: not is_alive(group), 10)
 
 
 def is_alive(group: int) -> bool:
@@ -238,18 +170,6 @@ def is_alive(group: int) -> bool:
     except ProcessLookupError:
         return False
     return True
-
-
-def wait_until(reached: Callable[[], bool]) -> None:
-    end = time.monotonic() + 10
-    while not reached():
-        assert time.monotonic() < end
-        time.sleep(0.01)
-
-
-def test_build_leaves_standard_input_to_the_program(repository: Repository) -> None:
-    assert replay(repository, "--from-source")[1] == BUILT
-    assert (repository.kit / "stolen").read_text() == ""
 
 
 # ---- The library, and the path of each
@@ -285,12 +205,6 @@ def test_library_is_built_if_its_sources_differ(repository: Repository) -> None:
     assert replay(repository) == (9, PREBUILT, "")  # which doesn't stand on osb_c_wire
 
 
-def test_library_from_source(repository: Repository) -> None:
-    run = repository.run("./libosb", "build", "--from-source", "there")
-    assert run.returncode == 0 and "--from-source was given" in run.stderr
-    assert (repository.folder / "there" / "libosb.a").read_text() == "built\n"
-
-
 def test_library_is_installed(repository: Repository) -> None:
     repository.run("./libosb", "build", "there")
     to = repository.folder / "usr"
@@ -312,8 +226,11 @@ def compare(repository: Repository, *program: str, has_rt: bool = True) -> tuple
 
 def test_prebuilt_files_that_differ_from_the_build_fail(repository: Repository) -> None:
     status, last, lines = compare(repository)
-    assert (status, last, len(lines)) == (1, "0 passed, 3 failed, 0 skipped", 3)
+    assert (status, last) == (1, "0 passed, 3 failed, 0 skipped")
     assert all("differ" in it for it in lines)
+    given = str(repository.prebuilt / "osb-replay")
+    assert compare(repository, given)[1] == "1 passed, 2 failed, 0 skipped"  # what `rt ci` has built is the same
+    assert compare(repository, has_rt=False)[:2] == (1, "0 passed, 3 failed, 0 skipped")
 
 
 def test_written_files_pass(repository: Repository) -> None:
@@ -328,16 +245,8 @@ def test_written_files_pass(repository: Repository) -> None:
     assert (repository.prebuilt / "MANIFEST").read_bytes() == before
 
 
-def test_given_program_saves_the_build_if_it_is_the_same(repository: Repository) -> None:
-    status, last, lines = compare(repository, str(repository.prebuilt / "osb-replay"))
-    assert (status, last) == (1, "1 passed, 2 failed, 0 skipped")
-    assert "osb_replay" not in repository.builds() and "osb_c" in repository.builds()
-    assert compare(repository, "/dev/null")[1] == "0 passed, 3 failed, 0 skipped"
-    assert "osb_replay" in repository.builds()
-
-
 def test_stale_prebuilt_files_fail(repository: Repository) -> None:
-    add_source(repository)
+    rename_source(repository)
     status, last, lines = compare(repository)
     assert (status, last) == (1, "0 passed, 3 failed, 0 skipped")
     assert all("it was built from other sources. Run make prebuilt" in it for it in lines)
@@ -351,7 +260,3 @@ def test_another_kit_skips_the_comparison_by_name(repository: Repository) -> Non
     assert all(
         "built by another kit, kit 1, and this one is kit 2. Run make prebuilt under that kit" in it for it in lines
     )
-
-
-def test_comparison_without_rt_fails(repository: Repository) -> None:
-    assert compare(repository, has_rt=False)[:2] == (1, "0 passed, 3 failed, 0 skipped")
