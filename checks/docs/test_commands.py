@@ -310,7 +310,8 @@ def test_installed_python_package(texts: list[str], workdir: Workdir, is_online:
         workdir.run(offline)
     out = workdir.run(
         "./libosb build build\ncd ..\nexport LIBOSB=$PWD/pippinterm/build/libosb.so\n"
-        "pippinterm/build/venv/bin/python3 -c 'import osb; print(osb.version(), osb.__file__)'"
+        "pippinterm/build/venv/bin/python3 -c 'import osb; print(osb.version(), osb.__file__)'\n"
+        "ls pippinterm/build/venv/lib/*/site-packages/osb/py.typed >&2"
     )
     version, path = out.split()
     header = dict(re.findall(r"^#define OSB_VERSION_(\w+) (\d+)$", read("include/osb.h"), re.MULTILINE))
