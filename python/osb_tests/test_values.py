@@ -95,54 +95,22 @@ class Records(unittest.TestCase):
         self.assertEqual(made, record(State.WANTED, PROVISION, 1))
         self.assertEqual(asked, request(PROVISION, accepts=False))
 
-    def test_send(self) -> None:
-        for state, kind in ((State.POLLING, POLL), (State.CLEANING_POLLING, POLL), (State.CLEANING, DEPROVISION)):
-            self.assertEqual(record(state, attempt=4).send(ONE), (record(state, kind, 5), request(kind)), state)
-            self.assertEqual(status_of(lambda: record(state, kind).send(ONE)), Status.BUSY, state)
-        for state in (State.READY, State.GONE, State.UNSETTLED):
-            self.assertEqual(status_of(lambda: record(state).send(ONE)), Status.NOTHING_DUE, state)
-        last = record(State.CLEANING, attempt=2**64 - 1)
-        self.assertEqual(status_of(lambda: last.send(ONE)), Status.ATTEMPTS_USED_UP)
-
-    def test_answer(self) -> None:
-        wanted, polling = record(State.WANTED, PROVISION, 1), record(State.POLLING, POLL, 2)
-        cleaning = record(State.CLEANING, DEPROVISION, 3)
-        for before, status, body, after in (
-            (wanted, 201, Body.EMPTY, State.READY),
-            (wanted, 202, Body.EMPTY, State.POLLING),
-            (wanted, 409, Body.OTHER_ERROR, State.UNSETTLED),
-            (wanted, 400, Body.OTHER_ERROR, State.GONE),
-            (wanted, 500, Body.OTHER_ERROR, State.CLEANING),
-            (polling, 200, Body.SUCCEEDED, State.READY),
-            (polling, 200, Body.FAILED, State.CLEANING),
-            (polling, 410, Body.EMPTY, State.POLLING),
-            (cleaning, 410, Body.MALFORMED, State.GONE),
-            (cleaning, 202, Body.EMPTY, State.CLEANING_POLLING),
+    def test_statuses(self) -> None:
+        """checks/network compares what each call gives; here is why one is refused."""
+        busy, last = record(State.POLLING, POLL, 2), record(State.CLEANING, attempt=2**64 - 1)
+        for call, status in (
+            (lambda: busy.send(ONE), Status.BUSY),
+            (lambda: record(State.READY).send(ONE), Status.NOTHING_DUE),
+            (lambda: last.send(ONE), Status.ATTEMPTS_USED_UP),
+            (lambda: busy.answer(3, Answer(200, Body.SUCCEEDED)), Status.NOT_IN_FLIGHT),
+            (lambda: busy.timeout(1), Status.NOT_IN_FLIGHT),
+            (busy.expire, Status.BUSY),
+            (record(State.READY).expire, Status.NOT_POLLING),
+            (busy.remove, Status.BUSY),
+            (record(State.GONE).remove, Status.NOT_REMOVABLE),
         ):
-            taken = before.answer(before.attempt, Answer(status, body))
-            self.assertEqual(taken, record(after, None, before.attempt), (before, status))
-
-    def test_numbers(self) -> None:
-        """An answer and a timeout are of the request in flight alone."""
-        polling = record(State.POLLING, POLL, 2)
-        for it, attempt in ((polling, 1), (polling, 3), (record(State.POLLING, None, 2), 2)):
-            said = Answer(200, Body.SUCCEEDED)
-            self.assertEqual(status_of(lambda: it.answer(attempt, said)), Status.NOT_IN_FLIGHT, it)
-            self.assertEqual(status_of(lambda: it.timeout(attempt)), Status.NOT_IN_FLIGHT, it)
-        self.assertRaises(ValueError, polling.timeout, 2**64 + 2)
-
-    def test_timeout(self) -> None:
-        self.assertEqual(record(State.WANTED, PROVISION, 1).timeout(1), record(State.CLEANING, None, 1))
-        self.assertEqual(record(State.POLLING, POLL, 2).timeout(2), record(State.POLLING, None, 2))
-
-    def test_expire_and_remove(self) -> None:
-        self.assertEqual(record(State.POLLING).expire(), record(State.CLEANING))
-        for state in (State.POLLING, State.READY, State.UNSETTLED):
-            self.assertEqual(record(state).remove(), record(State.CLEANING), state)
-        self.assertEqual(status_of(record(State.READY).expire), Status.NOT_POLLING)
-        self.assertEqual(status_of(record(State.GONE).remove), Status.NOT_REMOVABLE)
-        self.assertEqual(status_of(record(State.POLLING, POLL).expire), Status.BUSY)
-        self.assertEqual(status_of(record(State.POLLING, POLL).remove), Status.BUSY)
+            self.assertEqual(status_of(call), status)
+        self.assertRaises(ValueError, busy.timeout, 2**64 + 2)
 
     def test_from_platform_row(self) -> None:
         for before, after in ((State.WANTED, State.CLEANING), (State.READY, State.READY)):
@@ -214,79 +182,19 @@ def holding_with_work(kind: Kind, plan: Id = SYNC) -> Holding:
 
 
 class Holdings(unittest.TestCase):
-    def begins(self, holding: Holding, mode: Mode | None, kind: Kind, plan: Id, said: object, after: Holding) -> None:
-        self.assertEqual(holding.begin(mode, request(kind, plan)), (after, said), (holding, kind))
-
-    def test_busy(self) -> None:
-        for held in (holding_with_work(PROVISION), holding_with_work(DEPROVISION)):
-            for kind, said in (
-                (PROVISION, Answer(503, Body.OTHER_ERROR)),
-                (POLL, Answer(200, Body.IN_PROGRESS)),
-                (DEPROVISION, Answer(422, Body.CONCURRENCY_ERROR)),
-            ):
-                self.begins(held, Mode.SYNC, kind, SYNC, said, held)
-
-    def test_marked(self) -> None:
-        marked = Holding(is_marked=True)
-        for kind, said in (
-            (PROVISION, Answer(409, Body.OTHER_ERROR)),
-            (DEPROVISION, Answer(410, Body.OTHER_ERROR)),
-            (POLL, Answer(410, Body.OTHER_ERROR)),
-        ):
-            self.begins(marked, Mode.SYNC, kind, SYNC, said, marked)
-
-    def test_work(self) -> None:
-        for mode, plan, making, deleting in (
-            (Mode.SYNC, SYNC, Work.MAKE, Work.DELETE),
-            (Mode.ASYNC, ASYNC, Work.START_MAKING, Work.START_DELETING),
-        ):
-            self.begins(Holding.NONE, mode, PROVISION, plan, making, Holding(work=request(PROVISION, plan)))
-            ready = Holding(row(Phase.READY, plan))
-            self.begins(ready, mode, DEPROVISION, plan, deleting, Holding(ready.row, request(DEPROVISION, plan)))
-            self.assertEqual((work_of(PROVISION, mode), work_of(DEPROVISION, mode)), (making, deleting))
-        self.assertEqual((work_of(POLL, Mode.SYNC), work_of(PROVISION, None)), (None, None))
-
-    def test_answered(self) -> None:
-        ready = Holding(row(Phase.READY, SYNC))
-        self.begins(Holding.NONE, Mode.SYNC, DEPROVISION, SYNC, Answer(410, Body.OTHER_ERROR), Holding(is_marked=True))
-        self.begins(Holding.NONE, None, PROVISION, SYNC, Answer(400, Body.OTHER_ERROR), Holding.NONE)
-        self.begins(ready, Mode.SYNC, PROVISION, SYNC, Answer(200, Body.EMPTY), ready)
-        self.begins(ready, Mode.SYNC, POLL, SYNC, Answer(200, Body.SUCCEEDED), ready)
-        unwilling = request(PROVISION, ASYNC, accepts=False)
-        self.assertEqual(Holding.NONE.begin(Mode.ASYNC, unwilling), (Holding.NONE, Answer(422, Body.ASYNC_REQUIRED)))
-
-    def test_end(self) -> None:
-        done, before, after = Outcome.DONE, Outcome.BEFORE, Outcome.AFTER
-        failed, marked = Answer(500, Body.OTHER_ERROR), Holding(is_marked=True)
-        table: tuple[tuple[Mode, Kind, Outcome, Answer, Holding], ...] = (
-            (Mode.SYNC, PROVISION, done, Answer(201, Body.EMPTY), Holding(row(Phase.READY, SYNC))),
-            (Mode.ASYNC, PROVISION, done, Answer(202, Body.EMPTY), Holding(row(Phase.MAKING))),
-            (Mode.SYNC, PROVISION, after, failed, Holding(row(Phase.READY, SYNC))),
-            (Mode.ASYNC, PROVISION, after, failed, Holding(row(Phase.MAKING))),
-            (Mode.SYNC, PROVISION, before, failed, Holding.NONE),
-            (Mode.ASYNC, PROVISION, before, failed, Holding.NONE),
-            (Mode.SYNC, DEPROVISION, done, Answer(200, Body.EMPTY), marked),
-            (Mode.SYNC, DEPROVISION, after, failed, marked),
-            (Mode.ASYNC, DEPROVISION, done, Answer(202, Body.EMPTY), Holding(row(Phase.DELETING))),
-            (Mode.ASYNC, DEPROVISION, after, failed, Holding(row(Phase.DELETING))),
-            (Mode.SYNC, DEPROVISION, before, failed, Holding(row(Phase.READY, SYNC))),
-            (Mode.ASYNC, DEPROVISION, before, failed, Holding(row(Phase.READY))),
-        )
-        for mode, kind, outcome, answer, left in table:
-            held = holding_with_work(kind, SYNC if mode == Mode.SYNC else ASYNC)
-            self.assertEqual(held.end(mode, outcome), (left, answer), (mode, kind, outcome))
-        self.assertEqual(status_of(lambda: Holding.NONE.end(Mode.SYNC, done)), Status.NOTHING_BEGUN)
-
-    def test_finish(self) -> None:
-        for phase, ok, after in (
-            (Phase.MAKING, True, Holding(row(Phase.READY))),
-            (Phase.MAKING, False, Holding(row(Phase.FAILED))),
-            (Phase.DELETING, True, Holding(is_marked=True)),
-            (Phase.DELETING, False, Holding(row(Phase.DELETE_FAILED))),
-        ):
-            self.assertEqual(Holding(row(phase)).finish(ok), after, (phase, ok))
+    def test_statuses(self) -> None:
+        """checks/network compares what each call gives; here is why one is refused."""
+        self.assertEqual(status_of(lambda: Holding.NONE.end(Mode.SYNC, Outcome.DONE)), Status.NOTHING_BEGUN)
         for held in (Holding.NONE, Holding(is_marked=True), Holding(row(Phase.READY)), holding_with_work(PROVISION)):
             self.assertEqual(status_of(lambda: held.finish(True)), Status.NOTHING_RUNNING, held)
+
+    def test_work_of(self) -> None:
+        for kind, works in (
+            (PROVISION, [Work.MAKE, Work.START_MAKING, None]),
+            (DEPROVISION, [Work.DELETE, Work.START_DELETING, None]),
+            (POLL, [None, None, None]),
+        ):
+            self.assertEqual([work_of(kind, mode) for mode in (Mode.SYNC, Mode.ASYNC, None)], works)
 
     def test_handle(self) -> None:
         self.assertEqual(
