@@ -1,47 +1,47 @@
-"""Fixtures: stores with the program that shows them, and a browser."""
+"""Fixtures: stores with the page that shows them, and a browser."""
 from __future__ import annotations
 
+import contextlib
 from pathlib import Path
-from typing import Iterator, NamedTuple
+from typing import Callable, Iterator, NamedTuple
 
 import pytest
-from page import stores
 from page.browser import Browser, browser, found
-from page.program import showing
 
 
 class Shown(NamedTuple):
-    """A store that the program shows."""
+    """A store that a page shows."""
 
     url: str
     store: Path
 
 
-@pytest.fixture(scope="module")
-def empty(tmp_path_factory: pytest.TempPathFactory, library: Path) -> Iterator[Shown]:
-    """A store with nothing in it."""
-    store = tmp_path_factory.mktemp("empty") / "instances.sqlite"
-    stores.empty(store)
-    with showing(store) as url:
+@contextlib.contextmanager
+def shown(store: Path) -> Iterator[Shown]:
+    """The page of a store, until the end of the block."""
+    from osb_platform.page import Page, serving  # the root's conftest.py has found the library by now
+    from osb_platform.sqlite_database import SqliteReader
+
+    with serving(Page(SqliteReader(store), "http://a-broker.example"), "127.0.0.1", 0) as url:
         yield Shown(url, store)
 
 
-@pytest.fixture(scope="module")
-def storm(tmp_path_factory: pytest.TempPathFactory, library: Path) -> Iterator[Shown]:
-    """A store of 300 instances in the middle of a storm."""
-    store = tmp_path_factory.mktemp("storm") / "instances.sqlite"
-    stores.storm(store)
-    with showing(store) as url:
-        yield Shown(url, store)
+def fixture_of(kind: str) -> Callable[..., Iterator[Shown]]:
+    """A store of this kind, and its page."""
+
+    @pytest.fixture(scope="module")
+    def made(tmp_path_factory: pytest.TempPathFactory, library: Path) -> Iterator[Shown]:
+        from page import stores
+
+        store = tmp_path_factory.mktemp(kind) / "instances.sqlite"
+        getattr(stores, kind)(store)
+        with shown(store) as it:
+            yield it
+
+    return made
 
 
-@pytest.fixture(scope="module")
-def large(tmp_path_factory: pytest.TempPathFactory, library: Path) -> Iterator[Shown]:
-    """A store of 100,000 instances."""
-    store = tmp_path_factory.mktemp("large") / "instances.sqlite"
-    stores.large(store)
-    with showing(store) as url:
-        yield Shown(url, store)
+empty, storm, large = map(fixture_of, ("empty", "storm", "large"))
 
 
 @pytest.fixture(scope="module")

@@ -4,7 +4,6 @@ tried where the environment variable OSB_TEST_POSTGRESQL names a database in whi
 from __future__ import annotations
 
 import contextlib
-import http.client
 import io
 import re
 import signal
@@ -13,7 +12,7 @@ import sqlite3
 import threading
 import time
 import uuid
-from typing import Any, ContextManager, Iterator, NamedTuple
+from typing import Any, ContextManager, Iterator
 from unittest import mock
 from urllib.parse import quote
 
@@ -30,45 +29,10 @@ from osb_platform.sqlite_database import SqliteDatabase, SqliteReader
 from osb_platform.words import STATES
 from osb_program.pg import Sessions
 from program_tests.broker_support import AT_ONCE, POSTGRESQL, SERVICE, InFolder
-from program_tests.platform_support import platform, ran
+from program_tests.platform_support import get, platform, ran
 
 BROKER = "http://a-broker.example"
 HARM = "<script>alert('&')</script>\""
-
-
-class Got(NamedTuple):
-    """What came from the page."""
-
-    status: int
-    headers: dict[str, str]
-    text: str
-
-    def ids(self) -> list[str]:
-        """The ids of the list, in its order."""
-        return re.findall(r'id="i-([0-9a-f-]{36})"', self.text)
-
-    def link(self, id: str) -> str | None:
-        """Where the link of this id leads."""
-        found = re.search(f'href="([^"]*)" id="{id}"', self.text)
-        return None if found is None else found[1].replace("&amp;", "&")
-
-    def line(self, id: str) -> str:
-        """The words in the row of an instance."""
-        found = re.search(f'<tr role="row"><th[^>]*><a href="/instance/{id}" id="i-.*?</tr>', self.text, re.DOTALL)
-        return "" if found is None else " ".join(re.sub("<[^>]*>", " ", found[0]).split())
-
-
-def get(url: str, target: str = "/", method: str = "GET", body: bytes | None = None, **headers: str) -> Got:
-    """What it answers; headers with _ for -."""
-    with contextlib.closing(http.client.HTTPConnection(url[len("http://") : -1], timeout=30)) as connection:
-        connection.putrequest(method, target, skip_host="Host" in headers)
-        for name, value in headers.items():
-            connection.putheader(name.replace("_", "-"), value)
-        if body is not None:
-            connection.putheader("Content-Length", str(len(body)))
-        connection.endheaders(body)
-        response = connection.getresponse()
-        return Got(response.status, dict(response.getheaders()), response.read().decode())
 
 
 def named(url: str, line: str, further: bytes = b"") -> bytes:
