@@ -19,7 +19,10 @@ def test_counts(large: Shown) -> None:
     with SqliteDatabase(large.store).transaction() as execute:
         rows = execute("SELECT state, count(*) FROM osb_instances GROUP BY state", [])
     told = re.findall(r'<strong>([0-9,]+)</strong> <span class="state [a-z-]+">([a-z-]+)<', get(large.url).text)
-    assert {state: int(count.replace(",", "")) for count, state in told} == {"all": 100_000, **dict(rows)}
+    assert {state: int(count.replace(",", "")) for count, state in told} == {
+        "all": 100_000,
+        **{state: count for state, count in rows},
+    }
 
 
 def test_both_ends(large: Shown) -> None:

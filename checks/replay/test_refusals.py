@@ -1,12 +1,13 @@
 """Refuses each allocation in turn, and fails each read and each write in turn (docs/reliability.md).
 
 So it is done with the calls of the libraries, which the program of the crate refusal_cases makes and tells of, and with
-osb-replay on every worked schedule. refusals.txt says how many of each there are.
+osb-replay on every worked schedule.
 """
 
 from __future__ import annotations
 
 import os
+import re
 import shutil
 import subprocess
 from collections.abc import Callable
@@ -22,10 +23,8 @@ from replay.worked import ONE, PLANS, Worked, lines, report, schedule, whole, wo
 
 pytestmark = pytest.mark.slow
 
-HERE = Path(__file__).resolve().parent
-NUMBERS = {line.split()[0]: int(line.split()[1]) for line in (HERE / "refusals.txt").read_text().splitlines()}
-TOTALS = ("calls", "allocations", "reads", "writes")
-PARTS = [name for name in NUMBERS if name not in TOTALS]
+TABLE = (TOP / "docs" / "reliability.md").read_text(encoding="utf-8").partition("| part | what is called |\n")[2]
+PARTS = re.findall(r"^\| `([a-z0-9-]+)` \|", TABLE, re.MULTILINE)
 FAILURES = ["error", "interrupted", "nothing"]
 CUT = {"CUT_READS": 1, "CUT_WRITES": 1}
 
@@ -66,7 +65,6 @@ def test_calls_with_nothing_refused(refusal_cases: Path) -> None:
 
 def test_parts(refusal_cases: Path) -> None:
     assert run(refusal_cases, "parts").out.split() == PARTS
-    assert NUMBERS["calls"] == sum(NUMBERS[part] for part in PARTS)
 
 
 @pytest.mark.parametrize("part", PARTS)
@@ -76,7 +74,6 @@ def test_part(shared: Path, refusal_cases: Path, tmp_path: Path, part: str) -> N
     clean = refuser.run(TOLD_CALLS=1)
     told = calls(clean.out)
     assert clean.ran.status == 0 and told
-    assert clean.counts.allocations == NUMBERS[part]
     takers = [call.name for call in told if call.takes_memory]
     assert len(set(takers)) == len(takers), "a call is known by its name"
     refused = set()
@@ -338,30 +335,6 @@ def test_table_in_pieces_of_one_byte(replay: Path, refusing: Refusing) -> None:
     assert clean.ran == expected
     assert clean.counts.writes == len(expected.out)
     check_writes(refuser, clean, expected, {"CUT_WRITES": 1})
-
-
-# ---- how many of each there are
-
-
-def test_totals(refusing: Refusing) -> None:
-    """What the tests above refuse and fail of the program, counted where nothing is refused."""
-    allocations = reads = writes = 0
-    for arguments in WORDS:
-        allocations += refusing(*arguments.split()).run().counts.early_allocations
-    for case in (*CASES, *(it.case for it in TRACES)):
-        counts = refusing(*case.arguments, given=case.given).run().counts
-        allocations += counts.allocations - counts.early_allocations
-        reads += counts.reads
-        writes += counts.writes
-    for arguments in UNREAD:
-        counts = refusing(*arguments.split()).run().counts
-        allocations += counts.allocations
-        writes += counts.writes
-    counts = refusing(*FIRST.arguments, given=FIRST.given).run(**CUT).counts
-    reads += counts.reads
-    writes += counts.writes + refusing("table").run(CUT_WRITES=1).counts.writes
-    expected = (NUMBERS["allocations"] - NUMBERS["calls"], NUMBERS["reads"], NUMBERS["writes"])
-    assert (allocations, reads, writes) == expected
 
 
 # ---- memory that doesn't grow
