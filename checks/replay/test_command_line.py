@@ -44,57 +44,21 @@ def test_launcher_through_a_link(tmp_path: Path) -> None:
     assert Ran(ran.returncode, ran.stdout.decode(), ran.stderr.decode()) == Ran(0, FIRST, "")
 
 
-# ---- the orphan mitigation table
-
-TABLE = Ran(
-    0,
-    """\
-100 cleaning yes
-200 ready no
-200-malformed unsettled no
-201 ready no
-201-malformed cleaning yes
-202 polling no
-202-malformed cleaning yes
-204 cleaning yes
-302 cleaning yes
-400 gone no
-408 unsettled no
-409 unsettled no
-422-AsyncRequired gone no
-422-ConcurrencyError unsettled no
-422-Other unsettled no
-422-malformed unsettled no
-429 gone no
-500 cleaning yes
-503 cleaning yes
-600 cleaning yes
-timeout cleaning yes
-""",
-    "",
-)
+# ---- the orphan mitigation table. docs/platform.md has it, which is compared with what the program prints.
 
 
-def test_table(replay: Path) -> None:
-    assert run(replay, "table") == TABLE
-
-
-def test_table_without_input(replay: Path) -> None:
-    ran = subprocess.run(["sh", "-c", '"$0" table <&-', replay], capture_output=True, check=False)
-    assert Ran(ran.returncode, ran.stdout.decode(), ran.stderr.decode()) == TABLE
-
-
-def test_table_by_another_name(replay: Path) -> None:
-    ran = subprocess.run(["table", "table"], executable=replay, input=b"", capture_output=True, check=False)
-    assert Ran(ran.returncode, ran.stdout.decode(), ran.stderr.decode()) == TABLE
+def test_table_by_another_name_and_without_input(replay: Path) -> None:
+    expected = run(replay, "table")
+    assert (expected.status, expected.out.count("\n"), expected.err) == (0, 21, "")
+    ran = subprocess.run(["bash", "-c", 'exec -a table "$0" table <&-', replay], capture_output=True, check=False)
+    assert Ran(ran.returncode, ran.stdout.decode(), ran.stderr.decode()) == expected
 
 
 def test_table_reads_no_input(replay: Path, tmp_path: Path) -> None:
     (tmp_path / "in").write_text("bogus\n")
     with open(tmp_path / "in", "rb", buffering=0) as given:
-        ran = subprocess.run([replay, "table"], stdin=given, capture_output=True, check=False)
+        subprocess.run([replay, "table"], stdin=given, stdout=subprocess.DEVNULL, check=True)
         assert given.read() == b"bogus\n"
-    assert Ran(ran.returncode, ran.stdout.decode(), ran.stderr.decode()) == TABLE
 
 
 # ---- help. docs/command-line.md has all of its text, which is compared with what the program prints.
