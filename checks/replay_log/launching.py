@@ -5,12 +5,11 @@ from __future__ import annotations
 import os
 import signal
 import subprocess
-import time
-from collections.abc import Callable
 from pathlib import Path
 from typing import IO
 
 from replay.running import TOP, Ran
+from waiting import until
 
 LAUNCHER = TOP / "osb-replay-log"
 SECONDS = 120
@@ -22,14 +21,6 @@ until mkdir "{calls}/$n" 2>/dev/null; do n=$((n + 1)); done
 """
 SLOW = NUMBERED + '[ $n -ne {killed} ] || kill -9 $PPID\n[ $n -eq 1 ] || sleep {seconds}\nexec "{program}" "$@"\n'
 ENDLESS = NUMBERED + '[ $n -ne 1 ] || exec "{program}" "$@"\necho $$ >"{calls}/$n/pid"\necho written\nexec sleep 30\n'
-
-
-def until(what: Callable[[], object], seconds: float = 60) -> None:
-    """Waits until this is so."""
-    end = time.monotonic() + seconds
-    while not what():
-        assert time.monotonic() < end, "it didn't come about"
-        time.sleep(0.05)
 
 
 class Launcher:

@@ -21,7 +21,8 @@ import pytest
 from replay.running import EXAMPLES, Ran, run
 from replay.schedules import HEAD, instance, lines
 from replay.worked import ONE, SERVICE
-from replay_log.launching import ENDLESS, LAUNCHER, SLOW, Launcher, fails, is_running, parent, terminate, until
+from replay_log.launching import ENDLESS, LAUNCHER, SLOW, Launcher, fails, is_running, parent, terminate
+from waiting import until
 
 pytestmark = pytest.mark.slow
 

@@ -30,6 +30,7 @@ from program_tests.broker_support import (
     authorization,
     broker,
 )
+from waiting import until
 
 pytestmark = pytest.mark.slow
 
@@ -72,13 +73,6 @@ def held_rows(folder: Path) -> list[str]:
         return [id for (id,) in database.execute("SELECT id FROM holdings ORDER BY id")]
 
 
-def until(is_so: Callable[[], bool]) -> bool:
-    last = time.monotonic() + 60
-    while not is_so() and time.monotonic() < last:
-        time.sleep(0.01)
-    return is_so()
-
-
 def connected(running: Running) -> socket.socket:
     where = urlsplit(running.url)
     return socket.create_connection((str(where.hostname), int(where.port or 0)), 60)
@@ -116,12 +110,12 @@ class Life(InFolder):
             self.assertEqual([it["id"] for it in services[0]["plans"]], [str(AT_ONCE), str(BY_WORKER)])
             self.assertEqual([running.provision().status, running.provision().status], [201, 200])
             self.assertEqual(running.provision(TWO, BY_WORKER).status, 202)
-            self.assertTrue(until(lambda: bool(running.poll(TWO).body["state"] == "succeeded")))
+            until(lambda: bool(running.poll(TWO).body["state"] == "succeeded"))
             folders = self.folder / "state" / "instances"
             self.assertTrue((folders / str(ONE)).is_dir() and (folders / str(TWO)).is_dir())
             self.assertEqual([running.deprovision().status, running.deprovision().status], [200, 410])
             self.assertEqual(running.deprovision(TWO, BY_WORKER).status, 202)
-            self.assertTrue(until(lambda: running.poll(TWO).status == 410))
+            until(lambda: running.poll(TWO).status == 410)
             self.assertEqual(sorted(it.name for it in folders.iterdir()), [".locks", ".owner"])
             self.assertEqual(running.end(), 0)
 
@@ -308,7 +302,7 @@ class Hostile(InFolder):
             making = threading.Thread(target=running.provision)
             making.start()
             begun = self.folder / "state" / "begun"
-            self.assertTrue(until(begun.exists))
+            until(begun.exists)
             self.assertEqual(running.ask("GET", "/healthz").status, 200)
             (self.folder / "state" / "go").touch()
             making.join()

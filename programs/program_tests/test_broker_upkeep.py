@@ -3,7 +3,6 @@ from __future__ import annotations
 
 import threading
 import time
-from typing import Callable
 
 from osb import BrokerRow, Holding, Id, Kind, Phase, Plan, Request
 from osb.service import BrokerService
@@ -13,14 +12,9 @@ from osb_broker.sqlite_store import SqliteStore
 from osb_broker.upkeep import Upkeep
 from osb_broker.worker import BackendWorker
 from program_tests.broker_support import AT_ONCE, BY_WORKER, ONE, SERVICE, TWO, InFolder, held, put, request
+from waiting import until
 
 READY = Holding(BrokerRow(SERVICE, AT_ONCE, Phase.READY))
-
-
-def until(is_so: Callable[[], bool]) -> None:
-    last = time.monotonic() + 60
-    while not is_so() and time.monotonic() < last:
-        time.sleep(0.005)
 
 
 def ended(upkeep: Upkeep, seconds: float) -> bool:
