@@ -1,6 +1,6 @@
 """Two instances, by both sides. The answer to the first Provision is lost, so the platform deletes the instance; the
 second instance becomes ready. Each side keeps one value for each instance, and requests and answers are written and
-read as HTTP and JSON have them. story.out has what this program prints. LIBOSB names the library if the system doesn't
+read as HTTP and JSON have them. It prints what examples/c/story.out has. LIBOSB names the library if the system doesn't
 find it.
 """
 from __future__ import annotations

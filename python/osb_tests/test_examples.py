@@ -7,11 +7,11 @@ from pathlib import Path
 
 import pytest
 
-STORY = Path(__file__).resolve().parents[2] / "examples" / "python" / "story.py"
+EXAMPLES = Path(__file__).resolve().parents[2] / "examples"
 
 
 @pytest.mark.slow
 def test_story() -> None:
-    ran = subprocess.run([sys.executable, str(STORY)], capture_output=True, text=True, timeout=60)
-    told = STORY.with_suffix(".out").read_text(encoding="utf-8")
+    ran = subprocess.run([sys.executable, EXAMPLES / "python" / "story.py"], capture_output=True, text=True, timeout=60)
+    told = (EXAMPLES / "c" / "story.out").read_text(encoding="utf-8")
     assert (ran.returncode, ran.stdout, ran.stderr) == (0, told, "")
