@@ -2,17 +2,14 @@
 
 from __future__ import annotations
 
-import os
 import subprocess
 from collections.abc import Callable
 from pathlib import Path
 
 import pytest
-from replay.running import EXAMPLES, SECONDS, Ran, run, run_from
+from replay.running import EXAMPLES, SECONDS, Ran, run
 from replay.worked import ONE, SERVICE, SYNC, report
 
-FIRST = EXAMPLES / "first.schedule"
-READ_FAILED = Ran(3, "", "osb-replay: read failed\n")
 NO_MEMORY = Ran(5, "", "osb-replay: out of memory\n")
 HEADER = "line\tevent\tstep\tplatform\tbroker\tout\tanswer\n"
 NOTHING = report([], 0, 0)
@@ -21,66 +18,28 @@ SKIPPED = f"send {ONE}\n" * 100_000
 CREATES = "".join(f"create 00000000-0000-0000-0000-{number:012} {SERVICE} {SYNC} no\n" for number in range(100_000))
 
 
-def closed(number: int, program: Path, *arguments: str, **given: int) -> Ran:
-    """Runs the program with this file descriptor closed."""
-    command = ["sh", "-c", f'exec "$0" "$@" {number}{"<" if number == 0 else ">"}&-', program, *arguments]
-    given = {name: subprocess.PIPE for name in ("stdout", "stderr")} | given
-    ran = subprocess.run(command, check=False, timeout=SECONDS, **given)  # type: ignore[call-overload]
-    return Ran(ran.returncode, (ran.stdout or b"").decode(), (ran.stderr or b"").decode())
+def shell(program: Path, line: str) -> Ran:
+    """Runs a line of bash in the folder of the examples. $0 is the program."""
+    ran = subprocess.run(["bash", "-c", line, program], cwd=EXAMPLES, capture_output=True, check=False, timeout=SECONDS)
+    return Ran(ran.returncode, ran.stdout.decode(), ran.stderr.decode())
 
 
-# ---- input
+# ---- input and output
 
 
-def test_folder_as_input(replay: Path) -> None:
-    folder = os.open(".", os.O_RDONLY)
-    try:
-        assert run_from(folder, replay, "replay") == READ_FAILED
-    finally:
-        os.close(folder)
+@pytest.mark.parametrize("given", ["<.", "<&-"], ids=["folder", "closed"])
+def test_input(replay: Path, given: str) -> None:
+    assert shell(replay, f"$0 replay {given}") == Ran(3, "", "osb-replay: read failed\n")
 
 
-def test_no_input(replay: Path) -> None:
-    assert closed(0, replay, "replay") == READ_FAILED
+OUTPUTS = {"full": "$0 {} >/dev/full", "closed": "$0 {} >&-", "nobody reads": "exec 3> >(:); wait $!; $0 {} >&3"}
 
 
-# ---- output
-
-UNWRITTEN = {
-    "replay": (FIRST, ["replay"]),
-    "table": (Path(os.devnull), ["table"]),
-    "--help": (Path(os.devnull), ["--help"]),
-    "replay --help": (Path(os.devnull), ["replay", "--help"]),
-}
-
-
-def status_and_error(program: Path, given: Path, out: int, *arguments: str) -> tuple[int, str]:
-    with open(given, "rb") as it:
-        ran = subprocess.run(
-            [program, *arguments], stdin=it, stdout=out, stderr=subprocess.PIPE, check=False, timeout=SECONDS
-        )
-    return ran.returncode, ran.stderr.decode()
-
-
-@pytest.mark.parametrize(("given", "arguments"), UNWRITTEN.values(), ids=UNWRITTEN)
-class TestOutput:
+@pytest.mark.parametrize("arguments", ["replay <first.schedule", "table", "--help", "replay --help"])
+@pytest.mark.parametrize("line", OUTPUTS.values(), ids=OUTPUTS)
+def test_output(replay: Path, line: str, arguments: str) -> None:
     """What can't be written is reported, whatever it is."""
-
-    def test_full_device(self, replay: Path, given: Path, arguments: list[str]) -> None:
-        with open("/dev/full", "wb") as full:
-            assert status_and_error(replay, given, full.fileno(), *arguments) == (4, "osb-replay: write failed\n")
-
-    def test_closed(self, replay: Path, given: Path, arguments: list[str]) -> None:
-        with open(given, "rb") as it:
-            assert closed(1, replay, *arguments, stdin=it.fileno()) == Ran(4, "", "osb-replay: write failed\n")
-
-    def test_nobody_reads(self, replay: Path, given: Path, arguments: list[str]) -> None:
-        there, here = os.pipe()
-        os.close(there)
-        try:
-            assert status_and_error(replay, given, here, *arguments) == (4, "osb-replay: write failed\n")
-        finally:
-            os.close(here)
+    assert shell(replay, line.format(arguments)) == Ran(4, "", "osb-replay: write failed\n")
 
 
 # ---- memory
@@ -138,36 +97,20 @@ def test_memory_of_arguments(replay: Path) -> None:
 
 # ---- standard error
 
-
-def outcomes(error: int | None, given: Path, out: int, *command: str) -> tuple[int, str]:
-    """The status, and what is on standard output, with this as standard error, or none."""
-    if error is None:
-        command = ("sh", "-c", 'exec "$0" "$@" 2>&-', *command)
-    it = os.open(given, os.O_RDONLY)
-    try:
-        ran = subprocess.run(command, stdin=it, stdout=out, stderr=error, check=False, timeout=SECONDS)
-    finally:
-        os.close(it)
-    return ran.returncode, (ran.stdout or b"").decode()
+FAILING = {
+    1: "$0 replay <<<bogus",
+    2: "$0 bogus",
+    3: "$0 replay <.",
+    4: "$0 replay <first.schedule >/dev/full",
+    5: "MALLOC_TOP_PAD_=0 prlimit --as={bytes} $0 replay <{creates}",
+}
 
 
-@pytest.mark.parametrize("status", [1, 2, 3, 4, 5])
-@pytest.mark.parametrize("has_error", [True, False], ids=["full", "closed"])
-def test_standard_error(
-    replay: Path, tmp_path: Path, request: pytest.FixtureRequest, status: int, has_error: bool
-) -> None:
+@pytest.mark.parametrize("status", FAILING)
+@pytest.mark.parametrize("error", ["2>/dev/full", "2>&-"], ids=["full", "closed"])
+def test_standard_error(replay: Path, little: int, tmp_path: Path, status: int, error: str) -> None:
     """The status is the same if its line can't be written, and nothing is on standard output."""
-    given, out, command = tmp_path / "in", subprocess.PIPE, [str(replay), "replay"]
-    given.write_text(CREATES if status == 5 else "bogus\n")
-    if status == 2:
-        command[1] = "bogus"
-    elif status == 3:
-        given = tmp_path
-    elif status == 4:
-        given, out = FIRST, os.open("/dev/full", os.O_WRONLY)
-        request.addfinalizer(lambda: os.close(out))
-    elif status == 5:
-        kilobytes = request.getfixturevalue("little")
-        command = ["env", "MALLOC_TOP_PAD_=0", "prlimit", f"--as={kilobytes * 1024}", *command]
-    with open("/dev/full", "wb") as full:
-        assert outcomes(full.fileno() if has_error else None, given, out, *command) == (status, "")
+    creates = tmp_path / "creates"
+    creates.write_text(CREATES)
+    line = FAILING[status].format(bytes=little * 1024, creates=creates)
+    assert shell(replay, f"{line} {error}") == Ran(status, "", "")

@@ -6,7 +6,6 @@ import os
 import signal
 import subprocess
 from pathlib import Path
-from typing import IO
 
 from replay.running import TOP, Ran
 from waiting import until
@@ -33,31 +32,22 @@ class Launcher:
         self.environment = {**os.environ, "OSB_REPLAY": str(program)}
         self.environment.pop("PYTHONSAFEPATH", None)
 
-    def run(
-        self, *arguments: str, out: int | IO[bytes] = subprocess.PIPE, environment: dict[str, str] | None = None
-    ) -> Ran:
+    def run(self, *arguments: str, environment: dict[str, str] | None = None) -> Ran:
         """Runs it with these arguments. It leaves nothing in its work directory."""
-        return self.run_by([str(LAUNCHER)], *arguments, out=out, environment=environment)
+        return self.run_by([str(LAUNCHER)], *arguments, environment=environment)
 
-    def run_by(
-        self,
-        command: list[str],
-        *arguments: str,
-        out: int | IO[bytes] = subprocess.PIPE,
-        environment: dict[str, str] | None = None,
-    ) -> Ran:
+    def run_by(self, command: list[str], *arguments: str, environment: dict[str, str] | None = None) -> Ran:
         """The same, by this command in the launcher's place."""
         ran = subprocess.run(
             [*command, *arguments],
             stdin=subprocess.DEVNULL,
-            stdout=out,
-            stderr=subprocess.PIPE,
+            capture_output=True,
             env={**self.environment, **(environment or {})},
             check=False,
             timeout=SECONDS,
         )
         assert not [*self.room.iterdir()]
-        return Ran(ran.returncode, (ran.stdout or b"").decode(), ran.stderr.decode())
+        return Ran(ran.returncode, ran.stdout.decode(), ran.stderr.decode())
 
     def begin(self, *arguments: str, environment: dict[str, str]) -> subprocess.Popen[bytes]:
         """Starts it in a session of its own."""

@@ -240,24 +240,17 @@ def test_a_full_room(launcher: Launcher, logs: Logs) -> None:
     fails(told, 4, "write failed: File too large")
 
 
-def test_a_full_disk(launcher: Launcher, logs: Logs) -> None:
+OUTPUTS = {
+    "full": '"$0" "$@" >/dev/full',
+    "closed": '"$0" "$@" >&-',
+    "nobody reads": 'exec 3> >(:); wait $!; "$0" "$@" >&3',
+}
+
+
+@pytest.mark.parametrize("line", OUTPUTS.values(), ids=OUTPUTS)
+def test_output(launcher: Launcher, logs: Logs, line: str) -> None:
     arguments = ["replay", "--engine", "processes", "--room", str(launcher.room), *logs.paths]
-    with open("/dev/full", "wb") as full:
-        assert launcher.run(*arguments, out=full) == Ran(4, "", WRITE_FAILED)
-
-
-def test_nobody_reads(launcher: Launcher, logs: Logs) -> None:
-    there, here = os.pipe()
-    os.close(there)
-    with open(here, "wb") as out:
-        arguments = ["replay", "--engine", "processes", "--room", str(launcher.room), *logs.paths]
-        assert launcher.run(*arguments, out=out) == Ran(4, "", WRITE_FAILED)
-
-
-def test_closed_output(launcher: Launcher, logs: Logs) -> None:
-    arguments = ["replay", "--engine", "processes", "--room", str(launcher.room), *logs.paths]
-    told = launcher.run_by(["sh", "-c", 'exec "$0" "$@" >&-', str(LAUNCHER)], *arguments)
-    assert told == Ran(4, "", WRITE_FAILED)
+    assert launcher.run_by(["bash", "-c", line, str(LAUNCHER)], *arguments) == Ran(4, "", WRITE_FAILED)
 
 
 @pytest.mark.parametrize(
