@@ -2,7 +2,6 @@
 
 from __future__ import annotations
 
-import hashlib
 import os
 import shutil
 import subprocess
@@ -84,19 +83,9 @@ class Repository:
     def _fill_prebuilt(self) -> None:
         for name, text in (("osb-replay", PROGRAM), ("libosb.so", "prebuilt\n"), ("libosb.a", "prebuilt\n")):
             self.write(str(self.prebuilt.relative_to(self.top) / name), text)
-        lines = []
-        for target, names in (("replay", ["osb-replay"]), ("library", ["libosb.so", "libosb.a"])):
-            sources = self.digest_of_sources(target)
-            for name in names:
-                found = hashlib.sha256((self.prebuilt / name).read_bytes()).hexdigest()
-                lines.append(f"{name} {found} {sources} kit 1\n")
-        (self.prebuilt / "MANIFEST").write_text("# A comment.\n" + "".join(lines))
-
-    def digest_of_sources(self, target: str) -> str:
-        script = f"top=$PWD who=test; . scripts/artifacts.sh && digest_of_sources {target}"
-        return subprocess.run(
-            ["bash", "-c", script], cwd=self.top, check=True, capture_output=True, text=True
-        ).stdout.strip()
+        each = 'record "$prebuilt" $it "$(digest_of_sources $it)" "kit 1"'
+        script = f". scripts/artifacts.sh && for it in replay library; do {each}; done"
+        subprocess.run(["bash", "-c", f"top=$PWD who=test; {script}"], cwd=self.top, check=True)
 
     def environment(self, has_rt: bool = True) -> dict[str, str]:
         """With the PATH of this process, on which no rt is but the one that stands for it."""
