@@ -6,12 +6,9 @@ import contextlib
 import functools
 import http.client
 import json
-import logging
 import os
 import signal
 import subprocess
-import tempfile
-import unittest
 from pathlib import Path
 from typing import Any, Iterator, NamedTuple
 from urllib.parse import urlsplit
@@ -19,6 +16,7 @@ from urllib.parse import urlsplit
 import pytest
 from osb import Holding, Id, Kind, Request
 from osb.stores import Store
+from osb_tests import support
 
 TOP = Path(__file__).resolve().parent.parent.parent
 ONE = Id.of("00000000-0000-0000-0000-000000000001")
@@ -48,15 +46,8 @@ def put(store: Store, holding: Holding, id: Id = ONE) -> None:
     store.update(id, lambda _: (holding, None))
 
 
-class InFolder(unittest.TestCase):
+class InFolder(support.InFolder):
     """A test with a folder of its own, and without a word in the log."""
-
-    def setUp(self) -> None:
-        logging.disable(logging.CRITICAL)
-        self.addCleanup(logging.disable, logging.NOTSET)
-        folder = tempfile.TemporaryDirectory()
-        self.addCleanup(folder.cleanup)
-        self.folder = Path(folder.name)
 
 
 class Reply(NamedTuple):

@@ -5,7 +5,11 @@ import base64
 import contextlib
 import io
 import json
+import logging
+import tempfile
 import threading
+import unittest
+from pathlib import Path
 from socketserver import ThreadingMixIn
 from typing import Any, Callable, Iterator, NamedTuple
 from wsgiref.simple_server import WSGIRequestHandler, WSGIServer, make_server
@@ -29,6 +33,17 @@ CATALOGUE = json.dumps(
 
 def request(kind: Kind, plan: Id = SYNC, accepts: bool = True, id: Id = ONE) -> Request:
     return Request(kind, accepts, id, SERVICE, plan)
+
+
+class InFolder(unittest.TestCase):
+    """A test with a folder of its own, and without a word in the log."""
+
+    def setUp(self) -> None:
+        logging.disable(logging.CRITICAL)
+        self.addCleanup(logging.disable, logging.NOTSET)
+        folder = tempfile.TemporaryDirectory()
+        self.addCleanup(folder.cleanup)
+        self.folder = Path(folder.name)
 
 
 class Things:

@@ -7,7 +7,6 @@ import logging
 import socket
 import threading
 import time
-import unittest
 from typing import Any, Callable, Iterator
 from unittest import mock
 
@@ -15,7 +14,7 @@ import pytest
 from osb import Answer, Body, Id, Kind, OsbError, Record, State, Status
 from osb.client import Client, Exchanged
 from osb.records import IdUsed, Kept, MemoryRecords, UnknownId
-from osb_tests.support import ONE, PASSWORD, SERVICE, SYNC, TWO, USER, authorization
+from osb_tests.support import ONE, PASSWORD, SERVICE, SYNC, TWO, USER, InFolder, authorization
 
 
 def response(status: int, body: bytes = b"{}", *headers: str) -> bytes:
@@ -89,13 +88,7 @@ def exchanged(state: State, answer: Answer | None, attempt: int = 1, retry: int 
     return Exchanged(Record(SERVICE, SYNC, attempt, state, None), answer, retry)
 
 
-class Quiet(unittest.TestCase):
-    def setUp(self) -> None:
-        logging.disable(logging.CRITICAL)
-        self.addCleanup(logging.disable, logging.NOTSET)
-
-
-class Sent(Quiet):
+class Sent(InFolder):
     def test_provision(self) -> None:
         came: list[bytes] = []
         with far_end(came, saying(response(201))) as url:
@@ -216,7 +209,7 @@ class Sent(Quiet):
 CHUNKED = b"HTTP/1.1 201 Said\r\nTransfer-Encoding: chunked\r\n\r\n"
 
 
-class NoAnswer(Quiet):
+class NoAnswer(InFolder):
     @pytest.mark.slow
     def test_to_a_provision(self) -> None:
         whole = response(201)
@@ -308,7 +301,7 @@ class NoAnswer(Quiet):
             self.assertEqual(client(url).create(ONE, SERVICE, SYNC), exchanged(State.CLEANING, Answer(307, Body.EMPTY)))
 
 
-class GivenUp(Quiet):
+class GivenUp(InFolder):
     def test_what_a_crash_left(self) -> None:
         for state, out, after in (
             (State.WANTED, Kind.PROVISION, State.CLEANING),

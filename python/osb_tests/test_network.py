@@ -2,11 +2,7 @@
 from __future__ import annotations
 
 import json
-import logging
-import tempfile
-import unittest
 from http.client import HTTPConnection
-from pathlib import Path
 from typing import Any, Callable, Iterable
 from urllib.parse import urlsplit
 
@@ -23,6 +19,7 @@ from osb_tests.support import (
     SERVICE,
     SYNC,
     USER,
+    InFolder,
     Things,
     authorization,
     provision_body,
@@ -49,13 +46,9 @@ class Lossy:
         return [body]
 
 
-class BothSides(unittest.TestCase):
+class BothSides(InFolder):
     def setUp(self) -> None:
-        logging.disable(logging.CRITICAL)
-        self.addCleanup(logging.disable, logging.NOTSET)
-        folder = tempfile.TemporaryDirectory()
-        self.addCleanup(folder.cleanup)
-        self.folder = Path(folder.name)
+        super().setUp()
         self.store, self.worker = SqliteStore(self.folder / "holdings"), Things()
         self.broker = BrokerApplication(CATALOGUE, self.store, self.worker, USER, PASSWORD, prefix="/a")
         self.network = Lossy(self.broker)

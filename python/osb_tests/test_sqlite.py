@@ -5,18 +5,15 @@ import os
 import sqlite3
 import subprocess
 import sys
-import tempfile
 import threading
 import time
-import unittest
 from contextlib import closing
-from pathlib import Path
 from unittest import mock
 
 from osb import Holding
 from osb.sqlite import begin, opened, transaction
 from osb.stores import SqliteStore
-from osb_tests.support import ONE
+from osb_tests.support import ONE, InFolder
 
 # It is killed once its commit is written, and not synced.
 DIES = """
@@ -32,11 +29,9 @@ def pragma(database: sqlite3.Connection, name: str) -> object:
     return database.execute(f"PRAGMA {name}").fetchone()[0]
 
 
-class Opened(unittest.TestCase):
+class Opened(InFolder):
     def setUp(self) -> None:
-        folder = tempfile.TemporaryDirectory()
-        self.addCleanup(folder.cleanup)
-        self.folder = Path(folder.name)
+        super().setUp()
         self.file = self.folder / "file"
         with closing(opened(self.file, 1.0)) as first:
             first.execute("CREATE TABLE x (y)")

@@ -1,27 +1,17 @@
 """The stores: what was written stays, what raises writes nothing, and one at a time changes a row."""
 from __future__ import annotations
 
-import tempfile
 import threading
-import unittest
-from pathlib import Path
 from typing import Callable
 
 from osb import BrokerRow, Holding, Id, Kind, OsbError, Phase, Record, State
 from osb.locks import FileLocks
 from osb.records import IdUsed, Kept, MemoryRecords, RecordStore, SqliteRecords, UnknownId
 from osb.stores import MemoryStore, SqliteStore, Store
-from osb_tests.support import ASYNC, ONE, SERVICE, SYNC, TWO, request
+from osb_tests.support import ASYNC, ONE, SERVICE, SYNC, TWO, InFolder, request
 
 MAKING = Holding(BrokerRow(SERVICE, ASYNC, Phase.MAKING))
 READY = Holding(BrokerRow(SERVICE, SYNC, Phase.READY))
-
-
-class InFolder(unittest.TestCase):
-    def setUp(self) -> None:
-        folder = tempfile.TemporaryDirectory()
-        self.addCleanup(folder.cleanup)
-        self.folder = Path(folder.name)
 
 
 def held(store: Store, id: Id = ONE) -> Holding:

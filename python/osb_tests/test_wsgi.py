@@ -5,7 +5,6 @@ import contextlib
 import io
 import json
 import logging
-import unittest
 from typing import Any, Callable, ContextManager, Iterator
 
 from osb import Answer, Body, BrokerRow, Holding, Id, Kind, OsbError, Outcome, Phase, Refusal, Status, Work
@@ -23,6 +22,7 @@ from osb_tests.support import (
     TWO,
     UNSOLD,
     USER,
+    InFolder,
     Reply,
     Things,
     authorization,
@@ -50,13 +50,7 @@ def application(store: MemoryStore | None = None, worker: Things | None = None, 
     return BrokerApplication(CATALOGUE, store or MemoryStore(), worker or Things(), USER, PASSWORD, **given)
 
 
-class Quiet(unittest.TestCase):
-    def setUp(self) -> None:
-        logging.disable(logging.CRITICAL)
-        self.addCleanup(logging.disable, logging.NOTSET)
-
-
-class Requests(Quiet):
+class Requests(InFolder):
     def test_life_of_a_synchronous_plan(self) -> None:
         store, worker = MemoryStore(), Things()
         made = application(store, worker)
@@ -211,7 +205,7 @@ class Requests(Quiet):
         self.assertEqual(held(store), Holding.NONE)
 
 
-class Refused(Quiet):
+class Refused(InFolder):
     def test_credentials_first(self) -> None:
         made = application()
         for given in (None, authorization(password="x"), "Basic"):
@@ -322,7 +316,7 @@ class Refused(Quiet):
         BrokerApplication(CATALOGUE, MemoryStore(), Things(), USER, PASSWORD, prefix="/a/b", longest_body=1)
 
 
-class Faults(Quiet):
+class Faults(InFolder):
     def test_outcome_that_nobody_knows(self) -> None:
         def broken(task: Task) -> None:
             raise ConnectionError("the backend is away")
@@ -490,7 +484,7 @@ class Faults(Quiet):
         self.assertNotIn(authorization(), said)
 
 
-class Memory(Quiet):
+class Memory(InFolder):
     def test_want_of_memory(self) -> None:
         class Wanting(MemoryStore):
             def update(self, id: Id, change: Callable[[Holding], tuple[Holding, Any]]) -> Any:
