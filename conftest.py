@@ -22,6 +22,8 @@ PORT = pytest.StashKey[int]()
 
 def pytest_configure(config: pytest.Config) -> None:
     """Sets what the tests and the programs that they start find in the environment, before any test is imported."""
+    for name in ("MAKEFLAGS", "MFLAGS"):  # of a `make` that started this: they aren't for what the tests start
+        os.environ.pop(name, None)
     before = os.environ.get("PYTHONPATH", "").split(os.pathsep)
     os.environ["PYTHONPATH"] = os.pathsep.join([*PATHS, *(it for it in before if it and it not in PATHS)])
     with contextlib.suppress(LookupError):

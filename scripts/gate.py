@@ -166,7 +166,8 @@ def summary(results: list[Result]) -> str:
 
 def main() -> int:
     signal.signal(signal.SIGTERM, lambda *_: sys.exit(128 + signal.SIGTERM))
-    os.environ.pop("MAKEFLAGS", None)  # of a `make` that started this: it isn't for those that the tests start
+    for name in ("MAKEFLAGS", "MFLAGS"):  # of a `make` that started this: they aren't for what the steps start
+        os.environ.pop(name, None)
     found = steps(*sys.argv[1:])
     if "rt ci" in found:
         for name in NAMED:
