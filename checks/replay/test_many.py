@@ -69,6 +69,19 @@ def test_one_after_another(replay: Path) -> None:
     assert run(replay, "replay", given=text) == Ran(0, report(ends, 99_000, 0), "")
 
 
+@pytest.mark.parametrize("order", [sorted, list], ids=["rising", "mixed"])
+def test_more_than_16_bits_can_count(replay: Path, order: Callable[[list[str]], list[str]]) -> None:
+    """The requests of the last 4,464 of 70,000 instances are delivered, and no others. If the list of messages counted
+    its places in 16 bits, the requests of the first 4,464 would be delivered instead.
+    """
+    instances = order(ids(70_000))
+    delivered = instances[65_536:]
+    text = PLAN + of_each(instances, created) + of_each(delivered, lambda it: f"deliver {it} done\n")
+    phases = dict.fromkeys(instances, "none") | dict.fromkeys(delivered, "ready")
+    ends = [f"{it} wanted {phase}" for it, phase in sorted(phases.items())]
+    assert run(replay, "replay", given=text) == Ran(0, report(ends, 74_464, 0), "")
+
+
 def test_settled(replay: Path) -> None:
     instances = ids(2000)
     text = PLAN + of_each(instances, lambda it: f"{created(it)}deliver {it} done\n")
