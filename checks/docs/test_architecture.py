@@ -1,4 +1,4 @@
-"""docs/architecture-programs.md lists every package, what it imports, and files that exist."""
+"""docs/architecture-programs.md lists every package, what it imports, every folder of tests, and files that exist."""
 from __future__ import annotations
 
 import ast
@@ -36,6 +36,12 @@ def test_files() -> None:
     names = [it.rstrip("/") for it in re.findall(r"`([\w./-]+)`", read(PAGE)) if "/" in it or it.startswith("osb")]
     paths = [name if "/" in name else name.replace(".", "/") for name in names if name not in ELSEWHERE]
     assert [it for it in paths if not any(_exists(top / it) for top in TOPS)] == []
+
+
+def test_folders_of_tests() -> None:
+    """The table has a row for each folder of checks/ with tests."""
+    rows = re.findall(r"^\| `(checks/\w+)` ", read(PAGE), re.MULTILINE)
+    assert sorted(rows) == sorted({f"checks/{file.parent.name}" for file in TOP.glob("checks/*/test_*.py")})
 
 
 # Tables of the database, and a program that is built.
