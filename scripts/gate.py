@@ -31,7 +31,19 @@ TOP = Path(__file__).resolve().parent.parent
 COUNTS = re.compile(r"(\d+) passed, (\d+) failed(?:, (\d+) skipped)?")
 SKIPPED = "skipped: "
 # With these set, the tests would take another library, program or database than this checkout's.
-NAMED = ("LIBOSB", "LIBOSB_FOLDER", "OSB_REPLAY", "OSB_TEST_POSTGRESQL", "PYTHONPATH", "PYTEST_ADDOPTS")
+NAMED = (
+    "LIBOSB",
+    "LIBOSB_FOLDER",
+    "OSB_CRATES",
+    "OSB_REPLAY",
+    "OSB_TEST_POSTGRESQL",
+    "OSB_TEST_SERVER",
+    "OSB_TEST_URL",
+    "PYTHONPATH",
+    "PYTEST_ADDOPTS",
+)
+# PostgreSQL's clients take what a URL leaves out from variables that begin so, such as PGHOSTADDR and PGPASSWORD.
+LIBPQ = "PG"
 
 
 class Result(NamedTuple):
@@ -170,8 +182,8 @@ def main() -> int:
         os.environ.pop(name, None)
     found = steps(*sys.argv[1:])
     if "rt ci" in found:
-        for name in NAMED:
-            os.environ.pop(name, None)
+        for name in [it for it in os.environ if it in NAMED or it.startswith(LIBPQ)]:
+            del os.environ[name]
     results: list[Result] = []
     report: list[str] = []
     for name, step in found.items():

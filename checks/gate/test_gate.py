@@ -144,10 +144,20 @@ def test_no_tests_fail(repository: Repository) -> None:
     assert "pytest -m alone: it ended with status 5, with 0 passed" in lines[0]
 
 
+ELSEWHERE = (
+    *("LIBOSB", "LIBOSB_FOLDER", "OSB_CRATES", "OSB_REPLAY", "PYTHONPATH", "PYTEST_ADDOPTS"),
+    *("OSB_TEST_POSTGRESQL", "OSB_TEST_SERVER", "OSB_TEST_URL"),
+    *("PGDATABASE", "PGHOST", "PGHOSTADDR", "PGOPTIONS", "PGPASSWORD", "PGPORT", "PGSERVICE", "PGUSER"),
+)
+
+
 @pytest.mark.slow
-def test_environment_names_no_other_library(repository: Repository) -> None:
-    repository.script("scripts/prebuilt", 'echo "skipped: $LIBOSB$OSB_REPLAY"; echo "2 passed, 0 failed"')
-    assert repository.check(LIBOSB="elsewhere", OSB_REPLAY="elsewhere")[2] == ["skipped: "]
+def test_environment_names_nothing_elsewhere(repository: Repository) -> None:
+    """The steps see no variable that names another library, program or database. They see every other one."""
+    seen = "env | sed -n 's/=elsewhere$//p' | sort | tr '\\n' ' '"
+    repository.script("scripts/prebuilt", f'echo "skipped: $({seen})"; echo "2 passed, 0 failed"')
+    given = dict.fromkeys((*ELSEWHERE, "OSB_EXAMPLES", "LANGUAGE"), "elsewhere")
+    assert repository.check(**given)[2] == ["skipped: LANGUAGE OSB_EXAMPLES "]
 
 
 @pytest.mark.slow

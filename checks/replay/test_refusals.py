@@ -222,10 +222,12 @@ class Trace(NamedTuple):
 
 
 def traces() -> list[Trace]:
-    """A schedule with restarts, one instance of it, the same with a fault, and lines that fill the buffer twice.
+    """A schedule with restarts, one instance of it, the same with a fault, lines that fill the buffer twice, and a last
+    line that no line feed ends.
 
     The second restart takes memory, after the header and seven events, of which four are of I or restarts; the list of
-    those to be settled does, after all events; of the 300 lines the first alone.
+    those to be settled does, after all events; of the 300 lines the first alone; and the unfinished last line does,
+    after the header and two events.
     """
     told = lines(
         PLANS + "create I S P no; deliver I done; restart; send I; create J S Q yes; deliver J done; lose J;"
@@ -233,6 +235,7 @@ def traces() -> list[Trace]:
     )
     many = lines(PLANS + "create I S P no") + lines("lose I") * 300
     faulty = told + lines("answer I maybe")
+    unfinished = lines(PLANS + "create I S P no; deliver I done") + "restart"
     wrong = f"osb-replay: line {faulty.count(chr(10))}: WordCount\n"
     one = ["trace", "--settle", "--instance", ONE]
     return [
@@ -240,6 +243,7 @@ def traces() -> list[Trace]:
         Trace(Case("one instance, settled", one, told.encode(), Ran(0, traced(told, ONE, True), "")), 6),
         Trace(Case("with a fault", ["trace"], faulty.encode(), Ran(1, traced(told), wrong)), 8),
         Trace(Case("300 lines", ["trace"], many.encode(), Ran(0, traced(many), "")), 1),
+        Trace(Case("an unfinished last line", ["trace"], unfinished.encode(), Ran(0, traced(unfinished), "")), 3),
     ]
 
 

@@ -85,6 +85,23 @@ def test_the_lines_before_a_fault_stay(replay: Path) -> None:
     assert told == Ran(1, expected(schedule), f"osb-replay: line {line}: BadId\n")
 
 
+@pytest.mark.parametrize(
+    ("last", "told", "fault"),
+    [
+        (f"send {ONE}", f"2\tsend {ONE}\tunknown\tnone\tnone\t-\t-\n", None),
+        ("# an end", "", None),
+        (" \t", "", None),
+        ("send 1", "", "line 2: BadId"),
+    ],
+    ids=["event", "comment", "blanks", "fault"],
+)
+def test_last_line_without_a_line_feed(replay: Path, last: str, told: str, fault: str | None) -> None:
+    """The last line counts as any other does, also if no line feed ends it."""
+    head = f"{HEADER}\n1\trestart\tapplied, 0 changed\t-\t-\t-\t-\n"
+    ends = (1, f"osb-replay: {fault}\n") if fault else (0, "")
+    assert run(replay, "trace", given=f"restart\n{last}") == Ran(ends[0], head + told, ends[1])
+
+
 def test_id_in_capitals(replay: Path) -> None:
     one = "00000000-0000-0000-0000-00000000000A"
     told = run(replay, "trace", "--instance", one, given=f"send {one}\n")

@@ -11,7 +11,24 @@ mod words;
 
 use crate::words::first;
 use anyhow::Result;
+use osb_instance::TextFault;
 use std::alloc::Global;
+
+// `faults`: why a text names no record or holding, each as it is printed
+fn faults(rt: &impl Print) -> Result<()> {
+    for fault in &[
+        TextFault::NotJson,
+        TextFault::NotAnObject,
+        TextFault::BadVersion,
+        TextFault::BadOuter,
+        TextFault::BadMember,
+        TextFault::Impossible,
+        TextFault::Memory,
+    ] {
+        println!(rt; "  {fault}")?;
+    }
+    Ok(())
+}
 
 // What a call is told to make of its arguments.
 pub(crate) fn tell(rt: &impl Print, alloc: Global, line: &str) -> Result<()> {
@@ -33,6 +50,7 @@ pub(crate) fn tell(rt: &impl Print, alloc: Global, line: &str) -> Result<()> {
         "expire" => records::expire(rt, alloc, rest),
         "remove" => records::remove(rt, alloc, rest),
         "record" => records::text(rt, alloc, rest),
+        "faults" => faults(rt),
         _ => anyhow::bail!("no such call: {call}"),
     }
 }

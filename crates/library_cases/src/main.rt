@@ -53,7 +53,7 @@ fn main(rt: HostRuntime) -> Result<()> {
             of = named(name)?;
         } else if !text.is_empty() && !text.starts_with('#') {
             match of {
-                Library::Broker => broker::tell(&rt, text)?,
+                Library::Broker => broker::tell(&rt, rt.alloc(), text)?,
                 Library::Instance => instance::tell(&rt, rt.alloc(), text)?,
                 Library::Language => language::tell(&rt, text)?,
                 Library::Message => message::tell(&rt, rt.alloc(), text)?,

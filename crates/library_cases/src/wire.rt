@@ -29,6 +29,7 @@ pub(crate) fn tell(rt: &impl Print, alloc: Global, line: &str) -> Result<()> {
         "version" => broker::version(rt, rest),
         "authorized" => broker::authorized(rt, alloc, rest),
         "catalogue" => broker::catalogue(rt, alloc, rest),
+        "catalogue-faults" => broker::catalogue_faults(rt),
         _ => anyhow::bail!("no such call: {call}"),
     }
 }

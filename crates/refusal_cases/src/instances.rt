@@ -24,9 +24,17 @@ pub fn second() -> InstanceId {
     InstanceId::from_value(2)
 }
 
-// No part records it.
+// Only the part `world-full` records it.
 pub fn third() -> InstanceId {
     InstanceId::from_value(3)
+}
+
+pub fn fourth() -> InstanceId {
+    InstanceId::from_value(4)
+}
+
+pub fn fifth() -> InstanceId {
+    InstanceId::from_value(5)
 }
 
 // The two plans on sale.

@@ -25,7 +25,7 @@ use std::alloc::Global;
 use std::env;
 
 // The parts, in the order in which they are told.
-const PARTS: [&str; 25] = [
+const PARTS: [&str; 26] = [
     "rows-insert",
     "rows-ids",
     "catalogue-add",
@@ -42,6 +42,7 @@ const PARTS: [&str; 25] = [
     "world-unrecorded",
     "world-cleaned-up",
     "world-expired",
+    "world-full",
     "world-ids",
     "world-save",
     "run",
@@ -71,6 +72,7 @@ fn tell(rt: &impl Print, alloc: Global, part: &str) -> Result<()> {
         "world-unrecorded" => world::unrecorded(rt, alloc),
         "world-cleaned-up" => world::cleaned_up(rt, alloc),
         "world-expired" => world::expired(rt, alloc),
+        "world-full" => world::full(rt, alloc),
         "world-ids" => world::ids(rt, alloc),
         "world-save" => world::save(rt, alloc),
         "run" => world::run_events(rt, alloc),

@@ -155,10 +155,37 @@ fn unknown(rt: &impl Print, alloc: Global) -> Result<()> {
     life(rt, alloc, &events)
 }
 
+// A request times out while the list of the requests that were sent is full. That it is full shows at the next Send.
+fn full(rt: &impl Print, alloc: Global) -> Result<()> {
+    let (timeout, send) = (
+        "Instance::step, Timeout, without memory",
+        "Instance::step, Send, for which there is room, without memory",
+    );
+    let events = [
+        (CREATE, "Instance::step, Create of a fourth"),
+        (Event::Timeout, timeout),
+        (Event::Send, send),
+        (Event::Timeout, timeout),
+        (Event::Send, send),
+        (Event::Timeout, timeout),
+        (Event::Send, send),
+        (
+            Event::Timeout,
+            "Instance::step, Timeout while the list of requests is full, without memory",
+        ),
+        (
+            Event::Send,
+            "Instance::step, Send, for which the list has no room",
+        ),
+    ];
+    life(rt, alloc, &events)
+}
+
 pub fn steps(rt: &impl Print, alloc: Global) -> Result<()> {
     answered(rt, alloc)?;
     crashed(rt, alloc)?;
-    unknown(rt, alloc)
+    unknown(rt, alloc)?;
+    full(rt, alloc)
 }
 
 #[derive(Clone, Copy)]

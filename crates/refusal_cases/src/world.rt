@@ -1,6 +1,6 @@
 //! A world is stepped, restarted, listed, saved, and made by a run.
 use crate::instances::{
-    catalogue, create, create_asynchronous, deliver, first, made, second, third,
+    catalogue, create, create_asynchronous, deliver, fifth, first, fourth, made, second, third,
 };
 use crate::telling::{Case, Returned, listed, saved, tell};
 use anyhow::Result;
@@ -83,11 +83,13 @@ impl Case for WorldCase {
     fn state(&self, alloc: Global) -> Result<String> {
         let one = cell_text(alloc, &self.world, first())?;
         let two = cell_text(alloc, &self.world, second())?;
-        if self.named() != Some(third()) {
-            return Ok(format!(in alloc; "{one}; {two}")?);
+        match self.named() {
+            Some(id) if id != first() && id != second() => {
+                let other = cell_text(alloc, &self.world, id)?;
+                Ok(format!(in alloc; "{one}; {two}; {other}")?)
+            }
+            _ => Ok(format!(in alloc; "{one}; {two}")?),
         }
-        let three = cell_text(alloc, &self.world, third())?;
-        Ok(format!(in alloc; "{one}; {two}; {three}")?)
     }
 
     fn call(&mut self) -> Returned {
@@ -275,6 +277,29 @@ pub fn expired(rt: &impl Print, alloc: Global) -> Result<()> {
             "World::step, Finish, without memory",
         ),
         (Call::SettleSecond, "World::settle, without memory"),
+    ];
+    tell_calls(rt, alloc, &mut case, &calls)
+}
+
+// A request times out while the list of messages is full. That it is full shows at the next Create: the list alone
+// takes memory then.
+pub fn full(rt: &impl Print, alloc: Global) -> Result<()> {
+    let events = [
+        create(first()),
+        create(second()),
+        create(third()),
+        create(fourth()),
+    ];
+    let mut case = case_after(alloc, &events, Call::Ids)?;
+    let calls = [
+        (
+            Call::Step(Event::Timeout { id: first() }),
+            "World::step, Timeout while the list of messages is full, without memory",
+        ),
+        (
+            Call::Step(create(fifth())),
+            "World::step, Create of a fifth instance, for which the list has no room",
+        ),
     ];
     tell_calls(rt, alloc, &mut case, &calls)
 }

@@ -3,8 +3,8 @@ use crate::words::{bytes, first, given};
 use anyhow::{Context, Result};
 use osb_message::{Answer, Body, ErrorCode, Id, LastState, Mode};
 use osb_wire::{
-    Asked, Refusal, api_version, asked_operation, basic_auth, catalogue_document, read_request,
-    write_answer,
+    Asked, CatalogueFault, Refusal, api_version, asked_operation, basic_auth, catalogue_document,
+    read_request, write_answer,
 };
 use std::alloc::Global;
 
@@ -170,6 +170,23 @@ pub(crate) fn catalogue(rt: &impl Print, alloc: Global, rest: &str) -> Result<()
             None => "none",
         };
         println!(rt; "  {plan}: {word}")?;
+    }
+    Ok(())
+}
+
+// `catalogue-faults`: why a document names no catalogue, each as it is printed
+pub(crate) fn catalogue_faults(rt: &impl Print) -> Result<()> {
+    for fault in &[
+        CatalogueFault::NotJson,
+        CatalogueFault::NoServices,
+        CatalogueFault::BadService,
+        CatalogueFault::NoPlans,
+        CatalogueFault::BadPlan,
+        CatalogueFault::BadMode,
+        CatalogueFault::Repeated,
+        CatalogueFault::Memory,
+    ] {
+        println!(rt; "  {fault}")?;
     }
     Ok(())
 }
