@@ -8,7 +8,7 @@ LIBRARY = $${LIBOSB_FOLDER:-$$(scripts/where library)}
 # Debian has staticcheck as sources only (golang-honnef-go-tools-dev). The first `make quick` builds it, in half a minute.
 STATICCHECK = $(CURDIR)/build/staticcheck
 
-.PHONY: help quick test check one prebuilt format
+.PHONY: help quick test check one prebuilt generate format
 .PHONY: quick-format quick-lint quick-shell quick-go quick-types quick-tests
 
 help: ## print this list
@@ -29,7 +29,10 @@ one: ## one test by its name or file: make one T=test_locks, make one T=... A="-
 prebuilt: ## prove and build the library and osb-replay, and write prebuilt/
 	scripts/prebuilt
 
-format: ## format all Python, bash and Go, and embed files in the documents
+generate: ## write the header, the constants of the packages and the table of docs/c.md from api/table.py
+	$(PYTHON) -m api.generate
+
+format: generate ## generate, format all Python, bash and Go, and embed files in the documents
 	scripts/files python | xargs black -q
 	scripts/files python | xargs isort -q
 	scripts/files bash | xargs shfmt -w -i 4 -ci

@@ -69,7 +69,3 @@ func (c catalogue) fits(id ID, h Holding) bool {
 	work, ok := h.Work()
 	return h.Fits(mode) && (!ok || work.ID == id)
 }
-
-func planOf(p C.struct_osb_plan) Plan {
-	return Plan{Service: idOf(p.service), Plan: idOf(p.plan), IsAsynchronous: bool(p.is_asynchronous)}
-}

@@ -129,39 +129,8 @@ func (h *Holding) Scan(column any) error { return scan(column, h.UnmarshalJSON) 
 // String is the holding's text, or where it is none what is wrong with it.
 func (h Holding) String() string { return stringOf(h.MarshalJSON()) }
 
-func (h Holding) c() C.struct_osb_holding {
-	return C.struct_osb_holding{
-		row:       h.row.c(),
-		work:      h.work.c(),
-		has_row:   C.bool(h.hasRow),
-		has_work:  C.bool(h.hasWork),
-		is_marked: C.bool(h.isMarked),
-	}
-}
-
-// holdingOf has zeroes where the library has them, in what doesn't count: holdings that are the same are equal.
-func holdingOf(h C.struct_osb_holding) Holding {
-	return Holding{
-		row:      brokerRowOf(h.row),
-		work:     requestOf(h.work),
-		hasRow:   bool(h.has_row),
-		hasWork:  bool(h.has_work),
-		isMarked: bool(h.is_marked),
-	}
-}
-
-func begunOf(b C.struct_osb_begun) Begun {
-	return Begun{Answer: answerOf(b.answer), Work: Work(b.work)}
-}
-
-func (row BrokerRow) c() C.struct_osb_broker_row {
-	return C.struct_osb_broker_row{
-		service: row.Service.c(),
-		plan:    row.Plan.c(),
-		phase:   C.uint8_t(row.Phase),
-	}
-}
-
-func brokerRowOf(row C.struct_osb_broker_row) BrokerRow {
-	return BrokerRow{Service: idOf(row.service), Plan: idOf(row.plan), Phase: Phase(row.phase)}
+// WorkOf is the work that a request of the kind means at a plan of the mode. It is WorkNone of a Poll, at ModeNone, and
+// where a number stands for nothing.
+func WorkOf(kind Kind, mode Mode) Work {
+	return Work(C.osb_work_of(C.uint8_t(kind), C.uint8_t(mode)))
 }

@@ -49,31 +49,3 @@ func DecideTimeout(state State) State { return State(C.osb_decide_timeout(C.uint
 
 // DecideRestart is the state of an instance in this state after a restart, as DecideTimeout.
 func DecideRestart(state State) State { return State(C.osb_decide_restart(C.uint8_t(state))) }
-
-func (r Request) c() C.struct_osb_request {
-	return C.struct_osb_request{
-		kind:               C.uint8_t(r.Kind),
-		accepts_incomplete: C.bool(r.AcceptsIncomplete),
-		id:                 r.ID.c(),
-		service:            r.Service.c(),
-		plan:               r.Plan.c(),
-	}
-}
-
-func requestOf(r C.struct_osb_request) Request {
-	return Request{
-		Kind:              Kind(r.kind),
-		AcceptsIncomplete: bool(r.accepts_incomplete),
-		ID:                idOf(r.id),
-		Service:           idOf(r.service),
-		Plan:              idOf(r.plan),
-	}
-}
-
-func (a Answer) c() C.struct_osb_answer {
-	return C.struct_osb_answer{status: C.uint16_t(a.Status), body: C.uint8_t(a.Body)}
-}
-
-func answerOf(a C.struct_osb_answer) Answer {
-	return Answer{Status: uint16(a.status), Body: Body(a.body)}
-}

@@ -162,32 +162,3 @@ func stringOf(text []byte, err error) string {
 	}
 	return string(text)
 }
-
-func (r Record) c() C.struct_osb_record {
-	return C.struct_osb_record{
-		service: r.service.c(),
-		plan:    r.plan.c(),
-		attempt: C.uint64_t(r.attempt),
-		state:   C.uint8_t(r.state),
-		out:     C.uint8_t(r.inFlight),
-	}
-}
-
-func recordOf(r C.struct_osb_record) Record {
-	return Record{
-		service:  idOf(r.service),
-		plan:     idOf(r.plan),
-		attempt:  uint64(r.attempt),
-		state:    State(r.state),
-		inFlight: Kind(r.out),
-	}
-}
-
-func (row PlatformRow) c() C.struct_osb_platform_row {
-	return C.struct_osb_platform_row{
-		service: row.Service.c(),
-		plan:    row.Plan.c(),
-		state:   C.uint8_t(row.State),
-		out:     C.uint8_t(row.InFlight),
-	}
-}

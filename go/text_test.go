@@ -193,13 +193,8 @@ func TestWords(t *testing.T) {
 		value interface{ String() string }
 		word  string
 	}{
-		{osb.KindDeprovision, "deprovision"}, {osb.KindNone, "none"}, {osb.Kind(7), "Kind(7)"},
-		{osb.BodyOtherError, "other error"}, {osb.Body(8), "Body(8)"},
-		{osb.StateCleaningPolling, "cleaning-polling"}, {osb.StateNone, "none"}, {osb.State(7), "State(7)"},
-		{osb.PhaseDeleteFailed, "delete-failed"}, {osb.Phase(5), "Phase(5)"},
-		{osb.OutcomeAfter, "after"}, {osb.Outcome(3), "Outcome(3)"},
-		{osb.ModeAsync, "async"}, {osb.ModeNone, "none"}, {osb.Mode(2), "Mode(2)"},
-		{osb.WorkStartDeleting, "start deleting"}, {osb.Work(5), "Work(5)"},
+		{osb.KindPoll, "poll"}, {osb.KindNone, "none"}, {osb.Kind(200), "Kind(200)"},
+		{osb.WorkNone, "none"}, {osb.WorkStartDeleting, "start-deleting"}, {osb.Work(200), "Work(200)"},
 	} {
 		if row.value.String() != row.word {
 			t.Errorf("%v, and not %s", row.value, row.word)

@@ -181,27 +181,3 @@ func max(one, other int) int {
 	}
 	return other
 }
-
-func (a Asked) c() C.struct_osb_asked {
-	return C.struct_osb_asked{
-		kind:               C.uint8_t(a.Kind),
-		accepts_incomplete: C.bool(a.AcceptsIncomplete),
-		has_service:        C.bool(a.HasService),
-		has_plan:           C.bool(a.HasPlan),
-		id:                 a.ID.c(),
-		service:            a.Service.c(),
-		plan:               a.Plan.c(),
-	}
-}
-
-func askedOf(a C.struct_osb_asked) Asked {
-	return Asked{
-		Kind:              Kind(a.kind),
-		AcceptsIncomplete: bool(a.accepts_incomplete),
-		HasService:        bool(a.has_service),
-		HasPlan:           bool(a.has_plan),
-		ID:                idOf(a.id),
-		Service:           idOf(a.service),
-		Plan:              idOf(a.plan),
-	}
-}

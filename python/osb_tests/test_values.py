@@ -4,6 +4,8 @@ from __future__ import annotations
 import unittest
 from typing import Callable
 
+import osb.holding
+import osb.record
 from osb import (
     Answer,
     Body,
@@ -20,6 +22,7 @@ from osb import (
     State,
     Status,
     Work,
+    _crossing,
     work_of,
 )
 from osb_tests.support import ASYNC, ONE, SERVICE, SYNC, TWO, request
@@ -76,17 +79,29 @@ class Names(unittest.TestCase):
         """By `print` and in f-strings, alike in every Python; a number is what it was."""
         for it, name in (
             (State.READY, "ready"),
-            (State.CLEANING_POLLING, "cleaning-polling"),
-            (Kind.POLL, "poll"),
             (Phase.DELETE_FAILED, "delete-failed"),
             (Status.NOT_UTF8, "not-utf8"),
-            (Mode.SYNC, "sync"),
-            (Body.EMPTY, "empty"),
-            (Outcome.AFTER, "after"),
-            (Work.START_MAKING, "start-making"),
         ):
             self.assertEqual((str(it), f"{it}", f"{it:>20}"), (name, name, name.rjust(20)))
         self.assertEqual((int(State.READY), State(2), f"{State.READY.value:02}"), (2, State.READY, "02"))
+        self.assertEqual(Status.BUSY.meaning, "a request is in flight")
+
+
+class Structs(unittest.TestCase):
+    def test_each_member_crosses(self) -> None:
+        """None of these values is zero. A member of a struct that isn't carried to C is."""
+        asked, held = request(POLL), row(Phase.READY)
+        for made in (
+            _crossing.request_to(asked),
+            _crossing.answer_to(Answer(201, Body.EMPTY)),
+            _crossing.platform_row_to(PlatformRow(SERVICE, SYNC, State.POLLING, POLL)),
+            _crossing.broker_row_to(held),
+            osb.record._to(record(State.POLLING, POLL)),
+            osb.holding._to(Holding(held, asked, True)),
+        ):
+            for name, _ in made._fields_:
+                place = getattr(type(made), name)
+                self.assertTrue(any(bytes(made)[place.offset : place.offset + place.size]), (made, name))
 
 
 class Records(unittest.TestCase):

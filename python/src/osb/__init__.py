@@ -10,7 +10,8 @@ done raises `OsbError`. docs/python.md has a first program.
 """
 from __future__ import annotations
 
-from osb._lib import VERSION, version
+from osb._header import VERSION
+from osb._lib import version
 from osb.enums import Body, Kind, Mode, Outcome, Phase, State, Status, Work
 from osb.errors import OsbError, Refusal
 from osb.holding import Holding, work_of

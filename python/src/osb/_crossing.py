@@ -1,7 +1,7 @@
 """Values as the structs that cross to the library, and back."""
 from __future__ import annotations
 
-from osb._structs import KIND_NONE, MODE_NONE, CAnswer, CBrokerRow, CId, CPlan, CPlatformRow, CRequest
+from osb._header import KIND_NONE, MODE_NONE, CAnswer, CBrokerRow, CId, CPlan, CPlatformRow, CRequest
 from osb.enums import Body, Kind, Mode, Phase, State
 from osb.ids import Id
 from osb.messages import Answer, BrokerRow, Plan, PlatformRow, Request

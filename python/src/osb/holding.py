@@ -5,8 +5,8 @@ from dataclasses import dataclass
 from typing import ClassVar
 
 from osb._crossing import answer_from, broker_row_from, broker_row_to, kind_to, mode_to, request_from, request_to
+from osb._header import WORK_NONE, CAnswer, CBegun, CHolding
 from osb._lib import lib
-from osb._structs import WORK_NONE, CAnswer, CBegun, CHolding
 from osb._texts import utf8
 from osb.enums import Kind, Mode, Outcome, Phase, Work
 from osb.errors import check, text_of

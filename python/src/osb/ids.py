@@ -6,8 +6,8 @@ import functools
 import secrets
 from dataclasses import dataclass
 
+from osb._header import CId
 from osb._lib import lib
-from osb._structs import CId
 from osb._texts import utf8
 from osb.errors import check
 

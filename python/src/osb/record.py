@@ -4,8 +4,8 @@ from __future__ import annotations
 from dataclasses import dataclass
 
 from osb._crossing import answer_to, id_from, id_to, kind_from, kind_to, platform_row_to, request_from
+from osb._header import CRecord, CRequest
 from osb._lib import lib
-from osb._structs import CRecord, CRequest
 from osb._texts import utf8
 from osb.enums import Kind, State
 from osb.errors import check, text_of

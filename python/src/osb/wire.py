@@ -9,8 +9,8 @@ import ctypes as c
 from dataclasses import dataclass
 
 from osb._crossing import answer_from, answer_to, id_from, id_to, plan_from, request_from, request_to
+from osb._header import CAnswer, CAsked, CId, CPlan, CRequest
 from osb._lib import lib
-from osb._structs import CAnswer, CAsked, CId, CPlan, CRequest
 from osb._texts import utf8, written
 from osb.enums import Kind, Status
 from osb.errors import Refusal, check, text_of

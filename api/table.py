@@ -1,0 +1,542 @@
+"""The interface of libosb: what include/osb.h, the Go package and the Python package have from one place.
+
+After an edit run `make generate`. api/model.py says what each part is, and api/generate.py what becomes of it. The
+crates have the same numbers, structs and exports by hand, since they are proved: checks/table compares both.
+"""
+from __future__ import annotations
+
+from api.model import Call, Enum, Member, Part, Section, Struct, Value
+
+VERSION = (0, 3, 0)
+
+INTRODUCTION = """
+The life of a service instance under the Open Service Broker API 2.17, for a platform and for a broker: what each
+keeps of one instance, as a value for a row of a database, and what both send, as HTTP and JSON have it. The library
+behind this header is proved; docs/c.md says what that means, and how to build and link it. C99 or later, and C++.
+
+What the caller is responsible for. The library checks none of it, and the proofs assume all of it.
+
+- No pointer is null, not even a pointer to a buffer, a text or a list of length 0. Each pointer is aligned for its
+  type, and points to as much as its length says. Nothing that a call writes to overlaps anything else that the
+  call is given.
+- Everything is initialized before the call, also what is only written to: each member of a struct and each number
+  (`= {0}` does), and all of a buffer (as calloc sets it). A bool is 0 or 1.
+- A struct or buffer that a running call was given is used by that call alone. Calls on different structs are
+  independent, and any number of threads may make them at once.
+- No call is made from a signal handler, or in the forked child of a process with threads.
+- malloc, realloc and free are one allocator's, and blocks are aligned as C requires.
+- There is enough stack. How much a call takes isn't proved; in the tests 128 KiB are enough for each.
+
+What the library is responsible for. A call that returns another status than OSB_DONE has changed nothing, but for
+what its comment names. No call prints, ends the process or keeps a pointer that it was given. No call waits, except
+within malloc, realloc and free.
+
+A text that a call writes goes to the front of a buffer, `bytes` long, with no NUL after it, and the text's length
+goes to *needed. If the buffer is too short, the call returns OSB_TOO_SMALL, writes *needed all the same, and leaves
+the buffer as before: so a call with 0 bytes asks for the length. What is behind the text in the buffer is as before.
+If the call returns anything else, neither is written.
+"""
+
+REMOVED = (2, 3, 4, 5, 8, 12, 23)
+"""The numbers of statuses that are gone. They are never used again."""
+
+STATUS = Enum(
+    "status",
+    "what became of a call",
+    Value(0, "DONE", "it was done"),
+    Value(1, "MEMORY", "out of memory: an allocation failed"),
+    Value(6, "BUSY", "a request is in flight"),
+    Value(7, "NOTHING_DUE", "in ready, gone and unsettled no request is due"),
+    Value(9, "NOT_POLLING", "none is in flight, and the state isn't polling"),
+    Value(10, "NOT_REMOVABLE", "none is in flight, and the state isn't polling, ready or unsettled"),
+    Value(11, "NOTHING_RUNNING", "the instance is neither being made nor being deleted"),
+    Value(13, "PLAN_TWICE", "two of the plans have the same service and plan"),
+    Value(14, "BAD_KIND", "the number stands for no kind of request"),
+    Value(15, "BAD_OUTCOME", "the number stands for no outcome"),
+    Value(16, "NOT_AN_ID", "the text is no id's"),
+    Value(17, "TOO_SMALL", "the buffer is shorter than what goes into it"),
+    Value(18, "NOT_UTF8", "the text isn't UTF-8"),
+    Value(19, "NOT_JSON", "the text has no reading as JSON"),
+    Value(20, "NOT_AN_OBJECT", "the value isn't an object"),
+    Value(21, "BAD_VERSION", "the version in the text isn't that of its format"),
+    Value(22, "BAD_OUTER", "the members of the object aren't those of its format"),
+    Value(24, "BAD_MEMBER", "some member isn't what its format has there"),
+    Value(25, "BAD_RECORD", "the struct is no record that a call gives", packages="no call gives such a record"),
+    Value(26, "BAD_HOLDING", "the struct is no holding that a call gives", packages="no call gives such a holding"),
+    Value(27, "BAD_ROW", "the struct is no platform's row that a call gives", packages="no call gives such a row"),
+    Value(28, "BAD_ASKED", "the struct is nothing asked that a call gives", packages="no call gives such an Asked"),
+    Value(29, "BAD_MODE", "the number stands for no mode"),
+    Value(30, "ATTEMPTS_USED_UP", "the latest request has the greatest number, 2^64 - 1"),
+    Value(31, "NOT_IN_FLIGHT", "no request is in flight, or one of another number"),
+    Value(32, "NOTHING_BEGUN", "no work is recorded"),
+    Value(33, "IMPOSSIBLE", "each member is one of its kind, and together they can't come about"),
+    Value(34, "NO_ANSWER", "the response isn't surely the broker's: a timeout takes its place"),
+    Value(35, "NO_OPERATION", "no operation is named"),
+    Value(36, "NO_SECONDS", "the value is no number of seconds"),
+    Value(37, "UNAUTHORIZED", "the value doesn't name this user and this password"),
+    Value(38, "NOT_REFUSED", "the status is no refusal"),
+    Value(39, "REFUSED_TARGET", "refused with 404: there is no such target"),
+    Value(40, "REFUSED_METHOD", "refused with 405: the target has no such method"),
+    Value(41, "REFUSED_VERSION", "refused with 412: the version isn't 2.x, or none is named"),
+    Value(42, "REFUSED_LENGTH", "refused with 413: the body is too long"),
+    Value(43, "REFUSED_INSTANCE", "refused with 400: the id of the instance is no GUID"),
+    Value(44, "REFUSED_REPEATED", "refused with 400: a parameter of the query stands twice"),
+    Value(45, "REFUSED_SERVICE", "refused with 400: service_id is missing or no GUID"),
+    Value(46, "REFUSED_PLAN", "refused with 400: plan_id is missing or no GUID"),
+    Value(47, "REFUSED_ACCEPTS_INCOMPLETE", "refused with 400: accepts_incomplete is neither true nor false"),
+    Value(48, "REFUSED_BODY", "refused with 400: the body isn't UTF-8, isn't JSON, or is no object"),
+    Value(49, "REFUSED_ORGANIZATION", "refused with 400: organization_guid is missing, no string, or empty"),
+    Value(50, "REFUSED_SPACE", "refused with 400: space_guid is missing, no string, or empty"),
+    Value(51, "NO_SERVICES", "the document has no list services"),
+    Value(52, "BAD_SERVICE", "the id of a service is missing or no GUID"),
+    Value(53, "NO_PLANS", "a service has no list plans"),
+    Value(54, "BAD_PLAN", "the id of a plan is missing or no GUID"),
+    Value(55, "BAD_PLAN_MODE", "asynchronous of a plan is neither true nor false"),
+)
+
+EXACTLY = {
+    "TOO_SMALL": "the buffer, or the list of plans, is shorter than `needed`",
+    "NOT_JSON": "the text has no reading as JSON; for `osb_catalogue_plans` also if it isn't UTF-8",
+    "BAD_VERSION": "the version in the text isn't that of its format; of these, the first that fits comes "
+    "([which](instance.md#the-texts))",
+    "BAD_RECORD": "the record can't come about ([which can](instance.md#what-a-platform-keeps-record)), or a number "
+    "in it stands for nothing",
+    "BAD_HOLDING": "the holding can't come about ([which can](instance.md#what-a-broker-keeps-holding)), or a number "
+    "in it that counts stands for nothing",
+    "BAD_ROW": "the row isn't `wanted` with its Provision in flight, nor any other state with nothing in flight or "
+    "what is due there",
+    "BAD_ASKED": "the kind stands for none, or it is a Provision or a Deprovision and service or plan is missing",
+    "IMPOSSIBLE": "each member of the text is one of its kind, and together they can't come about "
+    "([which](instance.md#the-texts))",
+    "NO_ANSWER": "the response isn't surely the broker's ([which](wire.md#what-a-platform-takes-from-a-response))",
+    "NO_OPERATION": "no operation is named; for `osb_read_operation` also if it has more than 10,000 characters",
+    "NO_SECONDS": "the value isn't a number in decimal digits below 2^64",
+    "NOT_REFUSED": "the status is neither 39 to 50 nor `OSB_MEMORY`",
+}
+"""When a call returns a status, for docs/c.md, if that takes more words than the meaning of the status."""
+
+BUFFER = "uint8_t *buffer, size_t bytes, size_t *needed"
+"""What a text is written to."""
+
+INTERFACE: list[Part] = [
+    Call(
+        "uint32_t osb_version()",
+        """The version of the library, as OSB_VERSION has it. A program that is linked to a shared library compares.""",
+    ),
+    Section(
+        """Statuses: what became of a call. Each has one meaning. No number ever changes, and none is used again: 2, 3,
+        4, 5, 8, 12 and 23 were statuses of calls that version 0.3.0 removed.
+
+        The comment of a call names OSB_DONE, and then, in their order, the statuses that it returns if it isn't done.
+        If several of them fit, the call returns the first. But if an allocation failed, OSB_MEMORY may come in place of
+        every status that the text or the list itself decides: OSB_PLAN_TWICE, OSB_TOO_SMALL, OSB_NOT_JSON to
+        OSB_BAD_MEMBER, OSB_IMPOSSIBLE, OSB_NO_ANSWER, OSB_NO_OPERATION, OSB_UNAUTHORIZED, OSB_REFUSED_REPEATED to
+        OSB_BAD_PLAN_MODE."""
+    ),
+    STATUS,
+    Section("Ids: GUIDs."),
+    Struct(
+        "id",
+        Member("uint64_t high, low"),
+        comment="The halves of the number of 128 bits that the text writes: high has its first 16 digits.",
+    ),
+    Call(
+        "uint32_t osb_id_from_text(const uint8_t *text, size_t length, struct osb_id *id)",
+        "Reads the text of an id, 36 bytes in either case, as 12345678-9abc-def0-1234-56789abcdef0.",
+        "OSB_DONE, or OSB_NOT_AN_ID for every other text; *id is then as before.",
+    ),
+    Call(
+        "void osb_id_to_text(struct osb_id id, uint8_t text[36])",
+        "Writes the text of an id in lower case: 36 bytes, and no NUL after them.",
+    ),
+    Section("Requests and answers."),
+    Enum(
+        "kind",
+        "what a request asks for",
+        Value(0, "PROVISION", "PUT on the instance"),
+        Value(1, "POLL", "GET on its last operation"),
+        Value(2, "DEPROVISION", "DELETE on the instance"),
+        Value(255, "NONE", "no request"),
+    ),
+    Struct(
+        "request",
+        Member("enum osb_kind kind", "an enum osb_kind"),
+        Member("bool accepts_incomplete", "whether the operation may be asynchronous"),
+        Member("struct osb_id id, service, plan"),
+    ),
+    Enum(
+        "body",
+        "what can be read of an answer's body",
+        Value(0, "MALFORMED", "it can't be read"),
+        Value(1, "EMPTY", "it can be read, and says none of the following"),
+        Value(2, "IN_PROGRESS", '"state": "in progress"'),
+        Value(3, "SUCCEEDED", '"state": "succeeded"'),
+        Value(4, "FAILED", '"state": "failed"'),
+        Value(5, "ASYNC_REQUIRED", '"error": "AsyncRequired"'),
+        Value(6, "CONCURRENCY_ERROR", '"error": "ConcurrencyError"'),
+        Value(7, "OTHER_ERROR", "any other error"),
+        comment="What can be read of an answer's body. Each number that isn't here is OSB_BODY_MALFORMED too.",
+        go="Each number without a name is BodyMalformed too.",
+    ),
+    Struct(
+        "answer",
+        Member("uint16_t status", "the HTTP status, any number"),
+        Member("enum osb_body body", "an enum osb_body"),
+    ),
+    Call(
+        "bool osb_well_formed(uint8_t kind, struct osb_answer answer)",
+        """Whether an answer to a request of the kind has a status of success and a body that can be read whole: to a
+        Provision or a Deprovision 200, 201 or 202 with OSB_BODY_EMPTY, to a Poll 200 with OSB_BODY_IN_PROGRESS,
+        OSB_BODY_SUCCEEDED or OSB_BODY_FAILED. False where the kind is none.""",
+    ),
+    Section(
+        """The platform's tables, which take any answer. They are for platforms that keep records of their own form. The
+        calls on a struct osb_record apply them themselves."""
+    ),
+    Enum(
+        "state",
+        "what a platform records of an instance",
+        Value(0, "WANTED", "a Provision was sent, and nothing is known yet"),
+        Value(1, "POLLING", "the broker makes the instance"),
+        Value(2, "READY", "the instance is there, complete"),
+        Value(3, "CLEANING", "the instance is to be deleted, or may be an orphan"),
+        Value(4, "CLEANING_POLLING", "the broker deletes the instance"),
+        Value(5, "GONE", "there is no such instance"),
+        Value(6, "UNSETTLED", "the Provision failed, and an operator has to look"),
+        Value(255, "NONE", "the number that was given stands for no state"),
+    ),
+    Call(
+        "bool osb_mitigates(struct osb_answer answer)",
+        "Whether the platform has to clean up after this answer to a Provision: the orphan mitigation table.",
+    ),
+    Call(
+        "uint8_t osb_decide_provision(struct osb_answer answer)",
+        "The record after the answer to a Provision, and to a Deprovision.",
+    ),
+    Call("uint8_t osb_decide_deprovision(struct osb_answer answer)"),
+    Call(
+        "uint8_t osb_decide_poll(uint8_t state, struct osb_answer answer)",
+        """The record of an instance in this state after the answer to its Poll: a state that isn't polled stays.
+        OSB_STATE_NONE where the number stands for no state.""",
+    ),
+    Call(
+        "uint8_t osb_decide_timeout(uint8_t state)",
+        """The record of an instance in this state after a request that got no answer, and after a restart: wanted
+        becomes cleaning, and every other state stays. OSB_STATE_NONE where the number stands for no state.""",
+    ),
+    Call("uint8_t osb_decide_restart(uint8_t state)"),
+    Section(
+        """One instance as a value, for a row of a database. A platform keeps a struct osb_record of each instance, and
+        a broker keeps a struct osb_holding. They own nothing, and may be copied and compared. Their calls take no
+        memory, except those of the texts. docs/instance.md says what is written to the database, and when.
+
+        A call rejects a struct that no call gives: one with a number that stands for nothing, a wanted record without
+        its Provision in flight, a row beside a tombstone, and the like."""
+    ),
+    Struct(
+        "record",
+        Member("struct osb_id service, plan"),
+        Member("uint64_t attempt", "the number of the latest request, and 0 before the first"),
+        Member("enum osb_state state", "an enum osb_state"),
+        Member("enum osb_kind out", "the enum osb_kind of the request in flight, or OSB_KIND_NONE", go="in_flight"),
+        comment="What a platform records of an instance.",
+        is_private=True,
+    ),
+    Call(
+        "void osb_record_create(struct osb_id id, struct osb_id service, struct osb_id plan, bool accepts_incomplete, "
+        "struct osb_record *record, struct osb_request *request)",
+        """A new instance, wanted, and its Provision, which is then in flight with the number 1 (record->attempt). The
+        record is written to the database under the id, before the request is sent, and never deleted; the database has
+        to refuse an id that is there.""",
+    ),
+    Struct(
+        "platform_row",
+        Member("struct osb_id service, plan"),
+        Member("enum osb_state state", "an enum osb_state"),
+        Member("enum osb_kind out", "the enum osb_kind of the request in flight, or OSB_KIND_NONE", go="in_flight"),
+        comment="""An entry of a saved record, the file that a platform of a version before 0.3.0 kept
+        (docs/saved-record.md).""",
+    ),
+    Call(
+        "uint32_t osb_record_from_row(const struct osb_platform_row *row, struct osb_record *record)",
+        """The first record of an instance from its entry in a saved record, as after a restart: wanted becomes
+        cleaning, nothing is in flight, and the attempt is 0. Call it once for each instance, when a platform moves to a
+        database.""",
+        "OSB_DONE, OSB_BAD_ROW.",
+    ),
+    Call(
+        "uint32_t osb_record_send(struct osb_record *record, struct osb_id id, struct osb_request *request)",
+        """Gives the request that is due, which is then in flight with the next number (record->attempt). `id` is that
+        of osb_record_create, the key of the record's row.""",
+        "OSB_DONE, OSB_BAD_RECORD, OSB_BUSY, OSB_NOTHING_DUE, OSB_ATTEMPTS_USED_UP.",
+    ),
+    Call(
+        "uint32_t osb_record_answer(struct osb_record *record, uint64_t attempt, struct osb_answer answer)",
+        """Takes the answer to the request of this number: the state becomes what the table of its kind gives, and
+        nothing is in flight.""",
+        "OSB_DONE, OSB_BAD_RECORD, OSB_NOT_IN_FLIGHT.",
+    ),
+    Call(
+        "uint32_t osb_record_timeout(struct osb_record *record, uint64_t attempt)",
+        """Gives up the request of this number: wanted becomes cleaning, every other state stays, and nothing is in
+        flight. So is done with what was in flight when a platform crashed.""",
+        "OSB_DONE, OSB_BAD_RECORD, OSB_NOT_IN_FLIGHT.",
+    ),
+    Call(
+        "uint32_t osb_record_expire(struct osb_record *record)",
+        "Gives up polling, as the maximum polling duration has passed: polling becomes cleaning.",
+        "OSB_DONE, OSB_BAD_RECORD, OSB_BUSY, OSB_NOT_POLLING.",
+    ),
+    Call(
+        "uint32_t osb_record_remove(struct osb_record *record)",
+        "Has the instance deleted, as an operator asks: polling, ready and unsettled become cleaning.",
+        "OSB_DONE, OSB_BAD_RECORD, OSB_BUSY, OSB_NOT_REMOVABLE.",
+    ),
+    Call(
+        f"uint32_t osb_record_to_text(const struct osb_record *record, {BUFFER})",
+        "Writes the text of the record, for a column of a database (docs/instance.md).",
+        "OSB_DONE, OSB_BAD_RECORD, OSB_TOO_SMALL, OSB_MEMORY.",
+    ),
+    Call(
+        "uint32_t osb_record_from_text(const uint8_t *text, size_t length, struct osb_record *record)",
+        "Reads the text of a record. What osb_record_to_text wrote gives OSB_DONE or OSB_MEMORY.",
+        "OSB_DONE, OSB_NOT_UTF8, OSB_NOT_JSON, OSB_NOT_AN_OBJECT, OSB_BAD_VERSION, OSB_BAD_OUTER, OSB_BAD_MEMBER, "
+        "OSB_IMPOSSIBLE, OSB_MEMORY.",
+    ),
+    Struct(
+        "plan",
+        Member("struct osb_id service, plan"),
+        Member("bool is_asynchronous", "whether its operations are only begun when the broker answers"),
+        comment="A plan on sale.",
+    ),
+    Enum(
+        "mode",
+        "how a plan works",
+        Value(0, "SYNC", "an instance is made or deleted before the broker answers"),
+        Value(1, "ASYNC", "the broker answers at once and works on"),
+        Value(255, "NONE", "the plan isn't on sale"),
+        comment="How the plan of a request works. It is looked up in the catalogue by the request's service and plan.",
+    ),
+    Enum(
+        "work",
+        "the work that a request means",
+        Value(0, "NONE", "none is due"),
+        Value(1, "MAKE", "the instance is made, complete, before the answer"),
+        Value(2, "START_MAKING", "its making is started, and goes on after the answer"),
+        Value(3, "DELETE", "the instance is deleted before the answer"),
+        Value(4, "START_DELETING", "its deletion is started, and goes on after the answer"),
+        comment="The work that a request means.",
+    ),
+    Enum(
+        "outcome",
+        "how the work behind a request went",
+        Value(0, "DONE", "it is done, or at an asynchronous plan started"),
+        Value(1, "BEFORE", "it failed, and all is as it was: nothing was made, or nothing was deleted"),
+        Value(2, "AFTER", "it failed, and yet all of it was done: the whole resource exists, or nothing is left"),
+        comment="""How the work behind a request goes. It counts where the work would be done at all. Work that is half
+        done is none of these: undo it and say BEFORE, finish it and say DONE, or say nothing until it is known.""",
+        go="""Work that is half done is none of these: undo it and return OutcomeBefore, finish it and return
+        OutcomeDone, or return an error. If nobody knows how it went, that is an error too.""",
+    ),
+    Enum(
+        "phase",
+        "what a broker holds of an instance",
+        Value(0, "MAKING", "it is being made"),
+        Value(1, "READY", "it exists, complete"),
+        Value(2, "FAILED", "it could not be made"),
+        Value(3, "DELETING", "it is being deleted"),
+        Value(4, "DELETE_FAILED", "it could not be deleted"),
+    ),
+    Struct(
+        "broker_row",
+        Member("struct osb_id service, plan"),
+        Member("enum osb_phase phase", "an enum osb_phase"),
+        comment="The row of an instance that a broker holds.",
+    ),
+    Struct(
+        "holding",
+        Member("struct osb_broker_row row", "it counts where has_row is true"),
+        Member("struct osb_request work", "the request whose work is recorded; it counts where has_work is true"),
+        Member("bool has_row, has_work"),
+        Member("bool is_marked", "whether the instance has ended: none with this id is ever made again"),
+        comment="""What a broker holds of an instance. One of zeroes holds nothing: an id that no request has come for
+        has that. In what a call gives, members that don't count are zeroes, here, in struct osb_begun and in struct
+        osb_asked: two holdings that calls gave are the same exactly where each member is.""",
+        is_private=True,
+    ),
+    Struct(
+        "begun",
+        Member("struct osb_answer answer", "the answer to send, where the work is OSB_WORK_NONE"),
+        Member("enum osb_work work", "an enum osb_work: what is due, and is recorded"),
+        comment="What comes of a request at once.",
+    ),
+    Call(
+        "bool osb_holding_fits(const struct osb_holding *holding, uint8_t mode)",
+        """Whether the holding is one that a call gives, the number a mode's, and the holding can come about at a plan
+        of the mode. A program asks when it takes a holding from its database: at another mode osb_holding_end would
+        forget what was made.""",
+    ),
+    Call(
+        "uint32_t osb_holding_begin(struct osb_holding *holding, uint8_t mode, const struct osb_request *request, "
+        "struct osb_begun *begun)",
+        """Begins with a request to this instance: answers it, or records it as work that is due. The mode is that of
+        the request's plan. What comes back is written to the database where it differs, before the work begins or the
+        answer is sent.""",
+        "OSB_DONE, OSB_BAD_HOLDING, OSB_BAD_MODE, OSB_BAD_KIND.",
+    ),
+    Call(
+        "uint32_t osb_holding_end(struct osb_holding *holding, uint8_t mode, uint8_t outcome, "
+        "struct osb_answer *answer)",
+        """Ends the recorded work with this outcome, and gives the answer to its request. The mode is that of the
+        recorded request's plan, and has to fit. What comes back is written to the database before the answer is
+        sent.""",
+        "OSB_DONE, OSB_BAD_HOLDING, OSB_BAD_MODE, OSB_BAD_OUTCOME, OSB_NOTHING_BEGUN.",
+    ),
+    Call(
+        "uint32_t osb_holding_finish(struct osb_holding *holding, bool ok)",
+        """Ends the operation that runs on the instance, well (ok) or badly. An instance that is being made is ready
+        then, or has failed; one that is being deleted is gone and leaves the tombstone, or could not be deleted.""",
+        "OSB_DONE, OSB_BAD_HOLDING, OSB_NOTHING_RUNNING.",
+    ),
+    Call(
+        "uint32_t osb_holding_handle(struct osb_holding *holding, uint8_t mode, const struct osb_request *request, "
+        "uint8_t outcome, struct osb_answer *answer)",
+        """osb_holding_begin, and where work is due osb_holding_end with this outcome, with nothing between: for tests,
+        and for brokers whose work can't be interrupted.""",
+        "OSB_DONE, OSB_BAD_HOLDING, OSB_BAD_MODE, OSB_BAD_KIND, OSB_BAD_OUTCOME.",
+    ),
+    Call(
+        "uint8_t osb_work_of(uint8_t kind, uint8_t mode)",
+        """The work that a request of the kind means at a plan of the mode: what a broker that starts again asks of
+        recorded work. OSB_WORK_NONE of a Poll, at OSB_MODE_NONE, and where a number stands for nothing.""",
+    ),
+    Call(
+        f"uint32_t osb_holding_to_text(const struct osb_holding *holding, {BUFFER})",
+        "Writes the text of the holding, for a column of a database (docs/instance.md).",
+        "OSB_DONE, OSB_BAD_HOLDING, OSB_TOO_SMALL, OSB_MEMORY.",
+    ),
+    Call(
+        "uint32_t osb_holding_from_text(const uint8_t *text, size_t length, struct osb_holding *holding)",
+        "Reads the text of a holding. What osb_holding_to_text wrote gives OSB_DONE or OSB_MEMORY.",
+        "OSB_DONE, OSB_NOT_UTF8, OSB_NOT_JSON, OSB_NOT_AN_OBJECT, OSB_BAD_VERSION, OSB_BAD_OUTER, OSB_BAD_MEMBER, "
+        "OSB_IMPOSSIBLE, OSB_MEMORY.",
+    ),
+    Section(
+        """Requests and answers as HTTP and JSON have them (docs/wire.md). No connection is opened, and no HTTP is
+        written: methods, targets, statuses and bodies go into an HTTP library and come out of one. Every body is JSON
+        (Content-Type: application/json); a platform names the version 2.17 in the header X-Broker-API-Version."""
+    ),
+    Call(
+        "uint32_t osb_read_answer(uint8_t kind, uint16_t status, const uint8_t *body, size_t length, "
+        "struct osb_answer *answer)",
+        """What a platform takes from a response to a request of the kind, from its status and all of its body. Where
+        the response isn't surely the broker's, a timeout is taken in its place (OSB_NO_ANSWER).""",
+        "OSB_DONE, OSB_BAD_KIND, OSB_NO_ANSWER, OSB_MEMORY.",
+    ),
+    Call(
+        f"uint32_t osb_read_operation(const uint8_t *body, size_t length, {BUFFER})",
+        """Reads the operation that a broker names in the body of an accepted request, which a platform sends back in
+        its Polls. Its text goes to the buffer.""",
+        "OSB_DONE, OSB_NO_OPERATION, OSB_TOO_SMALL, OSB_MEMORY.",
+    ),
+    Call(
+        f"uint32_t osb_write_method(uint8_t kind, {BUFFER})",
+        "Writes the method of a request of the kind: PUT, GET or DELETE.",
+        "OSB_DONE, OSB_BAD_KIND, OSB_TOO_SMALL.",
+    ),
+    Call(
+        "uint32_t osb_write_target(const uint8_t *prefix, size_t prefix_length, const struct osb_request *request, "
+        f"bool has_operation, const uint8_t *operation, size_t operation_length, {BUFFER})",
+        """Writes the target of a request: the path, which begins with the prefix (empty, or what the broker's URL has
+        before /v2, with no `?`, `#`, blank or line end: it is written as it stands), and the query. The operation
+        counts where has_operation is true, and is the broker's; give one to a Poll alone.""",
+        "OSB_DONE, OSB_NOT_UTF8 (prefix or operation), OSB_BAD_KIND, OSB_TOO_SMALL, OSB_MEMORY.",
+    ),
+    Call(
+        "uint32_t osb_write_body(const struct osb_request *request, const uint8_t *organization, "
+        "size_t organization_length, const uint8_t *space, size_t space_length, const uint8_t *further, "
+        f"size_t further_length, {BUFFER})",
+        """Writes the body of a request: of a Provision an object of the ids, the organization and the space, neither of
+        which may be empty, and the members of `further`, the text of an object ({} for none), as context, parameters or
+        maintenance_info; else an empty text.""",
+        "OSB_DONE, OSB_NOT_UTF8 (organization, space or further), OSB_BAD_KIND, OSB_NOT_JSON (further), "
+        "OSB_NOT_AN_OBJECT (further), OSB_TOO_SMALL, OSB_MEMORY.",
+    ),
+    Struct(
+        "asked",
+        Member("enum osb_kind kind", "an enum osb_kind"),
+        Member("bool accepts_incomplete", "whether the operation may be asynchronous"),
+        Member("bool has_service, has_plan", "whether it names them; only a Poll may lack them"),
+        Member("struct osb_id id, service, plan"),
+        comment="""What a request asks of a broker. The service counts where has_service is true, and the plan where
+        has_plan is; else osb_read_request writes zeroes.""",
+    ),
+    Call(
+        "uint32_t osb_read_request(const uint8_t *prefix, size_t prefix_length, size_t longest_body, "
+        "const uint8_t *method, size_t method_length, const uint8_t *target, size_t target_length, "
+        "const uint8_t *body, size_t body_length, struct osb_asked *asked)",
+        """Reads what a request asks of a broker, from its method, its target (path and query, as the request line has
+        them) and all of its body. A body of more than longest_body bytes is refused unread.""",
+        "OSB_DONE, OSB_NOT_UTF8 (prefix or method), OSB_REFUSED_TARGET, OSB_REFUSED_METHOD, OSB_REFUSED_INSTANCE, "
+        "OSB_REFUSED_LENGTH, and the first of OSB_REFUSED_REPEATED to OSB_REFUSED_SPACE in the order of docs/wire.md, "
+        "OSB_MEMORY.",
+    ),
+    Call(
+        "uint32_t osb_asked_request(const struct osb_asked *asked, bool has_held, struct osb_id service, "
+        "struct osb_id plan, struct osb_request *request)",
+        """The request for a broker, with the service and the plan that are held, which count where has_held is true:
+        they stand in the place of those that a Poll lacks.""",
+        "OSB_DONE, OSB_BAD_ASKED.",
+    ),
+    Call(
+        f"uint32_t osb_asked_operation(const uint8_t *target, size_t length, {BUFFER})",
+        "Reads the operation that the target of a Poll names. Its text goes to the buffer.",
+        "OSB_DONE, OSB_REFUSED_REPEATED, OSB_NO_OPERATION, OSB_TOO_SMALL, OSB_MEMORY.",
+    ),
+    Call(
+        "uint32_t osb_write_answer(struct osb_answer answer, bool has_operation, const uint8_t *operation, "
+        f"size_t operation_length, {BUFFER})",
+        """Writes the body of an answer. The operation counts where has_operation is true, and is written in a 202
+        alone.""",
+        "OSB_DONE, OSB_NOT_UTF8 (operation), OSB_TOO_SMALL, OSB_MEMORY.",
+    ),
+    Call(
+        "uint16_t osb_refusal_status(uint32_t refusal)",
+        """The HTTP status of a refusal, OSB_REFUSED_TARGET to OSB_REFUSED_SPACE, and 503 of OSB_MEMORY; 0 of every
+        other number.""",
+    ),
+    Call(
+        f"uint32_t osb_refusal_body(uint32_t refusal, {BUFFER})",
+        "Writes the body of a refusal. It takes no memory, so that want of it can be told.",
+        "OSB_DONE, OSB_NOT_REFUSED, OSB_TOO_SMALL.",
+    ),
+    Call(
+        "uint32_t osb_api_version(bool has_value, const uint8_t *value, size_t length)",
+        """Judges the version that a platform names in the header X-Broker-API-Version: 2.x, whichever. The value counts
+        where has_value is true; a request without the header has none.""",
+        "OSB_DONE, OSB_REFUSED_VERSION.",
+    ),
+    Call(
+        "uint32_t osb_basic_auth(const uint8_t *value, size_t length, const uint8_t *user, size_t user_length, "
+        "const uint8_t *password, size_t password_length)",
+        """Judges whether the header Authorization names this user and this password, by HTTP's Basic scheme. The user
+        must have no colon, since another user and password would read the same. The time that it takes doesn't tell
+        where they differ, as the code is written.""",
+        "OSB_DONE, OSB_NOT_UTF8 (any of the three), OSB_UNAUTHORIZED, OSB_MEMORY.",
+    ),
+    Call(
+        "uint32_t osb_retry_after(const uint8_t *value, size_t length, uint64_t *seconds)",
+        "Reads the seconds that a broker names in the header Retry-After.",
+        "OSB_DONE, OSB_NO_SECONDS.",
+    ),
+    Call(
+        "uint32_t osb_catalogue_plans(const uint8_t *document, size_t length, struct osb_plan *plans, size_t places, "
+        "size_t *needed)",
+        """Reads the plans that a catalogue's document names, as a broker answers it to GET /v2/catalog; a plan is
+        asynchronous where its member `asynchronous` is true. They go to the front of `plans`, which has `places`, in
+        ascending order of service and plan, and how many they are to *needed. What is behind them is as before.""",
+        "OSB_DONE, OSB_NOT_JSON, OSB_NO_SERVICES, and the first of OSB_BAD_SERVICE, OSB_NO_PLANS, OSB_BAD_PLAN, "
+        "OSB_BAD_PLAN_MODE and OSB_PLAN_TWICE in the document's order, OSB_TOO_SMALL (*needed is then written, "
+        "and the places are as before), OSB_MEMORY.",
+    ),
+]

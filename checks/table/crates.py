@@ -1,0 +1,115 @@
+"""What the crates of libosb say of its interface, in the words of C, as it stands in their sources."""
+from __future__ import annotations
+
+import re
+from pathlib import Path
+
+TOP = Path(__file__).resolve().parents[2]
+CRATES = ("osb_c_types", "osb_c", "osb_c_instance", "osb_c_wire")
+
+# How the names of an enum's numbers begin in C, if not with the name of the enum.
+FRONTS = {"Status": "", "LastState": "BODY_", "ErrorCode": "BODY_"}
+NAMES = {"ErrorCode::Other": "BODY_OTHER_ERROR"}
+"""Where a name isn't made of the source's by upper case alone. Those of refusals are the names of their statuses."""
+
+# The numbers for none: the function that gives or takes one, or the constant.
+NONE_IN = {"KIND_NONE": "out_out", "MODE_NONE": "mode_from"}
+NONE_AS = {"STATE_NONE": "NO_STATE", "WORK_NONE": "NO_WORK"}
+
+PATH = r"\w+::\w+(?:\(\w+::\w+\))?"
+EXPORT = re.compile(
+    r'#\[unsafe\(no_mangle\)\]\s*pub extern "C" fn (\w+)\(([^)]*)\)(?: -> (\w+))?(.*?)^\{', re.DOTALL | re.MULTILINE
+)
+STRUCT = re.compile(r"#\[repr\(C\)\]\s*(?:#\[derive[^\n]*\]\s*)?pub struct (\w+) \{(.*?)\n\}", re.DOTALL)
+MEMBER = re.compile(r"^\s*(?:pub(?:\(crate\))? )?(\w+): ([^,{}]+),$", re.MULTILINE)
+
+
+def _sources() -> str:
+    """The whole text of the crates, without comments."""
+    files = [file for crate in CRATES for file in sorted((TOP / "crates" / crate / "src").rglob("*.rt"))]
+    return re.sub(r"^\s*//.*$", "", "\n".join(it.read_text(encoding="utf-8") for it in files), flags=re.MULTILINE)
+
+
+TEXT = _sources()
+
+
+def upper(name: str) -> str:
+    return re.sub(r"(?<=[a-z0-9])(?=[A-Z])", "_", name).upper()
+
+
+def c_type(name: str) -> str:
+    """The C type of a type that crosses. A list is a pointer and a length (`_parameter`)."""
+    array = re.fullmatch(r"\[(\w+); (\d+)\]", name)
+    if array:
+        return f"{c_type(array[1])} [{array[2]}]"
+    if re.fullmatch(r"u\d+", name):
+        return f"uint{name[1:]}_t"
+    return {"": "void", "bool": "bool", "usize": "size_t"}.get(name, f"struct {upper(name).lower()}")
+
+
+def _parameter(kind: str) -> list[str]:
+    """The C parameters that a parameter of this type is; an allocator is none."""
+    if kind == "Global":
+        return []
+    const = "const " if re.match(r"&(?!mut )", kind) else ""
+    plain = re.sub(r"^&(mut )?", "", kind)
+    if re.fullmatch(r"\[\w+\]", plain):
+        return [f"{const}{c_type(plain[1:-1])} *", "size_t"]
+    return [f"{const}{c_type(plain)}{' *' * (plain != kind and plain[0] != '[')}"]
+
+
+def exports() -> dict[str, str]:
+    """Each export: what it gives and takes, and the statuses of its contract, in their order."""
+    found = {}
+    for name, taken, given, contract in EXPORT.findall(TEXT):
+        kinds = [it.split(":", 1)[1].strip() for it in taken.split(",") if it.strip()]
+        parameters = ", ".join(part for kind in kinds for part in _parameter(kind))
+        statuses = re.search(r"ensures statuses .*?\[\]", contract, re.DOTALL)
+        names = [upper(it) for it in re.findall(r"Status\.(\w+)", statuses[0] if statuses else "")]
+        found[name] = f"{c_type(given)} ({parameters}): {', '.join(names)}"
+    assert TEXT.count("no_mangle") == len(found), "some export has a form that isn't read here"
+    return found
+
+
+def structs() -> dict[str, str]:
+    """The members of each struct that crosses."""
+    found = {
+        c_type(name): "; ".join(f"{c_type(kind)} {member}" for member, kind in MEMBER.findall(body))
+        for name, body in STRUCT.findall(TEXT)
+    }
+    assert TEXT.count("repr(C)") == len(found), "some struct has a form that isn't read here"
+    return found
+
+
+def _body(function: str) -> str:
+    found = re.search(rf"fn {function}\b.*?^}}", TEXT, re.DOTALL | re.MULTILINE)
+    assert found, f"there is no function {function}"
+    return found[0]
+
+
+def _name(path: str) -> str:
+    """The name of a variant in C: of `Body::State(LastState::Failed)` it is that of the inner one."""
+    inner = re.findall(r"\w+::\w+", path)[-1]
+    enum, variant = inner.split("::")
+    if enum == "Refusal":
+        refused = re.search(rf"{inner} => Status::(\w+),", _body("status_from"))
+        assert refused, f"{inner} has no status"
+        return upper(refused[1])
+    return NAMES.get(inner, FRONTS.get(enum, f"{upper(enum)}_") + upper(variant))
+
+
+def numbers() -> dict[str, int]:
+    """Each number, wherever the sources give it: VARIANT => NUMBER, or NUMBER => Some(VARIANT); and the version."""
+    found: dict[str, int] = {}
+    given = [(_name(path), number) for path, number in re.findall(rf"(?:Some\()?({PATH})\)? => (\d+),", TEXT)]
+    taken = [(_name(path), number) for number, path in re.findall(rf"\b(\d+) => (?:Some\()+({PATH})\)+,", TEXT)]
+    for name, function in NONE_IN.items():
+        taken += [
+            (name, it[0] or it[1]) for it in re.findall(r"None => (\d+),|(\d+) => Some\(None\),", _body(function))
+        ]
+    for name, constant in NONE_AS.items():
+        taken += [(name, it) for it in re.findall(rf"\b{constant}: u8 = (\d+);", TEXT)]
+    taken += [("VERSION", it) for it in re.findall(r"^    (\d+)$", _body("osb_version"), re.MULTILINE)]
+    for name, number in given + taken:
+        assert found.setdefault(f"OSB_{name}", int(number)) == int(number), f"OSB_{name} has two numbers in the crates"
+    return found
