@@ -25,7 +25,7 @@ from osb import (
     _crossing,
     work_of,
 )
-from osb_tests.support import ASYNC, ONE, SERVICE, SYNC, TWO, request
+from osb_tests.support import ASYNC, ONE, SERVICE, SYNC, TWO, UNSOLD, request
 
 PROVISION, POLL, DEPROVISION = Kind.PROVISION, Kind.POLL, Kind.DEPROVISION
 
@@ -212,10 +212,30 @@ class Holdings(unittest.TestCase):
             self.assertEqual([work_of(kind, mode) for mode in (Mode.SYNC, Mode.ASYNC, None)], works)
 
     def test_handle(self) -> None:
-        self.assertEqual(
-            Holding.NONE.handle(Mode.SYNC, request(PROVISION), Outcome.DONE),
-            (Holding(row(Phase.READY, SYNC)), Answer(201, Body.EMPTY)),
+        """Where several rules of docs/broker.md fit, the first counts. crates/library_cases has each rule by itself."""
+        making, ready, deleting = (
+            Holding(row(Phase.MAKING)),
+            Holding(row(Phase.READY, SYNC)),
+            Holding(row(Phase.DELETING)),
         )
+        marked, done, after = Holding(is_marked=True), Outcome.DONE, Outcome.AFTER
+        for held, kind, plan, accepts, outcome, status, body, left in (
+            (Holding.NONE, PROVISION, SYNC, False, done, 201, Body.EMPTY, ready),
+            (ready, PROVISION, UNSOLD, True, done, 400, Body.OTHER_ERROR, ready),
+            (ready, PROVISION, ASYNC, False, done, 422, Body.ASYNC_REQUIRED, ready),
+            (making, PROVISION, SYNC, False, done, 409, Body.OTHER_ERROR, making),
+            (making, PROVISION, ASYNC, True, after, 202, Body.EMPTY, making),
+            (Holding.NONE, DEPROVISION, ASYNC, False, after, 410, Body.OTHER_ERROR, marked),
+            (ready, DEPROVISION, ASYNC, False, done, 400, Body.OTHER_ERROR, ready),
+            (making, DEPROVISION, ASYNC, False, done, 422, Body.ASYNC_REQUIRED, making),
+            (making, DEPROVISION, ASYNC, True, after, 422, Body.CONCURRENCY_ERROR, making),
+            (deleting, DEPROVISION, ASYNC, True, Outcome.BEFORE, 202, Body.EMPTY, deleting),
+            (making, POLL, SYNC, False, done, 400, Body.OTHER_ERROR, making),
+            (making, POLL, ASYNC, False, done, 200, Body.IN_PROGRESS, making),
+        ):
+            mode = {SYNC: Mode.SYNC, ASYNC: Mode.ASYNC, UNSOLD: None}[plan]
+            said = held.handle(mode, request(kind, plan, accepts), outcome)
+            self.assertEqual(said, (left, Answer(status, body)), (held, kind, plan))
 
     def test_fits(self) -> None:
         for held, sync, asynchronous, none in (
