@@ -226,9 +226,9 @@ func TestExpire(t *testing.T) {
 // with 409, and nothing is made.
 func TestLostAnswerAndLateProvision(t *testing.T) {
 	p, ctx := newPair(t), context.Background()
-	var late *http.Request
+	late := make(chan *http.Request, 1)
 	p.become(func(_ http.ResponseWriter, r *http.Request, broker http.Handler) {
-		late = copyOf(t, r)
+		late <- copyOf(t, r)
 		broker.ServeHTTP(httptest.NewRecorder(), r)
 		panic(http.ErrAbortHandler) // the connection ends without an answer
 	})
@@ -243,7 +243,7 @@ func TestLostAnswerAndLateProvision(t *testing.T) {
 	_, worked := p.backend.count()
 
 	again := httptest.NewRecorder()
-	p.broker.ServeHTTP(again, late)
+	p.broker.ServeHTTP(again, <-late)
 	p.stands(standing, err, osb.StateGone, marked, 0)
 	if _, now := p.backend.count(); again.Code != http.StatusConflict || now != worked {
 		t.Errorf("%d %s", again.Code, again.Body)
@@ -253,9 +253,9 @@ func TestLostAnswerAndLateProvision(t *testing.T) {
 // The Provision never arrives, the deletion is answered with 410, and then the Provision arrives.
 func TestProvisionAfterThe410(t *testing.T) {
 	p, ctx := newPair(t), context.Background()
-	var late *http.Request
+	late := make(chan *http.Request, 1)
 	p.become(func(_ http.ResponseWriter, r *http.Request, _ http.Handler) {
-		late = copyOf(t, r)
+		late <- copyOf(t, r)
 		panic(http.ErrAbortHandler)
 	})
 	standing, err := p.client.Create(ctx, instance, service, plan)
@@ -264,7 +264,7 @@ func TestProvisionAfterThe410(t *testing.T) {
 	standing, err = p.client.Step(ctx, instance)
 	p.stands(standing, err, osb.StateGone, marked, 0)
 	again := httptest.NewRecorder()
-	p.broker.ServeHTTP(again, late)
+	p.broker.ServeHTTP(again, <-late)
 	p.stands(standing, err, osb.StateGone, marked, 0)
 	if again.Code != http.StatusConflict {
 		t.Errorf("%d %s", again.Code, again.Body)
