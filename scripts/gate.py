@@ -37,8 +37,6 @@ NAMED = (
     "OSB_CRATES",
     "OSB_REPLAY",
     "OSB_TEST_POSTGRESQL",
-    "OSB_TEST_SERVER",
-    "OSB_TEST_URL",
     "PYTHONPATH",
     "PYTEST_ADDOPTS",
 )
