@@ -102,6 +102,8 @@ class Records(unittest.TestCase):
             (lambda: busy.send(ONE), Status.BUSY),
             (lambda: record(State.READY).send(ONE), Status.NOTHING_DUE),
             (lambda: last.send(ONE), Status.ATTEMPTS_USED_UP),
+            (lambda: record(State.GONE, attempt=2**64 - 1).send(ONE), Status.NOTHING_DUE),
+            (lambda: record(State.POLLING, POLL, 2**64 - 1).send(ONE), Status.BUSY),
             (lambda: busy.answer(3, Answer(200, Body.SUCCEEDED)), Status.NOT_IN_FLIGHT),
             (lambda: busy.timeout(1), Status.NOT_IN_FLIGHT),
             (busy.expire, Status.BUSY),
@@ -200,6 +202,10 @@ class Holdings(unittest.TestCase):
         self.assertEqual(
             Holding.NONE.handle(Mode.SYNC, request(PROVISION), Outcome.DONE),
             (Holding(row(Phase.READY, SYNC)), Answer(201, Body.EMPTY)),
+        )
+        begun = holding_with_work(PROVISION)
+        self.assertEqual(
+            begun.handle(Mode.SYNC, request(DEPROVISION), Outcome.DONE), (begun, Answer(422, Body.CONCURRENCY_ERROR))
         )
 
     def test_fits(self) -> None:
