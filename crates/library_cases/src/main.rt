@@ -13,7 +13,7 @@ mod wire;
 mod words;
 
 use anyhow::Result;
-use platform::Left;
+use osb_platform::Platform;
 
 // Whose cases follow.
 #[derive(Clone, Copy)]
@@ -44,7 +44,7 @@ fn named(name: &str) -> Result<Library> {
 fn main(rt: HostRuntime) -> Result<()> {
     let mut of = Library::Wire;
     let mut stepped = None;
-    let mut left = Left::new(rt.alloc());
+    let mut platform = Platform::new(rt.alloc());
     for line in rt.lines(rt.alloc()) {
         let line = line?;
         let text = line.as_str();
@@ -58,7 +58,7 @@ fn main(rt: HostRuntime) -> Result<()> {
                 Library::Language => language::tell(&rt, text)?,
                 Library::Message => message::tell(&rt, rt.alloc(), text)?,
                 Library::Network => stepped = network::tell(&rt, rt.alloc(), stepped, text)?,
-                Library::Platform => platform::tell(&rt, rt.alloc(), &mut left, text)?,
+                Library::Platform => platform::tell(&rt, rt.alloc(), &mut platform, text)?,
                 Library::Wire => wire::tell(&rt, rt.alloc(), text)?,
             }
         }
