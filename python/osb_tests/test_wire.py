@@ -59,8 +59,9 @@ class Responses(unittest.TestCase):
             self.assertIsNone(read_operation(body))
 
     def test_retry_after(self) -> None:
-        self.assertEqual([retry_after(it) for it in ("0", "120", "18446744073709551615")], [0, 120, 2**64 - 1])
-        for value in ("", "-1", "1.5", "18446744073709551616", "Wed, 21 Oct 2015 07:28:00 GMT"):
+        seconds = [retry_after(it) for it in ("0", "120", "0120", "18446744073709551615")]
+        self.assertEqual(seconds, [0, 120, 120, 2**64 - 1])
+        for value in ("", "-1", "+120", "1.5", "18446744073709551616", "Wed, 21 Oct 2015 07:28:00 GMT"):
             self.assertIsNone(retry_after(value), value)
 
 
@@ -186,9 +187,9 @@ class Answers(unittest.TestCase):
 
 class Headers(unittest.TestCase):
     def test_api_version(self) -> None:
-        for value in ("2.0", "2.17", "2.999"):
+        for value in ("2.0", "2.17", "2.123456789012345678901234567890"):
             api_version(value)
-        for refused in (None, "", "2", "2.", "3.0", "2.17 ", "2.1.7"):
+        for refused in (None, "", "2", "2.", "3.0", "1.17", "02.1", "2.1x", " 2.0", "2.17 ", "2.1.7"):
             refusal = refusal_of(lambda: api_version(refused))
             self.assertEqual(refusal and refusal.http_status, 412, refused)
 

@@ -1,5 +1,5 @@
-//! The cases of `osb_wire`: a line with the name of a call and its arguments, and below it what the call returned. A text
-//! that begins with `hex:` stands for the bytes that its digits write.
+//! The cases of `osb_wire`: a line with the name of a call and its arguments, and below it what the call returned. What is
+//! read of other answers and requests can be seen from C: `checks/wire` compares it with Python's `json` and `urllib`.
 
 mod broker;
 mod platform;
@@ -21,12 +21,10 @@ pub(crate) fn tell(rt: &impl Print, alloc: Global, line: &str) -> Result<()> {
         "target" => platform::target(rt, alloc, rest),
         "constants" => platform::constants(rt),
         "send" => platform::send(rt, alloc, rest),
-        "seconds" => platform::seconds(rt, rest),
         "refusals" => broker::refusals(rt),
         "request" => broker::request(rt, alloc, rest),
         "asked-operation" => broker::operation(rt, alloc, rest),
         "reply" => broker::reply(rt, alloc, rest),
-        "version" => broker::version(rt, rest),
         "authorized" => broker::authorized(rt, alloc, rest),
         "catalogue" => broker::catalogue(rt, alloc, rest),
         "catalogue-faults" => broker::catalogue_faults(rt),

@@ -1,10 +1,10 @@
 //! What a broker calls.
-use crate::words::{bytes, first, given};
+use crate::words::{first, given};
 use anyhow::{Context, Result};
 use osb_message::{Answer, Body, ErrorCode, Id, LastState, Mode};
 use osb_wire::{
-    Asked, CatalogueFault, Refusal, api_version, asked_operation, basic_auth, catalogue_document,
-    read_request, write_answer,
+    Asked, CatalogueFault, Refusal, asked_operation, basic_auth, catalogue_document, read_request,
+    write_answer,
 };
 use std::alloc::Global;
 
@@ -78,16 +78,8 @@ pub(crate) fn request(rt: &impl Print, alloc: Global, rest: &str) -> Result<()> 
     let (target, body) = first(rest);
     let prefix = given(prefix).unwrap_or("");
     let longest: usize = longest.parse().ok().context("no length")?;
-    let target = bytes(alloc, target)?;
-    let body = bytes(alloc, body)?;
-    match read_request(
-        alloc,
-        prefix,
-        longest,
-        method,
-        target.as_slice(),
-        body.as_slice(),
-    ) {
+    let (target, body) = (target.as_bytes(), body.as_bytes());
+    match read_request(alloc, prefix, longest, method, target, body) {
         Ok(found) => asked(rt, found),
         Err(refusal) => refused(rt, refusal),
     }
@@ -95,12 +87,7 @@ pub(crate) fn request(rt: &impl Print, alloc: Global, rest: &str) -> Result<()> 
 
 // `asked-operation TARGET`
 pub(crate) fn operation(rt: &impl Print, alloc: Global, rest: &str) -> Result<()> {
-    let target = bytes(alloc, rest)?;
-    tell_operation(rt, alloc, target.as_slice())
-}
-
-fn tell_operation(rt: &impl Print, alloc: Global, target: &[u8]) -> Result<()> {
-    match asked_operation(alloc, target) {
+    match asked_operation(alloc, rest.as_bytes()) {
         Ok(Some(operation)) => println!(rt; "  [{}]", operation.as_str())?,
         Ok(None) => println!(rt; "  none")?,
         Err(refusal) => refused(rt, refusal)?,
@@ -135,15 +122,6 @@ pub(crate) fn reply(rt: &impl Print, alloc: Global, rest: &str) -> Result<()> {
     Ok(())
 }
 
-// `version VALUE`
-pub(crate) fn version(rt: &impl Print, rest: &str) -> Result<()> {
-    match api_version(given(rest)) {
-        Ok(()) => println!(rt; "  accepted")?,
-        Err(refusal) => refused(rt, refusal)?,
-    }
-    Ok(())
-}
-
 // `authorized USER PASSWORD VALUE`
 pub(crate) fn authorized(rt: &impl Print, alloc: Global, rest: &str) -> Result<()> {
     let (user, rest) = first(rest);
@@ -155,8 +133,7 @@ pub(crate) fn authorized(rt: &impl Print, alloc: Global, rest: &str) -> Result<(
 
 // `catalogue DOCUMENT`: how the plans 3 and 4 of the service 2 work
 pub(crate) fn catalogue(rt: &impl Print, alloc: Global, rest: &str) -> Result<()> {
-    let document = bytes(alloc, rest)?;
-    let catalogue = match catalogue_document(alloc, document.as_slice()) {
+    let catalogue = match catalogue_document(alloc, rest.as_bytes()) {
         Ok(catalogue) => catalogue,
         Err(fault) => {
             println!(rt; "  {fault}")?;

@@ -1,12 +1,12 @@
 //! What a platform calls.
-use crate::words::{bytes, first, given, kind, repeated};
+use crate::words::{first, given, kind, repeated};
 use anyhow::{Context, Result};
 use osb_message::{
     Answer, Body, ErrorCode, InstanceId, Kind, LastState, PlanId, Request, ServiceId,
 };
 use osb_wire::{
     API_VERSION, API_VERSION_HEADER, CONTENT_TYPE, read_answer, read_operation, read_request,
-    retry_after, write_answer, write_request,
+    write_answer, write_request,
 };
 use serde_json::{Map, Value};
 use std::alloc::Global;
@@ -29,8 +29,7 @@ pub(crate) fn answer(rt: &impl Print, alloc: Global, rest: &str) -> Result<()> {
     let (kind_word, rest) = first(rest);
     let (status, body) = first(rest);
     let status: u16 = status.parse().ok().context("no status")?;
-    let body = bytes(alloc, body)?;
-    tell_answer(rt, alloc, kind(kind_word)?, status, body.as_slice())
+    tell_answer(rt, alloc, kind(kind_word)?, status, body.as_bytes())
 }
 
 fn tell_answer(rt: &impl Print, alloc: Global, kind: Kind, status: u16, body: &[u8]) -> Result<()> {
@@ -43,8 +42,7 @@ fn tell_answer(rt: &impl Print, alloc: Global, kind: Kind, status: u16, body: &[
 
 // `operation BODY`
 pub(crate) fn operation(rt: &impl Print, alloc: Global, rest: &str) -> Result<()> {
-    let body = bytes(alloc, rest)?;
-    match read_operation(alloc, body.as_slice())? {
+    match read_operation(alloc, rest.as_bytes())? {
         Some(operation) => println!(rt; "  [{}]", operation.as_str())?,
         None => println!(rt; "  none")?,
     }
@@ -172,14 +170,5 @@ pub(crate) fn target(rt: &impl Print, alloc: Global, rest: &str) -> Result<()> {
 pub(crate) fn constants(rt: &impl Print) -> Result<()> {
     println!(rt; "  {}: {}", API_VERSION_HEADER, API_VERSION)?;
     println!(rt; "  Content-Type: {}", CONTENT_TYPE)?;
-    Ok(())
-}
-
-// `seconds VALUE`
-pub(crate) fn seconds(rt: &impl Print, rest: &str) -> Result<()> {
-    match retry_after(rest) {
-        Some(seconds) => println!(rt; "  {seconds}")?,
-        None => println!(rt; "  none")?,
-    }
     Ok(())
 }
