@@ -1,6 +1,7 @@
 //! Tells what the libraries make of each case on standard input. A line `of LIBRARY` says whose cases follow, and each
-//! line is then a case of that library. It is written again, and below it what came of it; so are empty lines, comments,
-//! which begin with `#`, and the lines that name a library, with nothing below.
+//! line is then a case of that library. It is written again, and behind it, after two blanks, what came of it: what takes
+//! further lines stands below. Empty lines, comments, which begin with `#`, and the lines that name a library are written
+//! as they are.
 #![tactic(auto)]
 
 mod broker;
@@ -48,10 +49,13 @@ fn main(rt: HostRuntime) -> Result<()> {
     for line in rt.lines(rt.alloc()) {
         let line = line?;
         let text = line.as_str();
-        println!(rt; "{text}")?;
         if let Some(name) = text.strip_prefix("of ") {
             of = named(name)?;
-        } else if !text.is_empty() && !text.starts_with('#') {
+            println!(rt; "{text}")?;
+        } else if text.is_empty() || text.starts_with('#') {
+            println!(rt; "{text}")?;
+        } else {
+            print!(rt; "{text}")?;
             match of {
                 Library::Broker => broker::tell(&rt, rt.alloc(), text)?,
                 Library::Instance => instance::tell(&rt, rt.alloc(), text)?,

@@ -1,4 +1,4 @@
-//! The cases of `osb_platform`: a line with the name of a call and its arguments, and below it what the call returned.
+//! The cases of `osb_platform`: a line with the name of a call and its arguments, and behind it what the call returned.
 //! Each instance is of the service a0 and its plan b1, but where it's said.
 //!
 //! An id is written as its last digits, and a record as its service, its plan, its state and the kind of the request
@@ -28,7 +28,10 @@ pub(crate) fn tell(
 ) -> Result<()> {
     let (call, rest) = first(line);
     match call {
-        "new" => *platform = Platform::new(alloc),
+        "new" => {
+            *platform = Platform::new(alloc);
+            println!(rt;)?;
+        }
         "load" => texts::load(rt, alloc, platform, rest)?,
         "save" => texts::save(rt, alloc, platform)?,
         "ids" => texts::ids(rt, alloc, platform)?,

@@ -1,4 +1,4 @@
-//! The cases of `osb_wire`: a line with the name of a call and its arguments, and below it what the call returned. What is
+//! The cases of `osb_wire`: a line with the name of a call and its arguments, and behind it what the call returned. What is
 //! read of other answers and requests can be seen from C: `checks/wire` compares it with Python's `json` and `urllib`.
 
 mod broker;
