@@ -172,7 +172,7 @@ def test_the_header_in_cplusplus(library: Path, tmp_path: Path) -> None:
 def test_the_story_in_rust(library: Path, tmp_path: Path) -> None:
     options = ["--edition", "2021", "-D", "warnings", "-L", str(library), "-l", "static=osb"]
     run(needs("rustc"), *options, "-o", tmp_path / "story", "examples/rust/story.rs")
-    assert run(tmp_path / "story") == (TOP / "examples/rust/story.out").read_text(encoding="utf-8")
+    assert run(tmp_path / "story") == (TOP / "examples/c/story.out").read_text(encoding="utf-8")
 
 
 def test_the_benchmark_is_compiled(library: Path, tmp_path: Path) -> None:
