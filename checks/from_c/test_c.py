@@ -20,7 +20,6 @@ HERE = Path(__file__).resolve().parent
 SOURCES = {
     "first": TOP / "examples/c/first.c",
     "story": TOP / "examples/c/story.c",
-    "instance": TOP / "examples/c/instance.c",
     "smoke": HERE / "smoke.c",
 }
 SANITIZERS = ["-g", "-fsanitize=address,undefined", "-fno-sanitize-recover=all"]
