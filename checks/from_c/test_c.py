@@ -174,10 +174,6 @@ def test_the_story_in_rust(library: Path, tmp_path: Path) -> None:
     assert run(tmp_path / "story") == (TOP / "examples/c/story.out").read_text(encoding="utf-8")
 
 
-def test_the_benchmark_is_compiled(library: Path, tmp_path: Path) -> None:
-    compile_c("gcc", tmp_path / "nanoseconds", library, "-O2", "bench/c/nanoseconds.c")
-
-
 # ---- Memory.
 
 
