@@ -68,6 +68,9 @@ func TestBegin(t *testing.T) {
 		after  string
 	}{
 		{"1", busy, osb.ModeSync, osb.KindProvision, plan, osb.Answer{Status: 503, Body: osb.BodyOtherError}, 0, busy},
+		{"1, of another plan", working(`{"phase":"failed",`+asyncIDs+`}`, deleteWork+asyncIDs+`}`), osb.ModeSync,
+			osb.KindProvision, plan, osb.Answer{Status: 503, Body: osb.BodyOtherError}, 0,
+			working(`{"phase":"failed",`+asyncIDs+`}`, deleteWork+asyncIDs+`}`)},
 		{"2", busy, osb.ModeSync, osb.KindDeprovision, plan,
 			osb.Answer{Status: 422, Body: osb.BodyConcurrencyError}, 0, busy},
 		{"3", busy, osb.ModeSync, osb.KindPoll, plan, osb.Answer{Status: 200, Body: osb.BodyInProgress}, 0, busy},

@@ -157,7 +157,7 @@ def test_story_in_c(texts: list[str], workdir: Workdir) -> None:
 @covers("docs/c.md", "rustc ")
 def test_story_in_rust(texts: list[str], workdir: Workdir) -> None:
     needs("rustc")
-    assert workdir.run(f"./libosb build build\n{texts[0]}") == read("examples/rust/story.out")
+    assert workdir.run(f"./libosb build build\n{texts[0]}") == read("examples/c/story.out")
 
 
 # ---- Go

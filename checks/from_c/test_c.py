@@ -22,7 +22,6 @@ HERE = Path(__file__).resolve().parent
 SOURCES = {
     "first": TOP / "examples/c/first.c",
     "story": TOP / "examples/c/story.c",
-    "instance": TOP / "examples/c/instance.c",
     "suite": HERE / "suite.c",
 }
 EXPORTS = sorted(it.name for it in CALLS)
@@ -146,10 +145,6 @@ def test_the_header_in_cplusplus(library: Path, tmp_path: Path) -> None:
     options = ["-std=c++11", "-Wall", "-Wextra", "-pedantic", "-Werror", "-Iinclude"]
     run(needs("g++"), *options, "-o", tmp_path / "plus", source, library / "libosb.a")
     run(tmp_path / "plus")
-
-
-def test_the_benchmark_is_compiled(library: Path, tmp_path: Path) -> None:
-    compile_c("gcc", tmp_path / "nanoseconds", library, "-O2", "bench/c/nanoseconds.c")
 
 
 # ---- Installed under a prefix, and linked as pkg-config says.

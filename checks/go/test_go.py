@@ -120,7 +120,7 @@ def test_tests(go: Go, module: Path) -> None:
 
 def test_story(go: Go, tmp_path: Path) -> None:
     printed = run([str(go.build("story", tmp_path))], tmp_path, **go.environment)
-    assert printed == (EXAMPLES / "story" / "story.out").read_text(encoding="utf-8")
+    assert printed == (TOP / "examples" / "c" / "story.out").read_text(encoding="utf-8")
 
 
 def test_broker_and_platform(go: Go, tmp_path: Path) -> None:

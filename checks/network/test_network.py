@@ -28,7 +28,7 @@ run_machine: Callable[..., object] = run_state_machine_as_test
 
 @pytest.fixture(params=["libosb", "osb_network"])
 def tell(request: pytest.FixtureRequest) -> Tell:
-    """Tells what is left below each line, as library_cases writes it."""
+    """Tells what is left after each line, as library_cases writes it."""
     if request.param == "libosb":
         request.getfixturevalue("library")
         return shipped.tell
@@ -38,7 +38,9 @@ def tell(request: pytest.FixtureRequest) -> Tell:
         text = "".join(f"{line}\n" for line in ("of osb_network", *lines))
         ran = subprocess.run([program], input=text, capture_output=True, text=True, check=False)
         assert (ran.returncode, ran.stderr) == (0, "")
-        return [line.removeprefix("  ") for line in ran.stdout.splitlines()[2::2]]
+        cases = ran.stdout.splitlines()[1:]
+        assert all(case.startswith(f"{line}  ") for line, case in zip(lines, cases))
+        return [case.removeprefix(f"{line}  ") for line, case in zip(lines, cases)]
 
     return told
 

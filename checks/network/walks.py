@@ -13,7 +13,7 @@ ORDERS = [f"{mode} {accepts}" for mode in MODES for accepts in ("accepts", "refu
 
 
 class Step(NamedTuple):
-    """A line for library_cases, and what is wanted below it."""
+    """A line for library_cases, and what is wanted behind it."""
 
     line: str
     wanted: str

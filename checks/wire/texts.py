@@ -9,7 +9,7 @@ from typing import NamedTuple
 from hypothesis import strategies as st
 
 KINDS = ["provision", "deprovision", "poll"]
-STATUSES = [200, 200, 200, 200, 200, 201, 202, 204, 400, 401, 404, 408, 409, 410, 422, 429, 499, 500, 503]
+STATUSES = [*[200] * 20, *[201, 202, 422] * 8, 199, 203, 204, 399, *range(400, 434), 499, 500, 502, 503, 600]
 VALUES = [
     '"state"',
     '"error"',

@@ -117,6 +117,8 @@ class Records(unittest.TestCase):
             (lambda: busy.send(ONE), Status.BUSY),
             (lambda: record(State.READY).send(ONE), Status.NOTHING_DUE),
             (lambda: last.send(ONE), Status.ATTEMPTS_USED_UP),
+            (lambda: record(State.GONE, attempt=2**64 - 1).send(ONE), Status.NOTHING_DUE),
+            (lambda: record(State.POLLING, POLL, 2**64 - 1).send(ONE), Status.BUSY),
             (lambda: busy.answer(3, Answer(200, Body.SUCCEEDED)), Status.NOT_IN_FLIGHT),
             (lambda: busy.timeout(1), Status.NOT_IN_FLIGHT),
             (busy.expire, Status.BUSY),
@@ -212,7 +214,7 @@ class Holdings(unittest.TestCase):
             self.assertEqual([work_of(kind, mode) for mode in (Mode.SYNC, Mode.ASYNC, None)], works)
 
     def test_handle(self) -> None:
-        """Where several rules of docs/broker.md fit, the first counts. crates/library_cases has each rule by itself."""
+        """Where several rules of docs/broker.md fit, the first counts. checks/network has each rule by itself."""
         making, ready, deleting = (
             Holding(row(Phase.MAKING)),
             Holding(row(Phase.READY, SYNC)),

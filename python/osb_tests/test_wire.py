@@ -52,15 +52,40 @@ class Responses(unittest.TestCase):
         self.assertIsNone(read_answer(PROVISION, 404, b'{"error":"x"}'))
         self.assertRaises(ValueError, read_answer, PROVISION, 2**16 + 201, b"{}")
 
+    def test_examples(self) -> None:
+        """The standard's own examples."""
+        url = '"dashboard_url":"http://example-dashboard.example.com/9189kdfsk0vfnku"'
+        for kind, status, text, body in (
+            (PROVISION, 201, f"{{{url}}}", Body.EMPTY),
+            (PROVISION, 202, f'{{{url},"operation":"task_10"}}', Body.EMPTY),
+            (PROVISION, 422, '{"error":"AsyncRequired","description":"This Service Plan .."}', Body.ASYNC_REQUIRED),
+            (POLL, 200, '{"state":"in progress","description":"Creating service (10% complete)."}', Body.IN_PROGRESS),
+            (POLL, 200, '{"state":"succeeded"}', Body.SUCCEEDED),
+            (POLL, 200, '{"state":"failed","instance_usable":false,"update_repeatable":false}', Body.FAILED),
+            (POLL, 410, "{}", Body.EMPTY),
+            (DEPROVISION, 200, "{}", Body.EMPTY),
+            (DEPROVISION, 202, '{"operation":"task_10"}', Body.EMPTY),
+            (DEPROVISION, 410, "{}", Body.EMPTY),
+            (DEPROVISION, 422, '{"error":"ConcurrencyError","description":"The .."}', Body.CONCURRENCY_ERROR),
+        ):
+            self.assertEqual(read_answer(kind, status, text.encode()), Answer(status, body), text)
+
+    def test_lists_within_one_another(self) -> None:
+        for depth, body in ((126, Body.EMPTY), (127, Body.MALFORMED)):
+            text = f'{{"a":{"[" * depth}{"]" * depth}}}'
+            self.assertEqual(read_answer(PROVISION, 201, text.encode()), Answer(201, body), depth)
+
     def test_operation(self) -> None:
         self.assertEqual(read_operation('{"operation":"making é"}'.encode()), "making é")
-        self.assertEqual(read_operation(json.dumps({"operation": "x" * 10000}).encode()), "x" * 10000)
+        self.assertEqual(read_operation(json.dumps({"operation": "é" * 10000}).encode()), "é" * 10000)
+        self.assertEqual(read_operation(b'{"operation":"a","operation":"b\\u00e9\\"\\\\\\/"}'), 'bé"\\/')
         for body in (b"", b"{}", b'{"operation":1}', json.dumps({"operation": "x" * 10001}).encode()):
             self.assertIsNone(read_operation(body))
 
     def test_retry_after(self) -> None:
-        self.assertEqual([retry_after(it) for it in ("0", "120", "18446744073709551615")], [0, 120, 2**64 - 1])
-        for value in ("", "-1", "1.5", "18446744073709551616", "Wed, 21 Oct 2015 07:28:00 GMT"):
+        seconds = [retry_after(it) for it in ("0", "120", "0120", "18446744073709551615")]
+        self.assertEqual(seconds, [0, 120, 120, 2**64 - 1])
+        for value in ("", "-1", "+120", "1.5", "18446744073709551616", "Wed, 21 Oct 2015 07:28:00 GMT"):
             self.assertIsNone(retry_after(value), value)
 
 
@@ -152,6 +177,7 @@ class Requests(unittest.TestCase):
     def test_asked_operation(self) -> None:
         front = f"/v2/service_instances/{ONE}/last_operation"
         self.assertEqual(asked_operation(f"{front}?a=1&operation=making+1%C3%A9".encode()), "making 1é")
+        self.assertEqual(asked_operation(f"{front}?operation=a+b%26c%25%2B%ff".encode()), "a b&c%+\ufffd")
         self.assertIsNone(asked_operation(front.encode()))
         refusal = refusal_of(lambda: asked_operation(f"{front}?operation=1&operation=1".encode()))
         self.assertEqual(refusal and refusal.status, Status.REFUSED_REPEATED)
@@ -166,6 +192,8 @@ class Answers(unittest.TestCase):
             (Answer(200, Body.IN_PROGRESS), None, {"state": "in progress"}),
             (Answer(200, Body.SUCCEEDED), None, {"state": "succeeded"}),
             (Answer(200, Body.FAILED), None, {"state": "failed"}),
+            (Answer(202, Body.EMPTY), 'a "b" \\c\t', {"operation": 'a "b" \\c\t'}),
+            (Answer(202, Body.EMPTY), "é" * 10001, {}),
         ):
             self.assertEqual(json.loads(write_answer(answer, operation)), wanted, answer)
         self.assertEqual(write_answer(Answer(200, Body.MALFORMED)), b"")
@@ -175,7 +203,13 @@ class Answers(unittest.TestCase):
             (422, Body.ASYNC_REQUIRED, "AsyncRequired"),
             (422, Body.CONCURRENCY_ERROR, "ConcurrencyError"),
             (400, Body.OTHER_ERROR, "BadRequest"),
+            (404, Body.OTHER_ERROR, "NotFound"),
+            (405, Body.OTHER_ERROR, "MethodNotAllowed"),
             (409, Body.OTHER_ERROR, "Conflict"),
+            (410, Body.OTHER_ERROR, "Gone"),
+            (412, Body.OTHER_ERROR, "PreconditionFailed"),
+            (413, Body.OTHER_ERROR, "ContentTooLarge"),
+            (422, Body.OTHER_ERROR, "UnprocessableEntity"),
             (500, Body.OTHER_ERROR, "InternalServerError"),
             (503, Body.OTHER_ERROR, "ServiceUnavailable"),
             (418, Body.OTHER_ERROR, "Refused"),
@@ -186,14 +220,22 @@ class Answers(unittest.TestCase):
 
 class Headers(unittest.TestCase):
     def test_api_version(self) -> None:
-        for value in ("2.0", "2.17", "2.999"):
+        for value in ("2.0", "2.17", "2.123456789012345678901234567890"):
             api_version(value)
-        for refused in (None, "", "2", "2.", "3.0", "2.17 ", "2.1.7"):
+        for refused in (None, "", "2", "2.", "3.0", "1.17", "02.1", "2.1x", " 2.0", "2.17 ", "2.1.7"):
             refusal = refusal_of(lambda: api_version(refused))
             self.assertEqual(refusal and refusal.http_status, 412, refused)
 
     def test_basic_auth(self) -> None:
-        self.assertTrue(basic_auth(authorization(), USER, PASSWORD))
+        # The second one is the example of RFC 7617, section 2.
+        for value, user, password in (
+            (authorization(), USER, PASSWORD),
+            ("Basic QWxhZGRpbjpvcGVuIHNlc2FtZQ==", "Aladdin", "open sesame"),
+            ("BASIC QWxhZGRpbjpvcGVuIHNlc2FtZQ==", "Aladdin", "open sesame"),
+            (authorization("A", ""), "A", ""),
+            (authorization("é", "ü"), "é", "ü"),
+        ):
+            self.assertTrue(basic_auth(value, user, password), value)
         for value in (
             None,
             "",
@@ -201,14 +243,21 @@ class Headers(unittest.TestCase):
             authorization(password="x"),
             authorization(user="x"),
             authorization() + " ",
+            authorization() + "=",
+            authorization().replace(" ", ""),
             authorization().replace(" ", "  "),
             authorization().replace("Basic", "Bearer"),
             "Basic é",
         ):
             self.assertFalse(basic_auth(value, USER, PASSWORD), value)
+        for end in ("", "="):  # the end has to be `==`
+            self.assertFalse(basic_auth(f"Basic QWxhZGRpbjpvcGVuIHNlc2FtZQ{end}", "Aladdin", "open sesame"), end)
 
     def test_catalogue(self) -> None:
         self.assertEqual(catalogue_plans(CATALOGUE), [Plan(SERVICE, SYNC, False), Plan(SERVICE, ASYNC, True)])
+        self.assertEqual(catalogue_plans(b'{"services":[]}'), [])
+        halves = CATALOGUE.decode().replace("}, {", f'}}]}}, {{"id": "{SERVICE}", "plans": [{{')
+        self.assertEqual(catalogue_plans(halves.encode()), [Plan(SERVICE, SYNC, False), Plan(SERVICE, ASYNC, True)])
         many = {"services": [{"id": str(SERVICE), "plans": [{"id": str(Id(0, n))} for n in range(100)]}]}
         self.assertEqual(
             catalogue_plans(json.dumps(many).encode()), [Plan(SERVICE, Id(0, n), False) for n in range(100)]
@@ -216,10 +265,13 @@ class Headers(unittest.TestCase):
         for document, fault in (
             ("", Status.NOT_JSON),
             ("{}", Status.NO_SERVICES),
+            ('{"services":{}}', Status.NO_SERVICES),
             ('{"services":[{}]}', Status.BAD_SERVICE),
+            ('{"services":[1]}', Status.BAD_SERVICE),
             (CATALOGUE.decode().replace("plans", "x"), Status.NO_PLANS),
             (CATALOGUE.decode().replace(str(SYNC), "1"), Status.BAD_PLAN),
             (CATALOGUE.decode().replace("true", "1"), Status.BAD_PLAN_MODE),
+            (CATALOGUE.decode().replace("true", "null"), Status.BAD_PLAN_MODE),
             (CATALOGUE.decode().replace(str(ASYNC), str(SYNC)), Status.PLAN_TWICE),
         ):
             with self.assertRaises(OsbError) as raised:

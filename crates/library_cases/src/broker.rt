@@ -1,4 +1,4 @@
-//! The cases of `osb_broker`: a line with the name of a call and its arguments, and below it what the call returned. What
+//! The cases of `osb_broker`: a line with the name of a call and its arguments, and behind it what the call returned. What
 //! isn't here can be seen from C, and is tried in `checks/from_c`.
 use crate::words::{body_word, first, kind, outcome};
 use anyhow::{Context, Result};

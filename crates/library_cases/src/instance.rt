@@ -1,18 +1,69 @@
-//! The cases of `osb_instance`: a line with the name of a call and its arguments, and below it what the call returned.
-//!
-//! A holding is written as its row's phase, the request whose work is recorded, and its mark, a record as its state,
-//! the kind of the request that is out, and the number of the latest request; `-` stands for none. A request is the
-//! word of its kind, with `,refuses` where it doesn't accept an asynchronous operation and `,other` where it is of
-//! another plan than the row.
+//! The cases of `osb_instance`: a line with the name of a call and its arguments, and behind it what the call returned.
+//! What isn't here can be seen from C: `checks/network` compares it with a model, and `go/values_test.go` with the tables.
 
-mod holdings;
-mod records;
-mod words;
-
-use crate::words::first;
-use anyhow::Result;
-use osb_instance::TextFault;
+use crate::words::{first, given};
+use anyhow::{Context, Result};
+use osb_instance::{
+    ExpireRefused, Holding, NotOut, NothingBegun, Record, RemoveRefused, SendRefused, TextFault,
+};
+use osb_message::{Kind, PlanId, ServiceId};
+use osb_platform::{PlatformRow, State};
 use std::alloc::Global;
+
+// What a call is told to make of its arguments.
+pub(crate) fn tell(rt: &impl Print, alloc: Global, line: &str) -> Result<()> {
+    let (call, rest) = first(line);
+    match call {
+        "holding" => holding(rt, alloc, rest),
+        "none" => none(rt, alloc),
+        "record" => record(rt, alloc, rest),
+        "moved" => moved(rt, alloc, rest),
+        "faults" => faults(rt),
+        "refusals" => refusals(rt),
+        _ => anyhow::bail!("no such call: {call}"),
+    }
+}
+
+// `none`
+fn none(rt: &impl Print, alloc: Global) -> Result<()> {
+    let text = Holding::NONE.to_text(alloc)?;
+    Ok(println!(rt; "  {}", text.as_str())?)
+}
+
+// `holding TEXT`
+fn holding(rt: &impl Print, alloc: Global, rest: &str) -> Result<()> {
+    match Holding::from_text(alloc, rest) {
+        Ok(holding) => {
+            let text = holding.to_text(alloc)?;
+            Ok(println!(rt; "  {}", text.as_str())?)
+        }
+        Err(fault) => Ok(println!(rt; "  {fault}")?),
+    }
+}
+
+// `record TEXT`
+fn record(rt: &impl Print, alloc: Global, rest: &str) -> Result<()> {
+    match Record::from_text(alloc, rest) {
+        Ok(record) => {
+            let text = record.to_text(alloc)?;
+            Ok(println!(rt; "  {}", text.as_str())?)
+        }
+        Err(fault) => Ok(println!(rt; "  {fault}")?),
+    }
+}
+
+// `moved STATE OUT`, of the service a0 and its plan b1; `-` stands for no request that is out
+fn moved(rt: &impl Print, alloc: Global, rest: &str) -> Result<()> {
+    let (state, out) = first(rest);
+    let row = PlatformRow {
+        service: ServiceId::from_value(0xa0),
+        plan: PlanId::from_value(0xb1),
+        state: State::from_word(state).context("no such state")?,
+        out: given(out).and_then(Kind::from_word),
+    };
+    let text = Record::from_platform(row).to_text(alloc)?;
+    Ok(println!(rt; "  {}", text.as_str())?)
+}
 
 // `faults`: why a text names no record or holding, each as it is printed
 fn faults(rt: &impl Print) -> Result<()> {
@@ -30,27 +81,21 @@ fn faults(rt: &impl Print) -> Result<()> {
     Ok(())
 }
 
-// What a call is told to make of its arguments.
-pub(crate) fn tell(rt: &impl Print, alloc: Global, line: &str) -> Result<()> {
-    let (call, rest) = first(line);
-    match call {
-        "begin" => holdings::begin(rt, alloc, rest),
-        "end" => holdings::end(rt, alloc, rest),
-        "finish" => holdings::finish(rt, alloc, rest),
-        "fits" => holdings::fits(rt, alloc, rest),
-        "handle" => holdings::handle(rt, alloc, rest),
-        "work" => holdings::work(rt, rest),
-        "holding" => holdings::text(rt, alloc, rest),
-        "none" => holdings::none(rt, alloc),
-        "create" => records::create(rt, rest),
-        "moved" => records::moved(rt, alloc, rest),
-        "send" => records::send(rt, alloc, rest),
-        "answer" => records::answer(rt, alloc, rest),
-        "timeout" => records::timeout(rt, alloc, rest),
-        "expire" => records::expire(rt, alloc, rest),
-        "remove" => records::remove(rt, alloc, rest),
-        "record" => records::text(rt, alloc, rest),
-        "faults" => faults(rt),
-        _ => anyhow::bail!("no such call: {call}"),
+// `refusals`: why no request is sent, none is answered, polling isn't given up, nothing is removed and no work ends
+fn refusals(rt: &impl Print) -> Result<()> {
+    for refused in &[
+        SendRefused::Busy,
+        SendRefused::NothingDue,
+        SendRefused::AttemptsUsedUp,
+    ] {
+        println!(rt; "  {refused}")?;
     }
+    println!(rt; "  {}", NotOut)?;
+    for refused in &[ExpireRefused::Busy, ExpireRefused::NotPolling] {
+        println!(rt; "  {refused}")?;
+    }
+    for refused in &[RemoveRefused::Busy, RemoveRefused::NotRemovable] {
+        println!(rt; "  {refused}")?;
+    }
+    Ok(println!(rt; "  {}", NothingBegun)?)
 }

@@ -1,4 +1,4 @@
-//! The cases of `osb_language`: a line `faults`, and below it each fault of a line, as it is printed, with its number.
+//! The cases of `osb_language`: a line `faults`, and behind it each fault of a line, as it is printed, with its number.
 //! What a line means is tried with the program, in `checks/replay`: by `worked.txt`, and which fault it has by
 //! `test_faults.py`.
 use anyhow::Result;

@@ -1,6 +1,7 @@
 //! Tells what the libraries make of each case on standard input. A line `of LIBRARY` says whose cases follow, and each
-//! line is then a case of that library. It is written again, and below it what came of it; so are empty lines, comments,
-//! which begin with `#`, and the lines that name a library, with nothing below.
+//! line is then a case of that library. It is written again, and behind it, after two blanks, what came of it: what takes
+//! further lines stands below. Empty lines, comments, which begin with `#`, and the lines that name a library are written
+//! as they are.
 #![tactic(auto)]
 
 mod broker;
@@ -13,7 +14,7 @@ mod wire;
 mod words;
 
 use anyhow::Result;
-use platform::Left;
+use osb_platform::Platform;
 
 // Whose cases follow.
 #[derive(Clone, Copy)]
@@ -44,21 +45,24 @@ fn named(name: &str) -> Result<Library> {
 fn main(rt: HostRuntime) -> Result<()> {
     let mut of = Library::Wire;
     let mut stepped = None;
-    let mut left = Left::new(rt.alloc());
+    let mut platform = Platform::new(rt.alloc());
     for line in rt.lines(rt.alloc()) {
         let line = line?;
         let text = line.as_str();
-        println!(rt; "{text}")?;
         if let Some(name) = text.strip_prefix("of ") {
             of = named(name)?;
-        } else if !text.is_empty() && !text.starts_with('#') {
+            println!(rt; "{text}")?;
+        } else if text.is_empty() || text.starts_with('#') {
+            println!(rt; "{text}")?;
+        } else {
+            print!(rt; "{text}")?;
             match of {
                 Library::Broker => broker::tell(&rt, rt.alloc(), text)?,
                 Library::Instance => instance::tell(&rt, rt.alloc(), text)?,
                 Library::Language => language::tell(&rt, text)?,
                 Library::Message => message::tell(&rt, rt.alloc(), text)?,
                 Library::Network => stepped = network::tell(&rt, rt.alloc(), stepped, text)?,
-                Library::Platform => platform::tell(&rt, rt.alloc(), &mut left, text)?,
+                Library::Platform => platform::tell(&rt, rt.alloc(), &mut platform, text)?,
                 Library::Wire => wire::tell(&rt, rt.alloc(), text)?,
             }
         }

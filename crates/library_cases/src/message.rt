@@ -1,4 +1,4 @@
-//! The cases of `osb_message`: a line with the name of a call and its arguments, and below it what the call returned.
+//! The cases of `osb_message`: a line with the name of a call and its arguments, and behind it what the call returned.
 //! What isn't here can be seen from C, and is tried in `checks/from_c`.
 use crate::words::first;
 use anyhow::{Context, Result};

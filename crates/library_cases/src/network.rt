@@ -1,7 +1,8 @@
 //! The cases of `osb_network`. A line `order MODE accepts|refuses` begins a new instance, with the mode `sync`, `async`,
 //! or `-` for a plan that isn't on sale, and each further line is an event that happens to it, or `settle`. A line `many
 //! MODE accepts|refuses: ID EVENT, ..` has three instances, with the ids 1 to 3, and lets a list of events happen to
-//! them; a line `instances COUNT` has as many, and asks how many are there. Below each line stands what has become of the event, and all that there is then.
+//! them; a line `instances COUNT` has as many, and asks how many are there. Behind each line stands what has become of the
+//! event, and all that there is then.
 //!
 //! What there is: the platform's record, as its state, the kind of the request that is out, and the number of the
 //! latest request; the broker's holding, as its row's phase, the kind of the recorded work, and its mark; the thing;

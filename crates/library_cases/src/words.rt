@@ -14,18 +14,6 @@ pub(crate) fn given(word: &str) -> Option<&str> {
     if word == "-" { None } else { Some(word) }
 }
 
-// The bytes that a text stands for.
-pub(crate) fn bytes(alloc: Global, text: &str) -> Result<Vec<u8>> {
-    match text.strip_prefix("hex:") {
-        Some(digits) => Ok(
-            hex::decode(alloc, digits.as_bytes())
-                .ok()
-                .context("no hexadecimal digits")?,
-        ),
-        None => Ok(Vec::from_slice(alloc, text.as_bytes())?),
-    }
-}
-
 // The text so many times, one after another.
 pub(crate) fn repeated(alloc: Global, text: &str, times: usize) -> Result<String> {
     let mut whole = String::new(alloc);

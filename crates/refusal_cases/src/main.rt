@@ -1,10 +1,9 @@
 //! The library calls that may run out of memory, the command line's aside: each made where a check refuses
 //! one of its allocations, and made again after the refusal.
 //!
-//! `refusal_cases PART` tells one part, without a word it tells all of them, and `refusal_cases parts`
-//! names them. Four lines tell of a call: what there is before it (`before`), its name (`call`), what it
-//! returned (`returned`), and what there is then (`after`). The name of a call that takes no memory ends
-//! in `without memory`.
+//! `refusal_cases PART ..` tells these parts, and `refusal_cases parts` names all of them. Four lines tell of a call: what
+//! there is before it (`before`), its name (`call`), what it returned (`returned`), and what there is then (`after`). The
+//! name of a call that takes no memory ends in `without memory`.
 #![tactic(auto)]
 
 mod broker;
@@ -56,6 +55,7 @@ const PARTS: [&str; 26] = [
 
 fn tell(rt: &impl Print, alloc: Global, part: &str) -> Result<()> {
     match part {
+        "parts" => list(rt),
         "rows-insert" => rows::insert(rt, alloc),
         "rows-ids" => rows::ids(rt, alloc),
         "catalogue-add" => catalogue::add(rt, alloc),
@@ -86,13 +86,6 @@ fn tell(rt: &impl Print, alloc: Global, part: &str) -> Result<()> {
     }
 }
 
-fn tell_all(rt: &impl Print, alloc: Global) -> Result<()> {
-    for &part in &PARTS {
-        tell(rt, alloc, part)?;
-    }
-    Ok(())
-}
-
 // Names the parts, for the check that goes through them.
 fn list(rt: &impl Print) -> Result<()> {
     for &part in &PARTS {
@@ -104,9 +97,8 @@ fn list(rt: &impl Print) -> Result<()> {
 fn main(rt: HostRuntime) -> Result<()> {
     let mut words = env::args(&rt)?;
     let _program = words.next();
-    match words.next() {
-        None => tell_all(&rt, rt.alloc()),
-        Some(word) if word.as_str() == "parts" => list(&rt),
-        Some(part) => tell(&rt, rt.alloc(), part.as_str()),
+    for word in words {
+        tell(&rt, rt.alloc(), word.as_str())?;
     }
+    Ok(())
 }

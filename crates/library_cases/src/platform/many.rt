@@ -1,4 +1,4 @@
-//! Many instances, as many as a case names, each of a plan of its own. Each line below a case but the last tells of an
+//! Many instances, as many as a case names, each of a plan of its own. Each line of a case but the last tells of an
 //! instance that isn't as it must be.
 use super::rows::service;
 use anyhow::{Context, Result};
