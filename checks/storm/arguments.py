@@ -49,12 +49,6 @@ def read(given: list[str]) -> argparse.Namespace:
     )
     parser.add_argument("--no-points", dest="points", action="store_false", help="not every crash point has to be hit")
     parser.add_argument("--keep", type=Path, metavar="FOLDER", help="a new folder that keeps the logs and all files")
-    parser.add_argument(
-        "--log",
-        type=Path,
-        metavar="FILE",
-        help="what happens, a line of JSON each; python3 -m storm.picture draws it",
-    )
     asked = parser.parse_args(given)
     if asked.without == "locks" and asked.backend == "postgresql":
         parser.error("--without locks works with --backend folders only")

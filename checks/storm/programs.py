@@ -11,8 +11,6 @@ from pathlib import Path
 from random import Random
 from typing import NamedTuple, Sequence
 
-from storm.log import Log
-
 # A line of the platform's log; the broker's are JSON. A traceback right after it is told by it.
 _LOGGED = re.compile(r"\d{4}-\d\d-\d\d [\d:,]+ [A-Z]+ ")
 _TRACEBACK = "Traceback (most recent call last):"
@@ -30,11 +28,9 @@ class Program(NamedTuple):
 class Killed:
     """A program that is killed again and again: at each of its crash points, and in between at random."""
 
-    def __init__(
-        self, program: Program, points: Sequence[str], chance: Random, refusals: Sequence[int], log: Log
-    ) -> None:
+    def __init__(self, program: Program, points: Sequence[str], chance: Random, refusals: Sequence[int]) -> None:
         """`refusals`: statuses with which it may end by itself, if its store ends a session while it starts."""
-        self._program, self._chance, self._log = program, chance, log
+        self._program, self._chance = program, chance
         self._usual = [-9, *refusals]
         self._open = list(points)
         self.hit: list[str] = []
@@ -96,7 +92,7 @@ class Killed:
             is_hit = self._dies(4.0 if point else self._chance.uniform(0.8, 4.0)) and point != ""
             if is_hit:
                 self.hit.append(point)
-                self._count()
+                self.kills += 1
             elif point:
                 self._open.append(point)
             self._tried = ""
@@ -130,11 +126,7 @@ class Killed:
         if self._process is not None and self._process.poll() is None:
             os.kill(self._process.pid, signal.SIGKILL)
             self._process.wait()
-            self._count()
-
-    def _count(self) -> None:
-        self.kills += 1
-        self._log.say(killed=self._program.name)
+            self.kills += 1
 
     def _note(self, status: int, usual: list[int]) -> None:
         if status not in usual:

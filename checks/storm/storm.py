@@ -18,7 +18,6 @@ from osb_platform.points import POINTS as PLATFORM_POINTS
 from storm.audit import REST, Audit
 from storm.faults import KINDS, SHARE, SLOW_KINDS, SLOW_SHARE, Faults
 from storm.gateway import haproxy
-from storm.log import Log
 from storm.operator import ORDER_POINTS, Operator, python_environment
 from storm.places import Places, places
 from storm.programs import Killed, Program
@@ -54,9 +53,8 @@ class Storm:
             points = []
         broker_points = [] if asked.without in OTHER_BROKERS else chance.sample(BROKER_POINTS, len(BROKER_POINTS))
         is_disturbed = "postgresql" in (asked.store, asked.backend)
-        self._log = Log(asked.log)
         self.platform = Killed(
-            self._platform(), points, Random(f"{asked.seed} platform"), [1, 2] if is_disturbed else [], self._log
+            self._platform(), points, Random(f"{asked.seed} platform"), [1, 2] if is_disturbed else []
         )
         self.brokers = [
             Killed(
@@ -64,7 +62,6 @@ class Storm:
                 broker_points[n :: len(ports)],
                 Random(f"{asked.seed} broker {n}"),
                 [2] if is_disturbed else [],
-                self._log,
             )
             for n, at in enumerate(ports)
         ]
@@ -144,12 +141,8 @@ class Storm:
         while not stop.wait(0.25):
             try:
                 self.audit.look()
-                self._count()
             except Exception as error:
                 self.failed.append(repr(error))
-
-    def _count(self, is_last: bool = False) -> None:
-        self._log.count((state for _, state in self.at.instances.states()), is_last)
 
     def _settle(self) -> None:
         """No more faults: waits until all that was late has come, and every instance is at rest."""
@@ -157,9 +150,7 @@ class Storm:
         for program in (self.platform, *self.brokers):
             program.calm()
         began = time.monotonic()
-        self._log.say(calm=True)
         while time.monotonic() < began + self._asked.settle:
-            self._count()
             states = [state for _, state in self.at.instances.states()]
             is_late = time.monotonic() > began + _LATE and self._proxy.in_flight == 0
             is_still = all(state in REST and state != "unsettled" for state in states)
@@ -168,7 +159,6 @@ class Storm:
                 break
             self.operator.clear()
             time.sleep(0.3)
-        self._count(is_last=True)
         self.audit.look()
 
     def _broker(self, port: int, number: int) -> Program:
