@@ -19,7 +19,7 @@ quick: quick-format quick-lint quick-shell quick-go quick-types quick-tests ## f
 test: ## everything but the proofs, over the prebuilt library: some minutes
 	./check --tests
 
-check: ## everything from nothing, proofs included: hours
+check: ## everything from nothing, proofs included: about an hour on four cores
 	./check
 
 one: ## one test by its name or file: make one T=test_locks, make one T=... A="-x --pdb"

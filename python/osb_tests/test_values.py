@@ -214,7 +214,7 @@ class Holdings(unittest.TestCase):
             self.assertEqual([work_of(kind, mode) for mode in (Mode.SYNC, Mode.ASYNC, None)], works)
 
     def test_handle(self) -> None:
-        """Where several rules of docs/broker.md fit, the first counts. checks/network has each rule by itself."""
+        """Where several rules of docs/broker.md fit, the first counts. test_rules.py has each rule by itself."""
         making, ready, deleting = (
             Holding(row(Phase.MAKING)),
             Holding(row(Phase.READY, SYNC)),

@@ -6,7 +6,7 @@
 //!
 //! `create`, `send`, `answer`, `timeout`, `expire` and `remove` are calls of the platform that the lines before have
 //! left, and so is `save`; each but the last is told with what is recorded of the instance then. `new` begins another,
-//! and `load` one from a text. What becomes of each answer can be seen from C: `checks/from_c/tables.h` has the tables.
+//! and `load` one from a text. `python/osb_tests/test_rules.py` has what becomes of each answer.
 
 mod calls;
 mod faults;
