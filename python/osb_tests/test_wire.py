@@ -236,7 +236,7 @@ class Headers(unittest.TestCase):
             (authorization("é", "ü"), "é", "ü"),
         ):
             self.assertTrue(basic_auth(value, user, password), value)
-        for value in (
+        for wrong in (
             None,
             "",
             "Basic",
@@ -249,7 +249,7 @@ class Headers(unittest.TestCase):
             authorization().replace("Basic", "Bearer"),
             "Basic é",
         ):
-            self.assertFalse(basic_auth(value, USER, PASSWORD), value)
+            self.assertFalse(basic_auth(wrong, USER, PASSWORD), wrong)
         for end in ("", "="):  # the end has to be `==`
             self.assertFalse(basic_auth(f"Basic QWxhZGRpbjpvcGVuIHNlc2FtZQ{end}", "Aladdin", "open sesame"), end)
 
