@@ -154,7 +154,7 @@ def crossing(is_written: bool) -> list[Struct]:
     found = [it.type for it in all_taken if is_written == (it.pointer and not it.const)]
     for name in found:
         found += [it.type for it in STRUCTS[name].variables if it.type in STRUCTS and it.type not in found]
-    return [it for name, it in STRUCTS.items() if name in found and it.name != "id"]
+    return [it for name, it in STRUCTS.items() if name in found and it.name != "id" and not it.has_lengths]
 
 
 def go_value(it: Variable, value: str, is_to_c: bool) -> str:
@@ -264,8 +264,9 @@ def python_call(call: Call) -> list[str]:
     for it in call.parameters:
         is_text = it.plain == "uint8_t" and (it.pointer or it.length > 0)
         plain = ctypes_of(it.plain)
-        kinds += ["c.c_char_p" if is_text else f"_AT({plain})" if it.pointer else plain]
-    taken = ", ".join(kinds).replace("c.c_char_p, c.c_size_t, _AT(c.c_size_t)", "*_WRITTEN")
+        text = "c.c_char_p" if it.const or it.length else "written"
+        kinds += [text if is_text else f"_AT({plain})" if it.pointer else plain]
+    taken = ", ".join(kinds).replace("written, c.c_size_t, _AT(c.c_size_t)", "*_WRITTEN")
     taken = taken.replace("c.c_char_p, c.c_size_t", "*_READ")
     return listed("    (", [f'"{call.name}"', ctypes_of(call.given), f"[{taken}]"], "),")
 

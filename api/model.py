@@ -80,10 +80,16 @@ class Member(NamedTuple):
 
 
 class Struct:
-    """`struct osb_NAME`. If it is private, the members of the struct in Go aren't exported."""
+    """`struct osb_NAME`. If it is private, the members of the struct in Go aren't exported.
 
-    def __init__(self, name: str, *members: Member, comment: str = "", is_private: bool = False) -> None:
-        self.name, self.members, self.comment, self.is_private = name, members, comment, is_private
+    If it has lengths, they are those of texts in a buffer, and Go's own code takes the texts: it has no function in Go.
+    """
+
+    def __init__(
+        self, name: str, *members: Member, comment: str = "", is_private: bool = False, has_lengths: bool = False
+    ) -> None:
+        self.name, self.members, self.comment = name, members, comment
+        self.is_private, self.has_lengths = is_private, has_lengths
         self.variables: list[Variable] = []
         for declared, _, go in members:
             first, *others = declared.split(", ")

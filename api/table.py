@@ -47,7 +47,9 @@ STATUS = Enum(
     Value(1, "MEMORY", "out of memory: an allocation failed"),
     Value(6, "BUSY", "a request is in flight"),
     Value(7, "NOTHING_DUE", "in ready, gone and unsettled no request is due"),
-    Value(9, "NOT_POLLING", "none is in flight, and the state isn't polling"),
+    Value(
+        9, "NOT_POLLING", "none is in flight, and the state isn't polling; to send a deletion again: cleaning-polling"
+    ),
     Value(10, "NOT_REMOVABLE", "none is in flight, and the state isn't polling, ready or unsettled"),
     Value(11, "NOTHING_RUNNING", "the instance is neither being made nor being deleted"),
     Value(13, "PLAN_TWICE", "two of the plans have the same service and plan"),
@@ -68,7 +70,7 @@ STATUS = Enum(
     Value(29, "BAD_MODE", "the number stands for no mode"),
     Value(30, "ATTEMPTS_USED_UP", "the latest request has the greatest number, 2^64 - 1"),
     Value(31, "NOT_IN_FLIGHT", "no request is in flight, or one of another number"),
-    Value(32, "NOTHING_BEGUN", "no work is recorded"),
+    Value(32, "NOTHING_BEGUN", "no work is pending"),
     Value(33, "IMPOSSIBLE", "each member is one of its kind, and together they can't come about"),
     Value(34, "NO_ANSWER", "the response isn't surely the broker's: a timeout takes its place"),
     Value(35, "NO_OPERATION", "no operation is named"),
@@ -79,24 +81,53 @@ STATUS = Enum(
     Value(40, "REFUSED_METHOD", "refused with 405: the target has no such method"),
     Value(41, "REFUSED_VERSION", "refused with 412: the version isn't 2.x, or none is named"),
     Value(42, "REFUSED_LENGTH", "refused with 413: the body is too long"),
-    Value(43, "REFUSED_INSTANCE", "refused with 400: the id of the instance is no GUID"),
+    Value(
+        43,
+        "REFUSED_INSTANCE",
+        "refused with 400: the instance's id isn't UTF-8 of 1 to 255 bytes, or no path can carry it",
+    ),
     Value(44, "REFUSED_REPEATED", "refused with 400: a parameter of the query stands twice"),
-    Value(45, "REFUSED_SERVICE", "refused with 400: service_id is missing or no GUID"),
-    Value(46, "REFUSED_PLAN", "refused with 400: plan_id is missing or no GUID"),
+    Value(45, "REFUSED_SERVICE", "refused with 400: service_id is missing, or isn't a string of 1 to 255 bytes"),
+    Value(46, "REFUSED_PLAN", "refused with 400: plan_id is missing, or isn't a string of 1 to 255 bytes"),
     Value(47, "REFUSED_ACCEPTS_INCOMPLETE", "refused with 400: accepts_incomplete is neither true nor false"),
     Value(48, "REFUSED_BODY", "refused with 400: the body isn't UTF-8, isn't JSON, or is no object"),
     Value(49, "REFUSED_ORGANIZATION", "refused with 400: organization_guid is missing, no string, or empty"),
     Value(50, "REFUSED_SPACE", "refused with 400: space_guid is missing, no string, or empty"),
     Value(51, "NO_SERVICES", "the document has no list services"),
-    Value(52, "BAD_SERVICE", "the id of a service is missing or no GUID"),
+    Value(52, "BAD_SERVICE", "the id of a service is missing, or isn't a string of 1 to 255 bytes"),
     Value(53, "NO_PLANS", "a service has no list plans"),
-    Value(54, "BAD_PLAN", "the id of a plan is missing or no GUID"),
-    Value(55, "BAD_PLAN_MODE", "asynchronous of a plan is neither true nor false"),
+    Value(54, "BAD_PLAN", "the id of a plan is missing, or isn't a string of 1 to 255 bytes"),
+    Value(55, "BAD_PLAN_MODE", "the member x-osb-asynchronous of a plan is neither true nor false"),
+    Value(56, "NOT_A_PROVISION", "only the pending work of a Provision can be refused"),
+    Value(57, "NOT_WAITING", "the row doesn't wait for its first Poll"),
+    Value(58, "NOT_INSTANCE_TEXT", "the text isn't that of the request's instance, or no path can carry it"),
+    Value(59, "NOT_SERVICE_TEXT", "the text isn't that of the request's service"),
+    Value(60, "NOT_PLAN_TEXT", "the text isn't that of the request's plan"),
+    Value(61, "NO_MEMBER", "the text is no object of JSON, or the object has no such member"),
+    Value(62, "NO_IDENTITY", "the value of the header names nobody"),
+    Value(63, "NO_PLAN_VERSION", "the document has no maintenance_info.version of the plan"),
+    Value(64, "REFUSED_MAINTENANCE", "refused with 422: the request names another maintenance_info.version"),
+    Value(65, "NO_NAME", "the name of a service or of a plan is missing, no string, or empty"),
+    Value(66, "NAME_TWICE", "two services, or two plans of a service, have one name"),
+    Value(67, "NO_DESCRIPTION", "the description of a service or of a plan is missing, no string, or empty"),
+    Value(68, "NOT_A_BOOLEAN", "a flag of the catalogue is neither true nor false"),
+    Value(69, "NO_BINDABLE", "a service doesn't say whether it is bindable"),
+    Value(70, "NO_PLAN", "a service has no plan"),
+    Value(71, "BINDABLE_UNSERVED", "bindings aren't served, and bindable is true"),
+    Value(72, "UPDATE_UNSERVED", "updating isn't served, and plan_updateable is true"),
+    Value(73, "INSTANCES_UNSERVED", "fetching an instance isn't served, and instances_retrievable is true"),
+    Value(74, "BINDINGS_UNSERVED", "fetching a binding isn't served, and bindings_retrievable is true"),
+    Value(75, "SAME_NUMBER", "two ids of the document have one number"),
 )
 
 EXACTLY = {
     "TOO_SMALL": "the buffer, or the list of plans, is shorter than `needed`",
-    "NOT_JSON": "the text has no reading as JSON; for `osb_catalogue_plans` also if it isn't UTF-8",
+    "NOT_AN_ID": "for `osb_id_from_text`, the text is no GUID; for `osb_id_of_text`, it is empty or longer than 255 "
+    "bytes",
+    "NOT_JSON": "the text has no reading as JSON; for `osb_parameters_digest`, `osb_catalogue_plans` and "
+    "`osb_catalogue_check` also if it isn't UTF-8",
+    "NOT_AN_OBJECT": "the value isn't an object; for `osb_served_catalogue` also if the text isn't UTF-8 or has no "
+    "reading as JSON",
     "BAD_VERSION": "the version in the text isn't that of its format; of these, the first that fits comes "
     "([which](instance.md#the-texts))",
     "BAD_RECORD": "the record can't come about ([which can](instance.md#what-a-platform-keeps-record)), or a number "
@@ -111,7 +142,19 @@ EXACTLY = {
     "NO_ANSWER": "the response isn't surely the broker's ([which](wire.md#what-a-platform-takes-from-a-response))",
     "NO_OPERATION": "no operation is named; for `osb_read_operation` also if it has more than 10,000 characters",
     "NO_SECONDS": "the value isn't a number in decimal digits below 2^64",
-    "NOT_REFUSED": "the status is neither 39 to 50 nor `OSB_MEMORY`",
+    "REFUSED_INSTANCE": "refused with 400: the id of the instance isn't UTF-8 of 1 to 255 bytes, or is `.` or `..`",
+    "NOT_REFUSED": "the status is none of 39 to 50, 64 and `OSB_MEMORY`",
+    "BAD_PLAN_MODE": "`x-osb-asynchronous` of a plan, or `asynchronous` if the plan lacks it, is neither `true` nor "
+    "`false`",
+    "NOT_INSTANCE_TEXT": "the text of the instance hasn't the number of the request's instance, or is `.` or `..`",
+    "NOT_SERVICE_TEXT": "the text of the service hasn't the number of the request's service",
+    "NOT_PLAN_TEXT": "the text of the plan hasn't the number of the request's plan",
+    "NO_IDENTITY": "the value isn't the header's ([which](wire.md#what-a-broker-takes))",
+    "NO_PLAN_VERSION": "the document is no catalogue, it has no such plan of the service, or the plan has no string "
+    "`maintenance_info.version`",
+    "REFUSED_MAINTENANCE": "refused with 422: both the plan and the request name a `maintenance_info.version`, and the "
+    "two differ",
+    "SAME_NUMBER": "two different ids of services, or of plans, have one number",
 }
 """When a call returns a status, for docs/c.md, if that takes more words than the meaning of the status."""
 
@@ -131,23 +174,38 @@ INTERFACE: list[Part] = [
         If several of them fit, the call returns the first. But if an allocation failed, OSB_MEMORY may come in place of
         every status that the text or the list itself decides: OSB_PLAN_TWICE, OSB_TOO_SMALL, OSB_NOT_JSON to
         OSB_BAD_MEMBER, OSB_IMPOSSIBLE, OSB_NO_ANSWER, OSB_NO_OPERATION, OSB_UNAUTHORIZED, OSB_REFUSED_REPEATED to
-        OSB_BAD_PLAN_MODE."""
+        OSB_BAD_PLAN_MODE, OSB_NO_MEMBER to OSB_SAME_NUMBER."""
     ),
     STATUS,
-    Section("Ids: GUIDs."),
+    Section(
+        """Ids. The id of an instance, a service or a plan is any text of 1 to 255 bytes of UTF-8, and the calls know it
+        by a number of 128 bits. A GUID in lower case is its own number. Any other text has the first 128 bits of its
+        SHA-256 (docs/wire.md)."""
+    ),
     Struct(
         "id",
         Member("uint64_t high, low"),
-        comment="The halves of the number of 128 bits that the text writes: high has its first 16 digits.",
+        comment="The halves of the number of an id: as a GUID it has its first 16 digits in high.",
+    ),
+    Call(
+        "uint32_t osb_id_of_text(const uint8_t *text, size_t length, struct osb_id *id)",
+        """Writes the number of an id to *id, given its text as a request or a catalogue has it. The standard compares
+        ids byte by byte, so a GUID with a digit in upper case is another id than the same in lower case. The numbers
+        and the greatest length are this project's choice.""",
+        "OSB_DONE, OSB_NOT_UTF8, OSB_NOT_AN_ID for an empty text and for one of more than 255 bytes; if it isn't done, "
+        "*id is as before.",
     ),
     Call(
         "uint32_t osb_id_from_text(const uint8_t *text, size_t length, struct osb_id *id)",
-        "Reads the text of an id, 36 bytes in either case, as 12345678-9abc-def0-1234-56789abcdef0.",
+        """Reads a GUID, 36 bytes in either case, as 12345678-9abc-def0-1234-56789abcdef0: the number that its digits
+        write. That is the text's own number only in lower case; for the id in a request or a catalogue call
+        osb_id_of_text.""",
         "OSB_DONE, or OSB_NOT_AN_ID for every other text; *id is then as before.",
     ),
     Call(
         "void osb_id_to_text(struct osb_id id, uint8_t text[36])",
-        "Writes the text of an id in lower case: 36 bytes, and no NUL after them.",
+        """Writes the number of an id as a GUID in lower case: 36 bytes, and no NUL after them. It is the id's text only
+        if that text is a GUID in lower case.""",
     ),
     Section("Requests and answers."),
     Enum(
@@ -288,6 +346,12 @@ INTERFACE: list[Part] = [
         "OSB_DONE, OSB_BAD_RECORD, OSB_BUSY, OSB_NOT_POLLING.",
     ),
     Call(
+        "uint32_t osb_record_retry(struct osb_record *record)",
+        """Sends a deletion again, for one whose maximum polling duration has passed, or that the broker never ends:
+        cleaning-polling becomes cleaning.""",
+        "OSB_DONE, OSB_BAD_RECORD, OSB_BUSY, OSB_NOT_POLLING.",
+    ),
+    Call(
         "uint32_t osb_record_remove(struct osb_record *record)",
         "Has the instance deleted, as an operator asks: polling, ready and unsettled become cleaning.",
         "OSB_DONE, OSB_BAD_RECORD, OSB_BUSY, OSB_NOT_REMOVABLE.",
@@ -333,10 +397,14 @@ INTERFACE: list[Part] = [
         Value(0, "DONE", "it is done, or at an asynchronous plan started"),
         Value(1, "BEFORE", "it failed, and all is as it was: nothing was made, or nothing was deleted"),
         Value(2, "AFTER", "it failed, and yet all of it was done: the whole resource exists, or nothing is left"),
+        Value(3, "REFUSED_400", "the backend refuses a Provision, answered with 400, and nothing of it exists"),
+        Value(4, "REFUSED_422", "the same, answered with 422"),
         comment="""How the work behind a request goes. It counts where the work would be done at all. Work that is half
-        done is none of these: undo it and say BEFORE, finish it and say DONE, or say nothing until it is known.""",
-        go="""Work that is half done is none of these: undo it and return OutcomeBefore, finish it and return
-        OutcomeDone, or return an error. If nobody knows how it went, that is an error too.""",
+        done is none of these. Undo a creation and say BEFORE, or finish it and say DONE; finish a deletion, since it
+        creates nothing; or say nothing until it is known.""",
+        go="""Work that is half done is none of these: undo a creation and return OutcomeBefore, or finish it and
+        return OutcomeDone; finish a deletion; or return an error. If nobody knows how it went, return an error
+        too.""",
     ),
     Enum(
         "phase",
@@ -346,6 +414,7 @@ INTERFACE: list[Part] = [
         Value(2, "FAILED", "it could not be made"),
         Value(3, "DELETING", "it is being deleted"),
         Value(4, "DELETE_FAILED", "it could not be deleted"),
+        Value(5, "WAITING", "its making begins with the first Poll"),
     ),
     Struct(
         "broker_row",
@@ -355,19 +424,20 @@ INTERFACE: list[Part] = [
     ),
     Struct(
         "holding",
-        Member("struct osb_broker_row row", "it counts where has_row is true"),
-        Member("struct osb_request work", "the request whose work is recorded; it counts where has_work is true"),
+        Member("struct osb_broker_row row", "it counts if has_row is true"),
+        Member("struct osb_request work", "the request whose work is pending; it counts if has_work is true"),
         Member("bool has_row, has_work"),
-        Member("bool is_marked", "whether the instance has ended: none with this id is ever made again"),
+        Member("bool has_tombstone", "whether the instance has ended: none with this id is ever made again"),
+        Member("uint8_t attributes[32]", "the digest of the attributes of row and work, zeroes for none"),
         comment="""What a broker holds of an instance. One of zeroes holds nothing: an id that no request has come for
         has that. In what a call gives, members that don't count are zeroes, here, in struct osb_begun and in struct
-        osb_asked: two holdings that calls gave are the same exactly where each member is.""",
+        osb_asked: two holdings that calls gave are the same exactly if each member is.""",
         is_private=True,
     ),
     Struct(
         "begun",
         Member("struct osb_answer answer", "the answer to send, where the work is OSB_WORK_NONE"),
-        Member("enum osb_work work", "an enum osb_work: what is due, and is recorded"),
+        Member("enum osb_work work", "an enum osb_work: what is due and pending"),
         comment="What comes of a request at once.",
     ),
     Call(
@@ -377,38 +447,41 @@ INTERFACE: list[Part] = [
         forget what was made.""",
     ),
     Call(
-        "uint32_t osb_holding_begin(struct osb_holding *holding, uint8_t mode, const struct osb_request *request, "
-        "struct osb_begun *begun)",
-        """Begins with a request to this instance: answers it, or records it as work that is due. The mode is that of
-        the request's plan. What comes back is written to the database where it differs, before the work begins or the
-        answer is sent.""",
+        "uint32_t osb_holding_begin(struct osb_holding *holding, uint8_t mode, bool first_poll, "
+        "const struct osb_request *request, const uint8_t attributes[32], struct osb_begun *begun)",
+        """Begins with a request to this instance: answers it, or makes its work pending. The mode is that of the
+        request's plan. With first_poll, an asynchronous plan's instance is made only once it was polled: its Provision
+        leaves a row in OSB_PHASE_WAITING, and its first Poll one in OSB_PHASE_MAKING, whose operation runs from then
+        on. The attributes are the digest of what a Provision asks for, as osb_attributes_digest writes it: a Provision
+        of the same service and plan with others is answered with 409. If the holding changed, it is written to the
+        database before the work begins or the answer is sent.""",
         "OSB_DONE, OSB_BAD_HOLDING, OSB_BAD_MODE, OSB_BAD_KIND.",
     ),
     Call(
         "uint32_t osb_holding_end(struct osb_holding *holding, uint8_t mode, uint8_t outcome, "
         "struct osb_answer *answer)",
-        """Ends the recorded work with this outcome, and gives the answer to its request. The mode is that of the
-        recorded request's plan, and has to fit. What comes back is written to the database before the answer is
-        sent.""",
-        "OSB_DONE, OSB_BAD_HOLDING, OSB_BAD_MODE, OSB_BAD_OUTCOME, OSB_NOTHING_BEGUN.",
+        """Ends the pending work with this outcome, and returns the answer to its request. The mode is that of the
+        pending request's plan, and has to fit. A refusal leaves the tombstone. The holding is written to the database
+        before the answer is sent.""",
+        "OSB_DONE, OSB_BAD_HOLDING, OSB_BAD_MODE, OSB_BAD_OUTCOME, OSB_NOTHING_BEGUN, OSB_NOT_A_PROVISION.",
     ),
     Call(
         "uint32_t osb_holding_finish(struct osb_holding *holding, bool ok)",
-        """Ends the operation that runs on the instance, well (ok) or badly. An instance that is being made is ready
-        then, or has failed; one that is being deleted is gone and leaves the tombstone, or could not be deleted.""",
+        """Ends the operation that runs on the instance, which succeeded (ok) or failed. An instance that is being made
+        is ready then, or has failed; one that is being deleted is gone and leaves the tombstone, or could not be
+        deleted.""",
         "OSB_DONE, OSB_BAD_HOLDING, OSB_NOTHING_RUNNING.",
     ),
     Call(
-        "uint32_t osb_holding_handle(struct osb_holding *holding, uint8_t mode, const struct osb_request *request, "
-        "uint8_t outcome, struct osb_answer *answer)",
-        """osb_holding_begin, and where work is due osb_holding_end with this outcome, with nothing between: for tests,
-        and for brokers whose work can't be interrupted.""",
-        "OSB_DONE, OSB_BAD_HOLDING, OSB_BAD_MODE, OSB_BAD_KIND, OSB_BAD_OUTCOME.",
+        "uint32_t osb_holding_give_up_waiting(struct osb_holding *holding)",
+        """Gives up an instance that has waited too long for its first Poll: it has failed then, and nothing of it was
+        made.""",
+        "OSB_DONE, OSB_BAD_HOLDING, OSB_NOT_WAITING.",
     ),
     Call(
         "uint8_t osb_work_of(uint8_t kind, uint8_t mode)",
         """The work that a request of the kind means at a plan of the mode: what a broker that starts again asks of
-        recorded work. OSB_WORK_NONE of a Poll, at OSB_MODE_NONE, and where a number stands for nothing.""",
+        pending work. OSB_WORK_NONE of a Poll, at OSB_MODE_NONE, and where a number stands for nothing.""",
     ),
     Call(
         f"uint32_t osb_holding_to_text(const struct osb_holding *holding, {BUFFER})",
@@ -439,6 +512,23 @@ INTERFACE: list[Part] = [
         its Polls. Its text goes to the buffer.""",
         "OSB_DONE, OSB_NO_OPERATION, OSB_TOO_SMALL, OSB_MEMORY.",
     ),
+    Struct(
+        "details",
+        Member("bool has_description, has_error, has_dashboard_url, has_operation, has_metadata"),
+        Member("bool has_instance_usable, instance_usable, has_update_repeatable, update_repeatable"),
+        Member("size_t description, error, dashboard_url, operation, metadata", "the length of each text"),
+        comment="""What the body of an answer says besides the answer. A member counts if its has_ is true, and is false
+        or 0 otherwise. The texts stand in a buffer one after the other, in this order.""",
+        has_lengths=True,
+    ),
+    Call(
+        f"uint32_t osb_read_details(const uint8_t *body, size_t length, struct osb_details *details, {BUFFER})",
+        """Reads what the body of an answer says besides the answer, to any request and with any status: the strings
+        description (for a person), error, dashboard_url and operation (of at most 10,000 characters), the text of
+        metadata, and the booleans instance_usable and update_repeatable. A body that is no object says nothing. The
+        texts go to the buffer one after the other, and the length of all to *needed.""",
+        "OSB_DONE, OSB_TOO_SMALL, OSB_MEMORY.",
+    ),
     Call(
         f"uint32_t osb_write_method(uint8_t kind, {BUFFER})",
         "Writes the method of a request of the kind: PUT, GET or DELETE.",
@@ -449,8 +539,19 @@ INTERFACE: list[Part] = [
         f"bool has_operation, const uint8_t *operation, size_t operation_length, {BUFFER})",
         """Writes the target of a request: the path, which begins with the prefix (empty, or what the broker's URL has
         before /v2, with no `?`, `#`, blank or line end: it is written as it stands), and the query. The operation
-        counts where has_operation is true, and is the broker's; give one to a Poll alone.""",
+        counts where has_operation is true, and is the broker's; give one to a Poll alone. The ids are sent as GUIDs in
+        lower case; for other ids call osb_write_named_target.""",
         "OSB_DONE, OSB_NOT_UTF8 (prefix or operation), OSB_BAD_KIND, OSB_TOO_SMALL, OSB_MEMORY.",
+    ),
+    Call(
+        "uint32_t osb_write_named_target(const uint8_t *prefix, size_t prefix_length, "
+        "const struct osb_request *request, const uint8_t *instance, size_t instance_length, const uint8_t *service, "
+        "size_t service_length, const uint8_t *plan, size_t plan_length, bool has_operation, const uint8_t *operation, "
+        f"size_t operation_length, {BUFFER})",
+        """Writes the target of a request with the texts of its ids, escaped as a path and a query need it. Each text
+        must be that of the request's id, so no other instance is asked for. The rest is as in osb_write_target.""",
+        "OSB_DONE, OSB_NOT_UTF8 (prefix, any text, or an operation that counts), OSB_BAD_KIND, OSB_NOT_INSTANCE_TEXT, "
+        "OSB_NOT_SERVICE_TEXT, OSB_NOT_PLAN_TEXT, OSB_TOO_SMALL, OSB_MEMORY.",
     ),
     Call(
         "uint32_t osb_write_body(const struct osb_request *request, const uint8_t *organization, "
@@ -458,9 +559,19 @@ INTERFACE: list[Part] = [
         f"size_t further_length, {BUFFER})",
         """Writes the body of a request: of a Provision an object of the ids, the organization and the space, neither of
         which may be empty, and the members of `further`, the text of an object ({} for none), as context, parameters or
-        maintenance_info; else an empty text.""",
+        maintenance_info; else an empty text. The ids are sent as GUIDs in lower case; for other ids call
+        osb_write_named_body.""",
         "OSB_DONE, OSB_NOT_UTF8 (organization, space or further), OSB_BAD_KIND, OSB_NOT_JSON (further), "
         "OSB_NOT_AN_OBJECT (further), OSB_TOO_SMALL, OSB_MEMORY.",
+    ),
+    Call(
+        "uint32_t osb_write_named_body(uint8_t kind, const uint8_t *service, size_t service_length, "
+        "const uint8_t *plan, size_t plan_length, const uint8_t *organization, size_t organization_length, "
+        f"const uint8_t *space, size_t space_length, const uint8_t *further, size_t further_length, {BUFFER})",
+        """Writes the body of a request of the kind with the texts of the service and the plan. osb_write_named_target
+        says whether they are the request's. The rest is as in osb_write_body.""",
+        "OSB_DONE, OSB_NOT_UTF8 (any text), OSB_BAD_KIND, OSB_NOT_JSON (further), OSB_NOT_AN_OBJECT (further), "
+        "OSB_TOO_SMALL, OSB_MEMORY.",
     ),
     Struct(
         "asked",
@@ -480,6 +591,51 @@ INTERFACE: list[Part] = [
         "OSB_DONE, OSB_NOT_UTF8 (prefix or method), OSB_REFUSED_TARGET, OSB_REFUSED_METHOD, OSB_REFUSED_INSTANCE, "
         "OSB_REFUSED_LENGTH, and the first of OSB_REFUSED_REPEATED to OSB_REFUSED_SPACE in the order of docs/wire.md, "
         "OSB_MEMORY.",
+    ),
+    Struct(
+        "received",
+        Member("bool has_service, has_plan", "whether the request names them; only a Poll may lack them"),
+        Member("bool has_parameters, has_context, has_maintenance_info", "whether the body of a Provision has them"),
+        Member("bool has_others", "true for a Provision alone"),
+        Member("size_t instance, service, plan", "the length of the text of each id"),
+        Member("size_t parameters, context, maintenance_info, others", "the length of each part"),
+        comment="""The texts of a request, which stand in a buffer one after the other: those of the ids and of the
+        parts of a Provision's body, in this order. A text that isn't there has the length 0.""",
+        has_lengths=True,
+    ),
+    Call(
+        "uint32_t osb_receive_request(const uint8_t *prefix, size_t prefix_length, size_t longest_body, "
+        "const uint8_t *method, size_t method_length, const uint8_t *target, size_t target_length, "
+        "const uint8_t *body, size_t body_length, struct osb_asked *asked, struct osb_received *received, "
+        f"{BUFFER})",
+        """Reads what a request asks of a broker as osb_read_request does, with the texts of its ids and the parts of a
+        Provision's body: parameters, context, maintenance_info, and others, the object of all other members but
+        service_id and plan_id. A part is JSON with no spaces, numbers as they are written, and members in their order.
+        The texts go to the buffer one after the other, in the order of struct osb_received, and the length of all to
+        *needed.""",
+        "OSB_DONE, OSB_NOT_UTF8 (prefix or method), OSB_REFUSED_TARGET, OSB_REFUSED_METHOD, OSB_REFUSED_INSTANCE, "
+        "OSB_REFUSED_LENGTH, and the first of OSB_REFUSED_REPEATED to OSB_REFUSED_SPACE in the order of docs/wire.md, "
+        "OSB_TOO_SMALL, OSB_MEMORY.",
+    ),
+    Call(
+        "uint32_t osb_member_text(const uint8_t *body, size_t length, const uint8_t *name, size_t name_length, "
+        f"{BUFFER})",
+        """Writes the JSON that stands under a name in the object that a body is, with no spaces, numbers as they are
+        written, and members in their order. Of a name that stands twice the last counts.""",
+        "OSB_DONE, OSB_NOT_UTF8 (name), OSB_NO_MEMBER, OSB_TOO_SMALL, OSB_MEMORY.",
+    ),
+    Call(
+        "uint32_t osb_attributes_digest(const uint8_t *body, size_t length, uint8_t digest[32])",
+        """Writes the digest for osb_holding_begin of what the body of a Provision asks for: that of its parameters, or
+        32 zeroes if it has none. Context, organization and space don't count (this project's choice).""",
+        "OSB_DONE, OSB_MEMORY; if it isn't done, the digest is as before.",
+    ),
+    Call(
+        "uint32_t osb_parameters_digest(const uint8_t *parameters, size_t length, uint8_t digest[32])",
+        """Writes the digest of the JSON of parameters: the SHA-256 of the same JSON with no spaces, each number as it
+        is written, and the members of each object in ascending order of their names. {} and null have 32 zeroes. All of
+        this is this project's choice.""",
+        "OSB_DONE, OSB_NOT_JSON, OSB_MEMORY; if it isn't done, the digest is as before.",
     ),
     Call(
         "uint32_t osb_asked_request(const struct osb_asked *asked, bool has_held, struct osb_id service, "
@@ -501,9 +657,18 @@ INTERFACE: list[Part] = [
         "OSB_DONE, OSB_NOT_UTF8 (operation), OSB_TOO_SMALL, OSB_MEMORY.",
     ),
     Call(
+        "uint32_t osb_write_told_answer(struct osb_answer answer, bool has_operation, const uint8_t *operation, "
+        "size_t operation_length, bool has_description, const uint8_t *description, size_t description_length, "
+        f"{BUFFER})",
+        """Writes the body of an answer with a description for a person. The description counts where has_description is
+        true, and is written for an error, in place of the usual sentence, and for a last operation that failed; of one
+        with more than 1,000 characters the first 1,000 (this project's choice). The rest is as in osb_write_answer.""",
+        "OSB_DONE, OSB_NOT_UTF8 (an operation or a description that counts), OSB_TOO_SMALL, OSB_MEMORY.",
+    ),
+    Call(
         "uint16_t osb_refusal_status(uint32_t refusal)",
-        """The HTTP status of a refusal, OSB_REFUSED_TARGET to OSB_REFUSED_SPACE, and 503 of OSB_MEMORY; 0 of every
-        other number.""",
+        """The HTTP status of a refusal, OSB_REFUSED_TARGET to OSB_REFUSED_SPACE and OSB_REFUSED_MAINTENANCE, and 503 of
+        OSB_MEMORY; 0 of every other number.""",
     ),
     Call(
         f"uint32_t osb_refusal_body(uint32_t refusal, {BUFFER})",
@@ -525,6 +690,19 @@ INTERFACE: list[Part] = [
         "OSB_DONE, OSB_NOT_UTF8 (any of the three), OSB_UNAUTHORIZED, OSB_MEMORY.",
     ),
     Call(
+        f"uint32_t osb_originating_identity(const uint8_t *value, size_t length, size_t *platform, {BUFFER})",
+        """Reads the header X-Broker-API-Originating-Identity: the platform, a blank, and an object of JSON in padded
+        base64. The name of the platform and then the text of the object go to the buffer, the length of the name to
+        *platform, and the length of both to *needed.""",
+        "OSB_DONE, OSB_NOT_UTF8, OSB_NO_IDENTITY, OSB_TOO_SMALL (*platform is then written too), OSB_MEMORY.",
+    ),
+    Call(
+        "uint32_t osb_request_identity(const uint8_t *value, size_t length)",
+        """Judges the header X-Broker-API-Request-Identity. If it is done, the broker returns the value in the same
+        header of its answer. A value that is empty or has a control character names nobody (this project's choice).""",
+        "OSB_DONE, OSB_NOT_UTF8, OSB_NO_IDENTITY.",
+    ),
+    Call(
         "uint32_t osb_retry_after(const uint8_t *value, size_t length, uint64_t *seconds)",
         "Reads the seconds that a broker names in the header Retry-After.",
         "OSB_DONE, OSB_NO_SECONDS.",
@@ -533,10 +711,56 @@ INTERFACE: list[Part] = [
         "uint32_t osb_catalogue_plans(const uint8_t *document, size_t length, struct osb_plan *plans, size_t places, "
         "size_t *needed)",
         """Reads the plans that a catalogue's document names, as a broker answers it to GET /v2/catalog; a plan is
-        asynchronous where its member `asynchronous` is true. They go to the front of `plans`, which has `places`, in
-        ascending order of service and plan, and how many they are to *needed. What is behind them is as before.""",
+        asynchronous where its member `x-osb-asynchronous` is true, or `asynchronous` if it lacks that. They go to the
+        front of `plans`, which has `places`, in ascending order of service and plan, and how many they are to *needed.
+        What is behind them is as before.""",
         "OSB_DONE, OSB_NOT_JSON, OSB_NO_SERVICES, and the first of OSB_BAD_SERVICE, OSB_NO_PLANS, OSB_BAD_PLAN, "
         "OSB_BAD_PLAN_MODE and OSB_PLAN_TWICE in the document's order, OSB_TOO_SMALL (*needed is then written, "
         "and the places are as before), OSB_MEMORY.",
+    ),
+    Struct(
+        "endpoints",
+        Member("bool updating", "of an instance, which plan_updateable promises"),
+        Member("bool bindings", "which bindable promises"),
+        Member("bool fetching_instances", "which instances_retrievable promises"),
+        Member("bool fetching_bindings", "which bindings_retrievable promises"),
+        comment="The endpoints that a broker serves besides those of Provision, Deprovision and Poll.",
+    ),
+    Call(
+        "uint32_t osb_catalogue_check(const uint8_t *document, size_t length, const struct osb_endpoints *serves)",
+        """Judges whether a broker that serves these endpoints can have the document as its catalogue (section Catalog
+        Management): the plans as osb_catalogue_plans reads them, and then the names, descriptions and flags of services
+        and plans, and the numbers of their ids (docs/wire.md has the table).""",
+        "OSB_DONE, OSB_NOT_JSON, OSB_NO_SERVICES, and the first of OSB_BAD_SERVICE, OSB_NO_PLANS, OSB_BAD_PLAN, "
+        "OSB_BAD_PLAN_MODE and OSB_PLAN_TWICE in the document's order, and then the first of OSB_NO_NAME to "
+        "OSB_BINDINGS_UNSERVED in the document's order, OSB_SAME_NUMBER, OSB_MEMORY.",
+    ),
+    Call(
+        f"uint32_t osb_served_catalogue(const uint8_t *document, size_t length, {BUFFER})",
+        """Writes the document that a broker serves as its catalogue: the object that is given, with no spaces, and with
+        the member x-osb-tombstones, which is true. A platform with this library learns from it that the broker never
+        creates an id again (this project's choice).""",
+        "OSB_DONE, OSB_NOT_AN_OBJECT, OSB_TOO_SMALL, OSB_MEMORY.",
+    ),
+    Call(
+        "bool osb_asks_for_catalogue(const uint8_t *prefix, size_t prefix_length, const uint8_t *target, "
+        "size_t target_length)",
+        """Whether a target asks for the catalogue: the path is the prefix and /v2/catalog, or stands for that as in
+        osb_read_request. False too where the prefix isn't UTF-8.""",
+    ),
+    Call(
+        "uint32_t osb_plan_version(const uint8_t *document, size_t length, struct osb_id service, struct osb_id plan, "
+        f"{BUFFER})",
+        """Writes the maintenance_info.version that a catalogue's document has of a plan of a service (section Catalog
+        Management).""",
+        "OSB_DONE, OSB_NO_PLAN_VERSION, OSB_TOO_SMALL, OSB_MEMORY.",
+    ),
+    Call(
+        "uint32_t osb_maintenance_conflict(bool has_version, const uint8_t *version, size_t version_length, "
+        "const uint8_t *body, size_t body_length)",
+        """Judges whether the body of a Provision names another maintenance_info.version than the plan has, which is
+        osb_plan_version's and counts where has_version is true. If so, osb_refusal_status and osb_refusal_body give the
+        answer (section Maintenance Info Object). A plan or a request without a version conflicts with nothing.""",
+        "OSB_DONE, OSB_NOT_UTF8 (a version that counts), OSB_REFUSED_MAINTENANCE, OSB_MEMORY.",
     ),
 ]

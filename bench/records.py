@@ -45,11 +45,11 @@ def _fill(database: SqliteDatabase, instances: Instances, records: int) -> None:
 def _step(instances: Instances, ids: list[Id]) -> None:
     for id in ids:
         instances.order(id, SERVICE, PLANS[0], "{}")
-    for id in instances.claim("one", len(ids), 60.0):
-        record, _ = Record.create(id, SERVICE, PLANS[0], True)
-        instances.insert(id, Kept(record))
-        instances.update(id, _given_up)
-        instances.release(id, "one", lambda row, now: (None, 0))
+    for lease in instances.claim("one", len(ids), 60.0):
+        record, _ = Record.create(lease.id, SERVICE, PLANS[0], True)
+        instances.insert(lease.id, Kept(record))
+        instances.update(lease.id, _given_up)
+        instances.release(lease, lambda row, now: (None, 0))
 
 
 def _given_up(kept: Kept) -> tuple[Kept, None]:

@@ -7,10 +7,13 @@ if it isn't built from the sources as they stand.
 from __future__ import annotations
 
 import os
+import subprocess
+from collections.abc import Callable, Sequence
 from pathlib import Path
 
 import pytest
 
+Tell = Callable[[Sequence[str]], str]
 TOP = Path(__file__).resolve().parent.parent
 
 
@@ -25,3 +28,16 @@ def program_of(crate: str) -> Path:
     if any(file.stat().st_mtime > built for part in parts for file in crates.glob(f"*/{part}/**/*")):
         pytest.skip(f"{crate} is older than the sources: run `rt run` in crates/{crate}, which needs the Rattle kit")
     return program
+
+
+def cases_of(library: str) -> Tell:
+    """Tells what library_cases writes of some lines of the library. Skips the test if the program isn't built."""
+    program = program_of("library_cases")
+
+    def tell(lines: Sequence[str]) -> str:
+        text = "".join(f"{line}\n" for line in (f"of {library}", *lines))
+        ran = subprocess.run([program], input=text.encode(), capture_output=True, check=False)
+        assert (ran.returncode, ran.stderr) == (0, b"")
+        return ran.stdout.decode().partition("\n")[2]
+
+    return tell

@@ -37,7 +37,7 @@ func newSteps(b *testing.B) steps {
 	s.wanted, s.sent = osb.Create(instance, service, plan, true)
 	s.cleaning, errs[0] = s.wanted.Answer(1, s.failed)
 	s.polling, errs[1] = s.wanted.Answer(1, accepted)
-	s.begun, _, errs[2] = s.none.Begin(osb.ModeAsync, s.sent.Request)
+	s.begun, _, errs[2] = s.none.Begin(osb.ModeAsync, s.sent.Request, osb.Rules{})
 	s.running, _, errs[3] = s.begun.End(osb.ModeAsync, osb.OutcomeDone)
 	s.record, errs[4] = s.wanted.MarshalJSON()
 	s.holding, errs[5] = s.begun.MarshalJSON()
@@ -54,6 +54,7 @@ func (s steps) ofRecords() []step {
 	row := osb.PlatformRow{Service: service, Plan: plan, State: osb.StateReady, InFlight: osb.KindNone}
 	return []step{
 		{"Mitigates", func() error { osb.Mitigates(s.failed); return nil }},
+		{"IDOfText", func() error { return second(osb.IDOfText("postgres-small")) }},
 		{"ParseID", func() error { return second(osb.ParseID("00000000-0000-0000-0000-000000000001")) }},
 		{"ID.String", func() error { _ = instance.String(); return nil }},
 		{"Create", func() error { osb.Create(instance, service, plan, true); return nil }},
@@ -71,13 +72,9 @@ func (s steps) ofRecords() []step {
 func (s steps) ofHoldings() []step {
 	return []step{
 		{"Holding.Fits", func() error { s.begun.Fits(osb.ModeAsync); return nil }},
-		{"Holding.Begin", func() error { _, _, err := s.none.Begin(osb.ModeAsync, s.sent.Request); return err }},
+		{"Holding.Begin", func() error { _, _, err := s.none.Begin(osb.ModeAsync, s.sent.Request, osb.Rules{}); return err }},
 		{"Holding.End", func() error { _, _, err := s.begun.End(osb.ModeAsync, osb.OutcomeDone); return err }},
 		{"Holding.Finish", func() error { return second(s.running.Finish(true)) }},
-		{"Holding.Handle", func() error {
-			_, _, err := s.running.Handle(osb.ModeAsync, s.sent.Request, osb.OutcomeDone)
-			return err
-		}},
 		{"WorkOf", func() error { osb.WorkOf(osb.KindProvision, osb.ModeSync); return nil }},
 		{"Holding.MarshalJSON", func() error { return second(s.begun.MarshalJSON()) }},
 		{"Holding.UnmarshalJSON", func() error { var read osb.Holding; return read.UnmarshalJSON(s.holding) }},
@@ -85,30 +82,50 @@ func (s steps) ofHoldings() []step {
 }
 
 func (s steps) ofTheWire() []step {
-	version, operation := "2.17", "making 1"
+	version, operation, description := "2.17", "making 1", "The disk is full."
+	texts := osb.Names{Instance: instance.String(), Service: service.String(), Plan: plan.String()}
 	catalogue := []byte(`{"services":[{"id":"` + service.String() + `","plans":[{"id":"` + plan.String() + `"}]}]}`)
 	return []step{
 		{"WriteMethod", func() error { return second(osb.WriteMethod(osb.KindPoll)) }},
 		{"WriteTarget", func() error { return second(osb.WriteTarget("", s.sent.Request, nil)) }},
 		{"WriteBody", func() error { return second(osb.WriteBody(s.sent.Request, "org", "space", []byte("{}"))) }},
+		{"WriteNamedTarget", func() error { return second(osb.WriteNamedTarget("", s.sent.Request, texts, nil)) }},
+		{"WriteNamedBody", func() error {
+			return second(osb.WriteNamedBody(osb.KindProvision, texts, "org", "space", []byte("{}")))
+		}},
+		{"ReadDetails", func() error { return second(osb.ReadDetails([]byte(`{"description":"The disk is full."}`))) }},
 		{"ReadAnswer", func() error { return second(osb.ReadAnswer(osb.KindProvision, 201, []byte("{}"))) }},
 		{"ReadOperation", func() error { return second(osb.ReadOperation([]byte(`{"operation":"making 1"}`))) }},
 		{"RetryAfter", func() error { return second(osb.RetryAfter("120")) }},
 		{"ReadRequest", func() error {
 			return second(osb.ReadRequest("", 1000, "PUT", target, []byte(provisionBody)))
 		}},
+		{"ReceiveRequest", func() error {
+			return second(osb.ReceiveRequest("", 1000, "PUT", target, []byte(provisionBody)))
+		}},
+		{"MemberText", func() error { return second(osb.MemberText([]byte(provisionBody), "space_guid")) }},
+		{"AttributesDigest", func() error { return second(osb.AttributesDigest([]byte(`{"parameters":{"size":1}}`))) }},
+		{"ParametersDigest", func() error { return second(osb.ParametersDigest([]byte(`{"size":1}`))) }},
 		{"Asked.Request", func() error { return second(s.asked.Request(osb.BrokerRow{}, false)) }},
 		{"AskedOperation", func() error { return second(osb.AskedOperation(target + "/last_operation?operation=making+1")) }},
 		{"WriteAnswer", func() error { return second(osb.WriteAnswer(s.failed, nil)) }},
 		{"WriteAnswer with an operation", func() error {
 			return second(osb.WriteAnswer(osb.Answer{Status: 202, Body: osb.BodyEmpty}, &operation))
 		}},
+		{"WriteDescribedAnswer", func() error { return second(osb.WriteDescribedAnswer(s.failed, nil, &description)) }},
 		{"RefusalBody", func() error { return second(osb.RefusalBody(osb.ErrRefusedBody)) }},
 		{"APIVersion", func() error { return osb.APIVersion(&version) }},
 		{"BasicAuth", func() error {
 			return osb.BasicAuth("Basic QWxhZGRpbjpvcGVuIHNlc2FtZQ==", "Aladdin", "open sesame")
 		}},
+		{"OriginatingIdentity", func() error { return second(osb.OriginatingIdentity("cloudfoundry e30=")) }},
+		{"RequestIdentity", func() error { return osb.RequestIdentity("e26cee84-6b38-4456-b34e-d1a9f002c956") }},
 		{"CataloguePlans", func() error { return second(osb.CataloguePlans(catalogue)) }},
+		{"CheckCatalogue", func() error { return osb.CheckCatalogue([]byte(sold), all) }},
+		{"ServedCatalogue", func() error { return second(osb.ServedCatalogue(catalogue)) }},
+		{"AsksForCatalogue", func() error { osb.AsksForCatalogue("", "/v2/catalog"); return nil }},
+		{"PlanVersion", func() error { return second(osb.PlanVersion([]byte(sold), hashed("a0"), hashed("b1"))) }},
+		{"MaintenanceConflict", func() error { return osb.MaintenanceConflict(&version, []byte(provisionBody)) }},
 	}
 }
 

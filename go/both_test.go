@@ -196,7 +196,7 @@ func TestAsynchronous(t *testing.T) {
 	p.stands(standing, err, osb.StateCleaningPolling, asyncRow("deleting"), 0)
 	p.finish(true)
 	standing, err = p.client.Step(ctx, instance)
-	p.stands(standing, err, osb.StateGone, marked, 0)
+	p.stands(standing, err, osb.StateGone, tombstone, 0)
 	if err := p.broker.Finish(ctx, instance, true); !errors.Is(err, osb.ErrNothingRunning) {
 		t.Error(err)
 	}
@@ -219,7 +219,7 @@ func TestExpire(t *testing.T) {
 	p.stands(standing, err, osb.StateCleaningPolling, asyncRow("deleting"), 0)
 	p.finish(true)
 	standing, err = p.client.Step(ctx, instance)
-	p.stands(standing, err, osb.StateGone, marked, 0)
+	p.stands(standing, err, osb.StateGone, tombstone, 0)
 }
 
 // The answer to a Provision is lost, the platform cleans up, and then a copy of the Provision arrives: it is refused
@@ -239,12 +239,12 @@ func TestLostAnswerAndLateProvision(t *testing.T) {
 	p.stands(standing, err, osb.StateCleaning, ready, 1)
 	p.become(nil)
 	standing, err = p.client.Step(ctx, instance)
-	p.stands(standing, err, osb.StateGone, marked, 0)
+	p.stands(standing, err, osb.StateGone, tombstone, 0)
 	_, worked := p.backend.count()
 
 	again := httptest.NewRecorder()
 	p.broker.ServeHTTP(again, <-late)
-	p.stands(standing, err, osb.StateGone, marked, 0)
+	p.stands(standing, err, osb.StateGone, tombstone, 0)
 	if _, now := p.backend.count(); again.Code != http.StatusConflict || now != worked {
 		t.Errorf("%d %s", again.Code, again.Body)
 	}
@@ -262,10 +262,10 @@ func TestProvisionAfterThe410(t *testing.T) {
 	p.stands(standing, err, osb.StateCleaning, none, 0)
 	p.become(nil)
 	standing, err = p.client.Step(ctx, instance)
-	p.stands(standing, err, osb.StateGone, marked, 0)
+	p.stands(standing, err, osb.StateGone, tombstone, 0)
 	again := httptest.NewRecorder()
 	p.broker.ServeHTTP(again, <-late)
-	p.stands(standing, err, osb.StateGone, marked, 0)
+	p.stands(standing, err, osb.StateGone, tombstone, 0)
 	if again.Code != http.StatusConflict {
 		t.Errorf("%d %s", again.Code, again.Body)
 	}
@@ -304,7 +304,7 @@ func TestGivenUpWhileMade(t *testing.T) {
 	p.backend.become(nil)
 	p.stands(standing, nil, osb.StateCleaning, ready, 1)
 	standing, err = p.client.Step(ctx, instance)
-	p.stands(standing, err, osb.StateGone, marked, 0)
+	p.stands(standing, err, osb.StateGone, tombstone, 0)
 }
 
 // A platform that was killed left a request in flight.
@@ -323,7 +323,7 @@ func TestGiveUp(t *testing.T) {
 		t.Error(err)
 	}
 	standing, err = p.client.Step(ctx, instance)
-	p.stands(standing, err, osb.StateGone, marked, 0)
+	p.stands(standing, err, osb.StateGone, tombstone, 0)
 }
 
 // An answer that arrives after its request was given up isn't taken, and isn't reported.

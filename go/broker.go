@@ -130,7 +130,7 @@ func (b *Broker) begin(ctx context.Context, asked Asked) (request Request, begun
 		if request, err = asked.Request(h.Row()); err != nil {
 			return h, err
 		}
-		next, begun, err = h.Begin(b.plans.mode(request.Service, request.Plan), request)
+		next, begun, err = h.Begin(b.plans.mode(request.Service, request.Plan), request, Rules{})
 		return next, err
 	})
 	return request, begun, err
@@ -153,7 +153,7 @@ func (b *Broker) work(ctx context.Context, task Task) (Answer, error) {
 	return b.workAt(ctx, task)
 }
 
-// workAt does recorded work, within the lock, and ends it.
+// workAt does pending work, within the lock, and ends it.
 func (b *Broker) workAt(ctx context.Context, task Task) (Answer, error) {
 	outcome, err := b.outcome(ctx, task)
 	if err != nil {

@@ -51,11 +51,22 @@ func TestRefusals(t *testing.T) {
 	}{
 		{"GET", "/postgres/v2/catalog", "", 200, "", ""},
 		{"GET", "/postgres/v2/catalog?x=1", "", 200, "", ""},
+		{"GET", "//postgres/v2/catalog", "", 200, "", ""},
+		{"GET", "/postgres/v2/catalog/", "", 200, "", ""},
+		{"GET", "http://broker.example/postgres/v2/catalog", "", 200, "", ""},
 		{"POST", "/postgres/v2/catalog", "", 405, "Allow", "GET"},
+		{"POST", "/postgres/v2/catalog/?x=1", "", 405, "Allow", "GET"},
 		{"GET", "/v2/catalog", "", 404, "", ""},
 		{"GET", "/postgres/v2/service_instances", "", 404, "", ""},
 		{"GET", at, "", 405, "Allow", "PUT, DELETE"},
 		{"PATCH", at, "", 405, "Allow", "PUT, DELETE"},
+		{"GET", "/" + at, "", 405, "Allow", "PUT, DELETE"},
+		{"GET", "/postgres/v2/service_instances/i/?x=/", "", 405, "Allow", "PUT, DELETE"},
+		{"GET", "http://broker.example" + at, "", 405, "Allow", "PUT, DELETE"},
+		{"GET", "/postgres/v2/service_instances/last_operation", "", 405, "Allow", "PUT, DELETE"},
+		{"PUT", "//postgres/v2/service_instances/i/last_operation", "", 405, "Allow", "GET"},
+		{"PUT", "/postgres/v2/service_instances/i/last_operation/", "", 405, "Allow", "GET"},
+		{"PUT", "http://broker.example/postgres/v2/service_instances/i/last_operation", "", 405, "Allow", "GET"},
 		{"PUT", at + "/last_operation", "", 405, "Allow", "GET"},
 		{"PUT", "/postgres/v2/service_instances/1", "", 400, "", ""},
 		{"PUT", at, strings.Repeat(" ", 1001), 413, "", ""},
@@ -225,7 +236,7 @@ func TestFaultyStore(t *testing.T) {
 // A holding that can't come about at its plan: 500, nothing is changed, and the log is told.
 func TestDoesNotFit(t *testing.T) {
 	for _, before := range []string{
-		`{"marked":false,"row":{"phase":"making",` + syncIDs + `},"version":1,"work":null}`,
+		front + `{"phase":"making",` + syncIDs + `},"tombstone":false,"version":2,"work":null}`,
 		strings.Replace(working("null", provisionWork+syncIDs+`}`), "000000000001", "000000000002", 1),
 	} {
 		p, ctx := newPair(t), context.Background()
@@ -351,7 +362,7 @@ func TestNotRecorded(t *testing.T) {
 	if answer := ask(broker, "DELETE", "/postgres"+target+"?"+idsQuery, ""); answer.Code != 500 || len(p.logged) != 2 {
 		t.Errorf("%d, %v", answer.Code, p.logged)
 	}
-	if held := textOf(t, p.store.Holding(instance)); held != marked {
+	if held := textOf(t, p.store.Holding(instance)); held != tombstone {
 		t.Error(held)
 	}
 }

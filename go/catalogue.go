@@ -10,7 +10,8 @@ type Plan struct {
 }
 
 // CataloguePlans reads the plans that a catalogue's document names, as a broker answers it to GET /v2/catalog, in
-// ascending order of service and plan. A plan is asynchronous where its member "asynchronous" is true.
+// ascending order of service and plan. A plan is asynchronous if its member "x-osb-asynchronous" is true, or if
+// "asynchronous" is true and it lacks that.
 //
 // Errors: ErrNotJSON, ErrNoServices, the first of ErrBadService, ErrNoPlans, ErrBadPlan, ErrBadPlanMode and
 // ErrPlanTwice in the document's order, and ErrMemory.
@@ -33,6 +34,66 @@ func CataloguePlans(document []byte) ([]Plan, error) {
 		plans[at] = planOf(places[at])
 	}
 	return plans, nil
+}
+
+// Endpoints are those that a broker serves besides those of Provision, Deprovision and Poll. The zero Endpoints are
+// none.
+type Endpoints struct {
+	Updating          bool // of an instance, which plan_updateable promises
+	Bindings          bool // which bindable promises
+	FetchingInstances bool // which instances_retrievable promises
+	FetchingBindings  bool // which bindings_retrievable promises
+}
+
+// CheckCatalogue judges whether a broker that serves these endpoints can have the document as its catalogue (section
+// Catalog Management): the plans as CataloguePlans reads them, and then the names, descriptions and flags of services
+// and plans, and the numbers of their ids. docs/wire.md has the table.
+//
+// Errors: those of CataloguePlans, then the first of ErrNoName to ErrBindingsUnserved in the document's order, then
+// ErrSameNumber; and ErrMemory.
+func CheckCatalogue(document []byte, serves Endpoints) error {
+	endpoints := serves.c()
+	return done(C.osb_catalogue_check(pointer(document), size(document), &endpoints))
+}
+
+// ServedCatalogue is the document that a broker serves as its catalogue: the object that is given, with no spaces, and
+// with the member x-osb-tombstones, which is true. A platform with this library learns from it that the broker never
+// creates an id again, which is this project's choice.
+//
+// Errors: ErrNotAnObject if the document isn't UTF-8, isn't JSON, or is no object; ErrMemory.
+func ServedCatalogue(document []byte) ([]byte, error) {
+	return written(func(buffer *C.uint8_t, bytes C.size_t, needed *C.size_t) C.uint32_t {
+		return C.osb_served_catalogue(pointer(document), size(document), buffer, bytes, needed)
+	})
+}
+
+// AsksForCatalogue is whether a target asks for the catalogue: the path is the prefix and /v2/catalog, or stands for
+// that as in ReadRequest (section Catalog Management). It is false too if the prefix isn't UTF-8.
+func AsksForCatalogue(prefix, target string) bool {
+	before, line := []byte(prefix), []byte(target)
+	return bool(C.osb_asks_for_catalogue(pointer(before), size(before), pointer(line), size(line)))
+}
+
+// PlanVersion is the maintenance_info.version that a catalogue's document has of a plan of a service (section Catalog
+// Management).
+//
+// Errors: ErrNoPlanVersion, ErrMemory.
+func PlanVersion(document []byte, service, plan ID) (string, error) {
+	text, err := written(func(buffer *C.uint8_t, bytes C.size_t, needed *C.size_t) C.uint32_t {
+		return C.osb_plan_version(pointer(document), size(document), service.c(), plan.c(), buffer, bytes, needed)
+	})
+	return string(text), err
+}
+
+// MaintenanceConflict judges whether the body of a Provision names another maintenance_info.version than the plan has,
+// which is PlanVersion's, or nil for none (section Maintenance Info Object). A plan or a request without a version
+// conflicts with nothing.
+//
+// Errors: ErrNotUTF8 (version), ErrRefusedMaintenance, to which RefusalStatus and RefusalBody are the answer;
+// ErrMemory.
+func MaintenanceConflict(version *string, body []byte) error {
+	sold, hasVersion := optional(version)
+	return done(C.osb_maintenance_conflict(hasVersion, pointer(sold), size(sold), pointer(body), size(body)))
 }
 
 // A catalogue is how each plan on sale works, by its service and plan.

@@ -45,6 +45,7 @@ type Standing struct {
 	Answer     Answer        // the answer that was taken, and the zero Answer where none was
 	RetryAfter time.Duration // how long the broker asks to wait before the next Step; 0 where it doesn't say
 	Lost       error         // why no answer was taken, so that a timeout was; nil where one was taken
+	Details    Details       // what the answer that was taken says besides, as its description; none if none was
 }
 
 // NewClient makes a client.

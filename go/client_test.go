@@ -41,6 +41,22 @@ func TestLost(t *testing.T) {
 	}
 }
 
+// What the broker says of a rejection reaches the caller.
+func TestReason(t *testing.T) {
+	p := newPair(t)
+	p.answering(400, `{"error":"QuotaExceeded","description":"No space is left."}`)
+	standing, err := p.client.Create(context.Background(), instance, service, plan)
+	if err != nil {
+		t.Fatal(err)
+	}
+	if said := standing.Details.Description; said == nil || *said != "No space is left." {
+		t.Errorf("%+v", standing.Details)
+	}
+	if code := standing.Details.Error; code == nil || *code != "QuotaExceeded" {
+		t.Errorf("%+v", standing.Details)
+	}
+}
+
 // A 101 is no answer, and what comes after it isn't read: it would be the connection, which doesn't end.
 func TestSwitchingProtocols(t *testing.T) {
 	p := newPair(t)
@@ -122,7 +138,7 @@ func TestSentHeaders(t *testing.T) {
 		t.Fatal(err)
 	}
 	standing, err = p.client.Step(ctx, instance)
-	p.stands(standing, err, osb.StateGone, marked, 0)
+	p.stands(standing, err, osb.StateGone, tombstone, 0)
 	for at, kind := range []string{"application/json", ""} {
 		header := got[at].Header
 		if header.Get("X-Broker-API-Version") != "2.17" || header.Get("Content-Type") != kind ||

@@ -9,8 +9,8 @@
 //     and a [Worker], which makes and deletes what is sold.
 //   - [Client] is a platform. Its user brings a [RecordStore], which keeps a [Record] for each instance.
 //   - [Record] and [Holding] are values with the whole of both rules, for programs with a shape of their own; beside
-//     them stand the wire ([ReadRequest], [WriteAnswer], [WriteTarget], [ReadAnswer] ..) and the platform's tables
-//     ([Mitigates], [DecideProvision] ..).
+//     them stand the wire ([ReceiveRequest], [WriteAnswer], [WriteNamedTarget], [ReadAnswer] ..) and the platform's
+//     tables ([Mitigates], [DecideProvision] ..).
 //
 // What is promised holds where the user keeps what docs/instance.md and docs/agreement.md of the repository ask: a
 // transaction that locks its row, one worker at a time at an instance, outcomes that are told truly, ids that are used

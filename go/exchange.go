@@ -20,7 +20,7 @@ type outgoing struct {
 // taken from it.
 type incoming struct {
 	answer     Answer
-	operation  *string
+	details    Details
 	retryAfter time.Duration
 	lost       error
 }
@@ -85,13 +85,7 @@ func read(kind Kind, response *http.Response, body []byte) (in incoming) {
 		in.lost = fmt.Errorf("status %d: %w", response.StatusCode, in.lost)
 		return in
 	}
-	operation, err := ReadOperation(body)
-	switch {
-	case err == nil:
-		in.operation = &operation
-	case !errors.Is(err, ErrNoOperation):
-		in.lost = err // there is one, and no memory for it
-	}
+	in.details, in.lost = ReadDetails(body) // without memory for them, no answer is taken
 	return in
 }
 
@@ -117,13 +111,13 @@ func (c *Client) take(ctx context.Context, sent Sent, in incoming) (Standing, er
 		}
 		s.Record, err = s.Record.Answer(sent.Attempt, in.answer)
 		if sent.Request.Kind != KindPoll {
-			s.Operation = in.operation
+			s.Operation = in.details.Operation
 		}
 		return s, err
 	})
 	standing.RetryAfter, standing.Lost = in.retryAfter, in.lost
 	if err == nil && in.lost == nil {
-		standing.Answer = in.answer
+		standing.Answer, standing.Details = in.answer, in.details
 	}
 	return standing, err
 }

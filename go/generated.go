@@ -14,7 +14,7 @@ const (
 	ErrBusy Status = C.OSB_BUSY
 	// In ready, gone and unsettled no request is due.
 	ErrNothingDue Status = C.OSB_NOTHING_DUE
-	// None is in flight, and the state isn't polling.
+	// None is in flight, and the state isn't polling; to send a deletion again: cleaning-polling.
 	ErrNotPolling Status = C.OSB_NOT_POLLING
 	// None is in flight, and the state isn't polling, ready or unsettled.
 	ErrNotRemovable Status = C.OSB_NOT_REMOVABLE
@@ -56,7 +56,7 @@ const (
 	ErrAttemptsUsedUp Status = C.OSB_ATTEMPTS_USED_UP
 	// No request is in flight, or one of another number.
 	ErrNotInFlight Status = C.OSB_NOT_IN_FLIGHT
-	// No work is recorded.
+	// No work is pending.
 	ErrNothingBegun Status = C.OSB_NOTHING_BEGUN
 	// Each member is one of its kind, and together they can't come about.
 	ErrImpossible Status = C.OSB_IMPOSSIBLE
@@ -78,13 +78,13 @@ const (
 	ErrRefusedVersion Status = C.OSB_REFUSED_VERSION
 	// Refused with 413: the body is too long.
 	ErrRefusedLength Status = C.OSB_REFUSED_LENGTH
-	// Refused with 400: the id of the instance is no GUID.
+	// Refused with 400: the instance's id isn't UTF-8 of 1 to 255 bytes, or no path can carry it.
 	ErrRefusedInstance Status = C.OSB_REFUSED_INSTANCE
 	// Refused with 400: a parameter of the query stands twice.
 	ErrRefusedRepeated Status = C.OSB_REFUSED_REPEATED
-	// Refused with 400: service_id is missing or no GUID.
+	// Refused with 400: service_id is missing, or isn't a string of 1 to 255 bytes.
 	ErrRefusedService Status = C.OSB_REFUSED_SERVICE
-	// Refused with 400: plan_id is missing or no GUID.
+	// Refused with 400: plan_id is missing, or isn't a string of 1 to 255 bytes.
 	ErrRefusedPlan Status = C.OSB_REFUSED_PLAN
 	// Refused with 400: accepts_incomplete is neither true nor false.
 	ErrRefusedAcceptsIncomplete Status = C.OSB_REFUSED_ACCEPTS_INCOMPLETE
@@ -96,21 +96,61 @@ const (
 	ErrRefusedSpace Status = C.OSB_REFUSED_SPACE
 	// The document has no list services.
 	ErrNoServices Status = C.OSB_NO_SERVICES
-	// The id of a service is missing or no GUID.
+	// The id of a service is missing, or isn't a string of 1 to 255 bytes.
 	ErrBadService Status = C.OSB_BAD_SERVICE
 	// A service has no list plans.
 	ErrNoPlans Status = C.OSB_NO_PLANS
-	// The id of a plan is missing or no GUID.
+	// The id of a plan is missing, or isn't a string of 1 to 255 bytes.
 	ErrBadPlan Status = C.OSB_BAD_PLAN
-	// Asynchronous of a plan is neither true nor false.
+	// The member x-osb-asynchronous of a plan is neither true nor false.
 	ErrBadPlanMode Status = C.OSB_BAD_PLAN_MODE
+	// Only the pending work of a Provision can be refused.
+	ErrNotAProvision Status = C.OSB_NOT_A_PROVISION
+	// The row doesn't wait for its first Poll.
+	ErrNotWaiting Status = C.OSB_NOT_WAITING
+	// The text isn't that of the request's instance, or no path can carry it.
+	ErrNotInstanceText Status = C.OSB_NOT_INSTANCE_TEXT
+	// The text isn't that of the request's service.
+	ErrNotServiceText Status = C.OSB_NOT_SERVICE_TEXT
+	// The text isn't that of the request's plan.
+	ErrNotPlanText Status = C.OSB_NOT_PLAN_TEXT
+	// The text is no object of JSON, or the object has no such member.
+	ErrNoMember Status = C.OSB_NO_MEMBER
+	// The value of the header names nobody.
+	ErrNoIdentity Status = C.OSB_NO_IDENTITY
+	// The document has no maintenance_info.version of the plan.
+	ErrNoPlanVersion Status = C.OSB_NO_PLAN_VERSION
+	// Refused with 422: the request names another maintenance_info.version.
+	ErrRefusedMaintenance Status = C.OSB_REFUSED_MAINTENANCE
+	// The name of a service or of a plan is missing, no string, or empty.
+	ErrNoName Status = C.OSB_NO_NAME
+	// Two services, or two plans of a service, have one name.
+	ErrNameTwice Status = C.OSB_NAME_TWICE
+	// The description of a service or of a plan is missing, no string, or empty.
+	ErrNoDescription Status = C.OSB_NO_DESCRIPTION
+	// A flag of the catalogue is neither true nor false.
+	ErrNotABoolean Status = C.OSB_NOT_A_BOOLEAN
+	// A service doesn't say whether it is bindable.
+	ErrNoBindable Status = C.OSB_NO_BINDABLE
+	// A service has no plan.
+	ErrNoPlan Status = C.OSB_NO_PLAN
+	// Bindings aren't served, and bindable is true.
+	ErrBindableUnserved Status = C.OSB_BINDABLE_UNSERVED
+	// Updating isn't served, and plan_updateable is true.
+	ErrUpdateUnserved Status = C.OSB_UPDATE_UNSERVED
+	// Fetching an instance isn't served, and instances_retrievable is true.
+	ErrInstancesUnserved Status = C.OSB_INSTANCES_UNSERVED
+	// Fetching a binding isn't served, and bindings_retrievable is true.
+	ErrBindingsUnserved Status = C.OSB_BINDINGS_UNSERVED
+	// Two ids of the document have one number.
+	ErrSameNumber Status = C.OSB_SAME_NUMBER
 )
 
 var meanings = map[Status]string{
 	ErrMemory:                   "out of memory: an allocation failed",
 	ErrBusy:                     "a request is in flight",
 	ErrNothingDue:               "in ready, gone and unsettled no request is due",
-	ErrNotPolling:               "none is in flight, and the state isn't polling",
+	ErrNotPolling:               "none is in flight, and the state isn't polling; to send a deletion again: cleaning-polling",
 	ErrNotRemovable:             "none is in flight, and the state isn't polling, ready or unsettled",
 	ErrNothingRunning:           "the instance is neither being made nor being deleted",
 	ErrPlanTwice:                "two of the plans have the same service and plan",
@@ -131,7 +171,7 @@ var meanings = map[Status]string{
 	ErrBadMode:                  "the number stands for no mode",
 	ErrAttemptsUsedUp:           "the latest request has the greatest number, 2^64 - 1",
 	ErrNotInFlight:              "no request is in flight, or one of another number",
-	ErrNothingBegun:             "no work is recorded",
+	ErrNothingBegun:             "no work is pending",
 	ErrImpossible:               "each member is one of its kind, and together they can't come about",
 	ErrNoAnswer:                 "the response isn't surely the broker's: a timeout takes its place",
 	ErrNoOperation:              "no operation is named",
@@ -142,19 +182,39 @@ var meanings = map[Status]string{
 	ErrRefusedMethod:            "refused with 405: the target has no such method",
 	ErrRefusedVersion:           "refused with 412: the version isn't 2.x, or none is named",
 	ErrRefusedLength:            "refused with 413: the body is too long",
-	ErrRefusedInstance:          "refused with 400: the id of the instance is no GUID",
+	ErrRefusedInstance:          "refused with 400: the instance's id isn't UTF-8 of 1 to 255 bytes, or no path can carry it",
 	ErrRefusedRepeated:          "refused with 400: a parameter of the query stands twice",
-	ErrRefusedService:           "refused with 400: service_id is missing or no GUID",
-	ErrRefusedPlan:              "refused with 400: plan_id is missing or no GUID",
+	ErrRefusedService:           "refused with 400: service_id is missing, or isn't a string of 1 to 255 bytes",
+	ErrRefusedPlan:              "refused with 400: plan_id is missing, or isn't a string of 1 to 255 bytes",
 	ErrRefusedAcceptsIncomplete: "refused with 400: accepts_incomplete is neither true nor false",
 	ErrRefusedBody:              "refused with 400: the body isn't UTF-8, isn't JSON, or is no object",
 	ErrRefusedOrganization:      "refused with 400: organization_guid is missing, no string, or empty",
 	ErrRefusedSpace:             "refused with 400: space_guid is missing, no string, or empty",
 	ErrNoServices:               "the document has no list services",
-	ErrBadService:               "the id of a service is missing or no GUID",
+	ErrBadService:               "the id of a service is missing, or isn't a string of 1 to 255 bytes",
 	ErrNoPlans:                  "a service has no list plans",
-	ErrBadPlan:                  "the id of a plan is missing or no GUID",
-	ErrBadPlanMode:              "asynchronous of a plan is neither true nor false",
+	ErrBadPlan:                  "the id of a plan is missing, or isn't a string of 1 to 255 bytes",
+	ErrBadPlanMode:              "the member x-osb-asynchronous of a plan is neither true nor false",
+	ErrNotAProvision:            "only the pending work of a Provision can be refused",
+	ErrNotWaiting:               "the row doesn't wait for its first Poll",
+	ErrNotInstanceText:          "the text isn't that of the request's instance, or no path can carry it",
+	ErrNotServiceText:           "the text isn't that of the request's service",
+	ErrNotPlanText:              "the text isn't that of the request's plan",
+	ErrNoMember:                 "the text is no object of JSON, or the object has no such member",
+	ErrNoIdentity:               "the value of the header names nobody",
+	ErrNoPlanVersion:            "the document has no maintenance_info.version of the plan",
+	ErrRefusedMaintenance:       "refused with 422: the request names another maintenance_info.version",
+	ErrNoName:                   "the name of a service or of a plan is missing, no string, or empty",
+	ErrNameTwice:                "two services, or two plans of a service, have one name",
+	ErrNoDescription:            "the description of a service or of a plan is missing, no string, or empty",
+	ErrNotABoolean:              "a flag of the catalogue is neither true nor false",
+	ErrNoBindable:               "a service doesn't say whether it is bindable",
+	ErrNoPlan:                   "a service has no plan",
+	ErrBindableUnserved:         "bindings aren't served, and bindable is true",
+	ErrUpdateUnserved:           "updating isn't served, and plan_updateable is true",
+	ErrInstancesUnserved:        "fetching an instance isn't served, and instances_retrievable is true",
+	ErrBindingsUnserved:         "fetching a binding isn't served, and bindings_retrievable is true",
+	ErrSameNumber:               "two ids of the document have one number",
 }
 
 // A Kind is what a request asks for.
@@ -250,9 +310,9 @@ var workNames = [...]string{
 // String is the name of the number, in lower case.
 func (it Work) String() string { return name("Work", uint8(it), workNames[:]) }
 
-// An Outcome is how the work behind a request went. Work that is half done is none of these: undo it and return
-// OutcomeBefore, finish it and return OutcomeDone, or return an error. If nobody knows how it went, that is an error
-// too.
+// An Outcome is how the work behind a request went. Work that is half done is none of these: undo a creation and return
+// OutcomeBefore, or finish it and return OutcomeDone; finish a deletion; or return an error. If nobody knows how it
+// went, return an error too.
 type Outcome uint8
 
 const (
@@ -262,10 +322,14 @@ const (
 	OutcomeBefore Outcome = C.OSB_OUTCOME_BEFORE
 	// It failed, and yet all of it was done: the whole resource exists, or nothing is left.
 	OutcomeAfter Outcome = C.OSB_OUTCOME_AFTER
+	// The backend refuses a Provision, answered with 400, and nothing of it exists.
+	OutcomeRefused400 Outcome = C.OSB_OUTCOME_REFUSED_400
+	// The same, answered with 422.
+	OutcomeRefused422 Outcome = C.OSB_OUTCOME_REFUSED_422
 )
 
 var outcomeNames = [...]string{
-	"done", "before", "after",
+	"done", "before", "after", "refused-400", "refused-422",
 }
 
 // String is the name of the number, in lower case.
@@ -280,10 +344,11 @@ const (
 	PhaseFailed       Phase = C.OSB_PHASE_FAILED        // it could not be made
 	PhaseDeleting     Phase = C.OSB_PHASE_DELETING      // it is being deleted
 	PhaseDeleteFailed Phase = C.OSB_PHASE_DELETE_FAILED // it could not be deleted
+	PhaseWaiting      Phase = C.OSB_PHASE_WAITING       // its making begins with the first Poll
 )
 
 var phaseNames = [...]string{
-	"making", "ready", "failed", "deleting", "delete-failed",
+	"making", "ready", "failed", "deleting", "delete-failed", "waiting",
 }
 
 // String is the name of the number, in lower case.
@@ -333,7 +398,10 @@ func (it Holding) c() (to C.struct_osb_holding) {
 	to.work = it.work.c()
 	to.has_row = C.bool(it.hasRow)
 	to.has_work = C.bool(it.hasWork)
-	to.is_marked = C.bool(it.isMarked)
+	to.has_tombstone = C.bool(it.hasTombstone)
+	for at, one := range it.attributes {
+		to.attributes[at] = C.uint8_t(one)
+	}
 	return to
 }
 
@@ -345,6 +413,14 @@ func (it Asked) c() (to C.struct_osb_asked) {
 	to.id = it.ID.c()
 	to.service = it.Service.c()
 	to.plan = it.Plan.c()
+	return to
+}
+
+func (it Endpoints) c() (to C.struct_osb_endpoints) {
+	to.updating = C.bool(it.Updating)
+	to.bindings = C.bool(it.Bindings)
+	to.fetching_instances = C.bool(it.FetchingInstances)
+	to.fetching_bindings = C.bool(it.FetchingBindings)
 	return to
 }
 
@@ -391,7 +467,10 @@ func holdingOf(from C.struct_osb_holding) (it Holding) {
 	it.work = requestOf(from.work)
 	it.hasRow = bool(from.has_row)
 	it.hasWork = bool(from.has_work)
-	it.isMarked = bool(from.is_marked)
+	it.hasTombstone = bool(from.has_tombstone)
+	for at, one := range from.attributes {
+		it.attributes[at] = uint8(one)
+	}
 	return it
 }
 

@@ -5,14 +5,27 @@ import "C"
 
 import "database/sql/driver"
 
-// A Holding is what a broker keeps of one instance, for a row of a database: a row or none, recorded work or none, and
-// a mark where the instance has ended. It is a value, may be copied and compared, and owns nothing. The zero Holding
-// holds nothing: an id that no request has come for has that. Each call gives the next holding, or with an error the
-// holding as it was.
+// A Holding is what a broker keeps of one instance, for a row of a database: a row or none, pending work or none, the
+// digest of the attributes of both, and a tombstone if the instance has ended. It is a value, may be copied and
+// compared, and owns nothing. The zero Holding holds nothing: an id that no request has come for has that. Each call
+// returns the next holding, or with an error the holding as it was.
 type Holding struct {
-	row                       BrokerRow
-	work                      Request
-	hasRow, hasWork, isMarked bool
+	row                           BrokerRow
+	work                          Request
+	hasRow, hasWork, hasTombstone bool
+	attributes                    Digest
+}
+
+// A Digest is that of what a Provision asks for besides service and plan. The zero Digest is that of nothing.
+type Digest [32]byte
+
+// The Rules of a Provision: whether the broker has the rule of the first Poll, and the digest of its attributes.
+type Rules struct {
+	// FirstPoll is whether an asynchronous plan's instance is made only once it was polled.
+	FirstPoll bool
+	// Attributes is the digest of what a Provision asks for, as AttributesDigest returns it. For other requests it
+	// doesn't count.
+	Attributes Digest
 }
 
 // A BrokerRow is an instance that a broker holds.
@@ -21,8 +34,8 @@ type BrokerRow struct {
 	Phase         Phase
 }
 
-// A Begun is what comes of a request at once: an answer to send where Work is WorkNone, and else the work that is due,
-// and is recorded.
+// A Begun is what comes of a request at once: an answer to send if Work is WorkNone, and else the work that is due and
+// pending.
 type Begun struct {
 	Answer Answer
 	Work   Work
@@ -31,38 +44,49 @@ type Begun struct {
 // Row is the instance that is held, and whether one is.
 func (h Holding) Row() (BrokerRow, bool) { return h.row, h.hasRow }
 
-// Work is the request whose work is recorded and hasn't ended, and whether there is one.
+// Work is the request whose work is pending, and whether there is one.
 func (h Holding) Work() (Request, bool) { return h.work, h.hasWork }
 
-// IsMarked is whether the instance has ended: none with this id is ever made again.
-func (h Holding) IsMarked() bool { return h.isMarked }
+// HasTombstone is whether the instance has ended: none with this id is ever made again.
+func (h Holding) HasTombstone() bool { return h.hasTombstone }
 
-// Fits is whether the holding can come about at a plan of the mode, that of the row's plan, or where there is no row
-// that of the recorded request's. A program asks it of each holding that comes from its database: at another mode End
-// would forget what was made.
+// Attributes is the digest of the attributes of row and work.
+func (h Holding) Attributes() Digest { return h.attributes }
+
+// Fits is whether the holding can come about at a plan of the mode, that of the row's plan, or if there is no row that
+// of the pending request's. A program asks it of each holding that comes from its database: at another mode End would
+// forget what was made.
 func (h Holding) Fits(mode Mode) bool {
 	holding := h.c()
 	return bool(C.osb_holding_fits(&holding, C.uint8_t(mode)))
 }
 
-// Begin begins with a request to this instance: it is answered, or recorded as work that is due. The mode is that of
-// the request's plan. What comes back is written to the database where it differs, before the work begins or the answer
-// is sent.
+// Begin begins with a request to this instance: it is answered, or its work is pending. The mode is that of the
+// request's plan. With Rules.FirstPoll, the Provision of an asynchronous plan leaves a row in PhaseWaiting, and its
+// first Poll one in PhaseMaking, whose operation runs from then on. A Provision of the same service and plan with other
+// attributes is answered with 409. If the holding changed, write it to the database before the work begins or the
+// answer is sent.
 //
 // Errors: ErrBadHolding, ErrBadMode, ErrBadKind.
-func (h Holding) Begin(mode Mode, request Request) (Holding, Begun, error) {
+func (h Holding) Begin(mode Mode, request Request, rules Rules) (Holding, Begun, error) {
 	holding, asked := h.c(), request.c()
+	var attributes [32]C.uint8_t
+	for at, one := range rules.Attributes {
+		attributes[at] = C.uint8_t(one)
+	}
 	var begun C.struct_osb_begun
-	if err := done(C.osb_holding_begin(&holding, C.uint8_t(mode), &asked, &begun)); err != nil {
+	status := C.osb_holding_begin(&holding, C.uint8_t(mode), C.bool(rules.FirstPoll), &asked, &attributes[0], &begun)
+	if err := done(status); err != nil {
 		return h, Begun{}, err
 	}
 	return holdingOf(holding), begunOf(begun), nil
 }
 
-// End ends the recorded work with this outcome, and gives the answer to its request. The mode is that of the recorded
-// request's plan, and has to fit. What comes back is written to the database before the answer is sent.
+// End ends the pending work with this outcome, and returns the answer to its request. The mode is that of the pending
+// request's plan, and has to fit. A refusal leaves the tombstone. Write the holding to the database before the answer
+// is sent.
 //
-// Errors: ErrBadHolding, ErrBadMode, ErrBadOutcome, ErrNothingBegun.
+// Errors: ErrBadHolding, ErrBadMode, ErrBadOutcome, ErrNothingBegun, ErrNotAProvision.
 func (h Holding) End(mode Mode, outcome Outcome) (Holding, Answer, error) {
 	holding := h.c()
 	var answer C.struct_osb_answer
@@ -84,18 +108,16 @@ func (h Holding) Finish(ok bool) (Holding, error) {
 	return holdingOf(holding), nil
 }
 
-// Handle is Begin, and where work is due End with this outcome, with nothing between: for tests, and for brokers whose
-// work can't be interrupted.
+// GiveUpWaiting gives up an instance that has waited too long for its first Poll: it has failed then, and nothing of it
+// was made. Write the holding to the database before anyone is told.
 //
-// Errors: ErrBadHolding, ErrBadMode, ErrBadKind, ErrBadOutcome.
-func (h Holding) Handle(mode Mode, request Request, outcome Outcome) (Holding, Answer, error) {
-	holding, asked := h.c(), request.c()
-	var answer C.struct_osb_answer
-	status := C.osb_holding_handle(&holding, C.uint8_t(mode), &asked, C.uint8_t(outcome), &answer)
-	if err := done(status); err != nil {
-		return h, Answer{}, err
+// Errors: ErrBadHolding, ErrNotWaiting.
+func (h Holding) GiveUpWaiting() (Holding, error) {
+	holding := h.c()
+	if err := done(C.osb_holding_give_up_waiting(&holding)); err != nil {
+		return h, err
 	}
-	return holdingOf(holding), answerOf(answer), nil
+	return holdingOf(holding), nil
 }
 
 // MarshalJSON writes the text of the holding, an object of JSON, for a column of a database.

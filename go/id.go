@@ -9,12 +9,27 @@ import (
 	"fmt"
 )
 
-// An ID is a GUID: that of an instance, a service or a plan. Its bytes are those of the number that its text writes,
-// the first digits first, so that it may be converted to and from the types of other packages that are [16]byte.
+// An ID is the number of an id of an instance, a service or a plan. The id itself is any text of 1 to 255 bytes of
+// UTF-8, and IDOfText is its number. The bytes of a GUID in lower case are those that it writes, the first digits
+// first, so that an ID may be converted to and from the types of other packages that are [16]byte.
 type ID [16]byte
 
-// ParseID reads the text of an id, 36 bytes in either case, as 12345678-9abc-def0-1234-56789abcdef0. Every other
-// text is ErrNotAnID.
+// IDOfText is the id that a text names, as a request or a catalogue has it. A GUID in lower case is its own number. Any
+// other text, among them a GUID with a digit in upper case, has the first 128 bits of its SHA-256. The standard
+// compares ids byte by byte; the numbers and the greatest length are this project's choice.
+//
+// Errors: ErrNotUTF8, and ErrNotAnID if the text is empty or longer than 255 bytes.
+func IDOfText(text string) (ID, error) {
+	given := []byte(text)
+	var id C.struct_osb_id
+	if err := done(C.osb_id_of_text(pointer(given), size(given), &id)); err != nil {
+		return ID{}, err
+	}
+	return idOf(id), nil
+}
+
+// ParseID reads a GUID, 36 bytes in either case, as 12345678-9abc-def0-1234-56789abcdef0: the number that its digits
+// write. Every other text is ErrNotAnID. For the id in a request or a catalogue call IDOfText.
 func ParseID(text string) (ID, error) {
 	var id ID
 	err := id.UnmarshalText([]byte(text))
@@ -30,13 +45,13 @@ func MustParseID(text string) ID {
 	return id
 }
 
-// String is the text of the id in lower case.
+// String is the number of the id as a GUID in lower case, which is the id's text only if that is such a GUID.
 func (id ID) String() string {
 	text, _ := id.MarshalText()
 	return string(text)
 }
 
-// MarshalText writes the text of the id in lower case. So does encoding/json.
+// MarshalText writes the number of the id as String has it. So does encoding/json.
 func (id ID) MarshalText() ([]byte, error) {
 	text := make([]byte, 36)
 	C.osb_id_to_text(id.c(), pointer(text))

@@ -5,8 +5,8 @@ import (
 	"sync"
 )
 
-// A MemoryStore is a Store for tests and examples. It forgets everything when the program ends, and with it the marks
-// and the recorded work on which the agreement of both sides rests: no broker that sells anything keeps its holdings
+// A MemoryStore is a Store for tests and examples. It forgets everything when the program ends, and with it the tombstones
+// and the pending work on which the agreement of both sides rests: no broker that sells anything keeps its holdings
 // there.
 type MemoryStore struct {
 	turn     sync.Mutex
@@ -28,7 +28,7 @@ func (m *MemoryStore) Change(_ context.Context, id ID, step func(Holding) (Holdi
 	return nil
 }
 
-// Recorded lists the instances with recorded work.
+// Recorded lists the instances with pending work.
 func (m *MemoryStore) Recorded(context.Context) ([]ID, error) {
 	m.turn.Lock()
 	defer m.turn.Unlock()

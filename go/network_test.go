@@ -16,15 +16,15 @@ import (
 // A world is one instance, its platform and its broker, a network between them that does its worst, and work that goes
 // as it likes. It goes by chance, the same for the same seed.
 type world struct {
-	t       *testing.T
-	chance  *rand.Rand
-	calm    bool // from then on nothing goes wrong
-	store   *osb.MemoryStore
-	records *osb.MemoryRecords
-	broker  *osb.Broker
-	client  *osb.Client
-	sent    []*http.Request // each request that was ever sent
-	thing   bool            // whether what is sold is there
+	t        *testing.T
+	chance   *rand.Rand
+	calm     bool // from then on nothing goes wrong
+	store    *osb.MemoryStore
+	records  *osb.MemoryRecords
+	broker   *osb.Broker
+	client   *osb.Client
+	sent     []*http.Request // each request that was ever sent
+	resource bool            // whether what is sold is there
 }
 
 func newWorld(t *testing.T, seed int64) *world {
@@ -99,24 +99,24 @@ func (w *world) arriveLate() {
 func (w *world) work(_ context.Context, task osb.Task) (osb.Outcome, error) {
 	made := task.Work == osb.WorkMake
 	if task.Work == osb.WorkStartMaking || task.Work == osb.WorkStartDeleting {
-		made = w.thing // the operation comes later
+		made = w.resource // the operation comes later
 	}
 	if w.calm {
-		w.thing = made
+		w.resource = made
 		return osb.OutcomeDone, nil
 	}
 	switch w.chance.Intn(8) {
 	case 0:
-		w.thing = w.chance.Intn(2) == 0
+		w.resource = w.chance.Intn(2) == 0
 		return 0, errors.New("nobody knows")
 	case 1:
-		w.thing = task.Work == osb.WorkDelete || task.Work == osb.WorkStartDeleting
+		w.resource = task.Work == osb.WorkDelete || task.Work == osb.WorkStartDeleting
 		return osb.OutcomeBefore, nil
 	case 2:
-		w.thing = made
+		w.resource = made
 		return osb.OutcomeAfter, nil
 	}
-	w.thing = made
+	w.resource = made
 	return osb.OutcomeDone, nil
 }
 
@@ -127,7 +127,7 @@ func (w *world) finish(ok bool) {
 	if !held || recorded || row.Phase != osb.PhaseMaking && row.Phase != osb.PhaseDeleting {
 		return
 	}
-	w.thing = ok == (row.Phase == osb.PhaseMaking)
+	w.resource = ok == (row.Phase == osb.PhaseMaking)
 	if err := w.broker.Finish(context.Background(), instance, ok); err != nil {
 		w.t.Fatal(err)
 	}
@@ -159,9 +159,9 @@ func (w *world) agree(seed int64) osb.State {
 	row, held := holding.Row()
 	_, recorded := holding.Work()
 	state := stored.Record.State()
-	if state == osb.StateReady && (!w.thing || !held || row.Phase != osb.PhaseReady || recorded) ||
-		state == osb.StateGone && (w.thing || held || recorded) {
-		w.t.Fatalf("seed %d: %v is recorded, %s is held, there: %v", seed, state, textOf(w.t, holding), w.thing)
+	if state == osb.StateReady && (!w.resource || !held || row.Phase != osb.PhaseReady || recorded) ||
+		state == osb.StateGone && (w.resource || held || recorded) {
+		w.t.Fatalf("seed %d: %v is recorded, %s is held, there: %v", seed, state, textOf(w.t, holding), w.resource)
 	}
 	return state
 }

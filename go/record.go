@@ -100,6 +100,15 @@ func (r Record) Expire() (Record, error) {
 	return r.next(&record, C.osb_record_expire(&record))
 }
 
+// Retry sends a deletion again, for one whose maximum polling duration has passed, or that the broker never ends:
+// cleaning-polling becomes cleaning.
+//
+// Errors: ErrBadRecord, ErrBusy, ErrNotPolling.
+func (r Record) Retry() (Record, error) {
+	record := r.c()
+	return r.next(&record, C.osb_record_retry(&record))
+}
+
 // Remove has the instance deleted, as an operator asks: polling, ready and unsettled become cleaning.
 //
 // Errors: ErrBadRecord, ErrBusy, ErrNotRemovable.

@@ -48,7 +48,7 @@ func (b *Broker) reply(r *http.Request) (given reply) {
 	if target == "" { // a request that no server has read
 		target = r.URL.RequestURI()
 	}
-	if path, _, _ := strings.Cut(target, "?"); path == b.config.Prefix+"/v2/catalog" {
+	if AsksForCatalogue(b.config.Prefix, target) {
 		return b.catalogue(r.Method)
 	}
 	body, err := b.body(r)
@@ -163,13 +163,14 @@ func (b *Broker) refused(err error, target string) reply {
 	return given
 }
 
-// allowed is the methods of a target that has some.
+// allowed is the methods of a target that has some: those that the library takes there.
 func (b *Broker) allowed(target string) string {
 	path, _, _ := strings.Cut(target, "?")
-	if strings.Contains(strings.TrimPrefix(path, b.config.Prefix+"/v2/service_instances/"), "/") {
-		return http.MethodGet
+	_, err := ReadRequest(b.config.Prefix, b.config.LongestBody, http.MethodGet, path, nil)
+	if errors.Is(err, ErrRefusedMethod) {
+		return http.MethodPut + ", " + http.MethodDelete
 	}
-	return http.MethodPut + ", " + http.MethodDelete
+	return http.MethodGet
 }
 
 // failed answers 500, or 503 where memory was wanting, and tells the log why.

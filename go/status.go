@@ -3,8 +3,8 @@ package osb
 import "fmt"
 
 // A Status is what became of a call that wasn't done. It is an error, a value that may be compared, and what errors.Is
-// looks for: errors.Is(err, osb.ErrBusy). Each has one meaning, whichever call returns it, and no number ever changes or
-// is used again.
+// looks for: errors.Is(err, osb.ErrBusy). Each has one meaning, whichever call returns it, and no number ever changes
+// or is used again.
 type Status uint32
 
 // Error says what the status means.

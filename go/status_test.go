@@ -31,7 +31,7 @@ func TestMadeByHand(t *testing.T) {
 	if _, err := RecordFromRow(PlatformRow{State: 99}); !errors.Is(err, ErrBadRow) {
 		t.Error(err)
 	}
-	byHand := Holding{hasRow: true, isMarked: true}
+	byHand := Holding{hasRow: true, hasTombstone: true}
 	if _, err := byHand.Finish(true); !errors.Is(err, ErrBadHolding) {
 		t.Error(err)
 	}
@@ -74,16 +74,14 @@ func TestRefused(t *testing.T) {
 	refused("remove", next, gone, err, ErrNotRemovable)
 
 	var none Holding
-	held, _, err := none.Begin(7, Request{})
+	held, _, err := none.Begin(7, Request{}, Rules{})
 	refused("begin", held, none, err, ErrBadMode)
-	held, _, err = none.Begin(ModeSync, Request{Kind: KindNone})
+	held, _, err = none.Begin(ModeSync, Request{Kind: KindNone}, Rules{})
 	refused("begin", held, none, err, ErrBadKind)
 	held, _, err = none.End(ModeSync, OutcomeDone)
 	refused("end", held, none, err, ErrNothingBegun)
-	held, _, err = none.End(ModeSync, 3)
+	held, _, err = none.End(ModeSync, 5)
 	refused("end", held, none, err, ErrBadOutcome)
 	held, err = none.Finish(true)
 	refused("finish", held, none, err, ErrNothingRunning)
-	held, _, err = none.Handle(ModeSync, Request{}, 3)
-	refused("handle", held, none, err, ErrBadOutcome)
 }

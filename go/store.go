@@ -16,7 +16,7 @@ type Store interface {
 	// tried again: step may be called more than once, and its last call counts. No row is ever deleted.
 	Change(ctx context.Context, id ID, step func(Holding) (Holding, error)) error
 
-	// Recorded lists the instances with recorded work: those whose Holding has a Work. It may list others too.
+	// Recorded lists the instances with pending work: those whose Holding has a Work. It may list others too.
 	Recorded(ctx context.Context) ([]ID, error)
 }
 
@@ -70,7 +70,7 @@ type WorkerFunc func(ctx context.Context, task Task) (Outcome, error)
 func (f WorkerFunc) Work(ctx context.Context, task Task) (Outcome, error) { return f(ctx, task) }
 
 // A Locker is a Worker with a lock for each instance, for brokers that more than one process serves. The lock keeps
-// that one worker at most works at an instance: it is taken before the recorded work is read again and done, and given
+// that one worker at most works at an instance: it is taken before the pending work is read again and done, and given
 // back once its end is written. It has to live as long as the work itself: with PostgreSQL, an advisory lock on the
 // very session that does the work. Where the Worker is no Locker, the Broker has a lock of its own within the process.
 type Locker interface {

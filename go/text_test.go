@@ -8,6 +8,7 @@ import (
 	"errors"
 	"fmt"
 	"math"
+	"strings"
 	"testing"
 
 	"pippinterm/osb"
@@ -132,7 +133,8 @@ func TestJSON(t *testing.T) {
 	}
 }
 
-// Faults of the texts, from docs/instance.md, in their order. What is refused changes nothing.
+// Faults of the texts, from docs/instance.md, in their order: crates/library_cases has all. What is refused changes
+// nothing.
 func TestFaults(t *testing.T) {
 	for _, row := range []struct {
 		text  string
@@ -140,15 +142,11 @@ func TestFaults(t *testing.T) {
 	}{
 		{"\xff", osb.ErrNotUTF8},
 		{``, osb.ErrNotJSON},
-		{`{"attempt":1`, osb.ErrNotJSON},
-		{`[]`, osb.ErrNotAnObject},
-		{`{}`, osb.ErrBadVersion},
 		{`{"version":2}`, osb.ErrBadVersion},
-		{ready, osb.ErrBadOuter},
+		{`{"marked":false,"row":null,"version":1,"work":null}`, osb.ErrBadOuter},
+		{ready, osb.ErrBadVersion},
 		{`{"attempt":1,"out":null,` + syncIDs + `,"state":"done","version":1}`, osb.ErrBadMember},
-		{`{"attempt":-1,"out":null,` + syncIDs + `,"state":"ready","version":1}`, osb.ErrBadMember},
 		{`{"attempt":1,"out":null,` + syncIDs + `,"state":"wanted","version":1}`, osb.ErrImpossible},
-		{`{"attempt":2,"out":"poll",` + syncIDs + `,"state":"cleaning","version":1}`, osb.ErrImpossible},
 	} {
 		record, _ := osb.Create(instance, service, plan, true)
 		before := record
@@ -161,16 +159,29 @@ func TestFaults(t *testing.T) {
 		fault osb.Status
 	}{
 		{"\xff", osb.ErrNotUTF8},
-		{`null`, osb.ErrNotAnObject},
 		{`{"marked":1,"row":null,"version":1,"work":null}`, osb.ErrBadMember},
-		{`{"marked":true,"row":` + readyRow + `,"version":1,"work":null}`, osb.ErrImpossible},
+		{`{"marked":true,"row":null,"version":2,"work":null}`, osb.ErrBadOuter},
+		{strings.Replace(tombstone, `"0`, `"x`, 1), osb.ErrBadMember},
+		{strings.Replace(tombstone, `"0`, `"1`, 1), osb.ErrImpossible},
+		{front + readyRow + `,"tombstone":true,"version":2,"work":null}`, osb.ErrImpossible},
 		{working(readyRow, provisionWork+syncIDs+`}`), osb.ErrImpossible},
-		{working("null", deleteWork+syncIDs+`}`), osb.ErrImpossible},
 	} {
 		holding := holdingOf(t, ready)
 		before := holding
 		if err := holding.UnmarshalJSON([]byte(row.text)); !errors.Is(err, row.fault) || holding != before {
 			t.Errorf("%q: %v", row.text, err)
+		}
+	}
+}
+
+// The text of the first format, which had no attributes, is read.
+func TestFirstFormat(t *testing.T) {
+	for text, now := range map[string]string{
+		`{"marked":true,"row":null,"version":1,"work":null}`:              tombstone,
+		`{"marked":false,"row":` + readyRow + `,"version":1,"work":null}`: ready,
+	} {
+		if holding := holdingOf(t, text); textOf(t, holding) != now {
+			t.Errorf("%s: %s", text, textOf(t, holding))
 		}
 	}
 }

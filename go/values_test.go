@@ -1,6 +1,7 @@
 package osb_test
 
 import (
+	"errors"
 	"testing"
 
 	"pippinterm/osb"
@@ -8,10 +9,11 @@ import (
 
 // The words of a holding in these tables.
 const (
-	none    = `{"marked":false,"row":null,"version":1,"work":null}`
-	marked  = `{"marked":true,"row":null,"version":1,"work":null}`
-	ready   = `{"marked":false,"row":` + readyRow + `,"version":1,"work":null}`
-	running = `{"marked":false,"row":` + makingRow + `,"version":1,"work":null}`
+	front     = `{"attributes":"0000000000000000000000000000000000000000000000000000000000000000","row":`
+	none      = front + `null,"tombstone":false,"version":2,"work":null}`
+	tombstone = front + `null,"tombstone":true,"version":2,"work":null}`
+	ready     = front + readyRow + `,"tombstone":false,"version":2,"work":null}`
+	running   = front + makingRow + `,"tombstone":false,"version":2,"work":null}`
 
 	syncIDs   = `"plan":"00000000-0000-0000-0000-0000000000b1","service":"00000000-0000-0000-0000-0000000000a0"`
 	asyncIDs  = `"plan":"00000000-0000-0000-0000-0000000000b2","service":"00000000-0000-0000-0000-0000000000a0"`
@@ -24,12 +26,12 @@ const (
 
 // A holding with a row in a phase, of the asynchronous plan.
 func asyncRow(phase string) string {
-	return `{"marked":false,"row":{"phase":"` + phase + `",` + asyncIDs + `},"version":1,"work":null}`
+	return front + `{"phase":"` + phase + `",` + asyncIDs + `},"tombstone":false,"version":2,"work":null}`
 }
 
 // A holding with this work, and a row or null.
 func working(row, work string) string {
-	return `{"marked":false,"row":` + row + `,"version":1,"work":` + work + `}`
+	return front + row + `,"tombstone":false,"version":2,"work":` + work + `}`
 }
 
 func holdingOf(t *testing.T, text string) osb.Holding {
@@ -74,8 +76,8 @@ func TestBegin(t *testing.T) {
 		{"2", busy, osb.ModeSync, osb.KindDeprovision, plan,
 			osb.Answer{Status: 422, Body: osb.BodyConcurrencyError}, 0, busy},
 		{"3", busy, osb.ModeSync, osb.KindPoll, plan, osb.Answer{Status: 200, Body: osb.BodyInProgress}, 0, busy},
-		{"4", marked, osb.ModeSync, osb.KindProvision, plan,
-			osb.Answer{Status: 409, Body: osb.BodyOtherError}, 0, marked},
+		{"4", tombstone, osb.ModeSync, osb.KindProvision, plan,
+			osb.Answer{Status: 409, Body: osb.BodyOtherError}, 0, tombstone},
 		{"5, make", none, osb.ModeSync, osb.KindProvision, plan, osb.Answer{}, osb.WorkMake, busy},
 		{"5, start making", none, osb.ModeAsync, osb.KindProvision, async, osb.Answer{}, osb.WorkStartMaking,
 			working("null", provisionWork+asyncIDs+`}`)},
@@ -83,7 +85,7 @@ func TestBegin(t *testing.T) {
 			working(readyRow, deleteWork+syncIDs+`}`)},
 		{"5, start deleting", asyncRow("failed"), osb.ModeAsync, osb.KindDeprovision, async, osb.Answer{},
 			osb.WorkStartDeleting, working(`{"phase":"failed",`+asyncIDs+`}`, deleteWork+asyncIDs+`}`)},
-		{"6", none, osb.ModeSync, osb.KindDeprovision, plan, osb.Answer{Status: 410, Body: osb.BodyOtherError}, 0, marked},
+		{"6", none, osb.ModeSync, osb.KindDeprovision, plan, osb.Answer{Status: 410, Body: osb.BodyOtherError}, 0, tombstone},
 		{"7, not on sale", none, osb.ModeNone, osb.KindProvision, plan,
 			osb.Answer{Status: 400, Body: osb.BodyOtherError}, 0, none},
 		{"7, there already", ready, osb.ModeSync, osb.KindProvision, plan,
@@ -91,7 +93,7 @@ func TestBegin(t *testing.T) {
 		{"7, a Poll", running, osb.ModeAsync, osb.KindPoll, async,
 			osb.Answer{Status: 200, Body: osb.BodyInProgress}, 0, running},
 	} {
-		after, begun, err := holdingOf(t, row.before).Begin(row.mode, request(row.kind, row.plan))
+		after, begun, err := holdingOf(t, row.before).Begin(row.mode, request(row.kind, row.plan), osb.Rules{})
 		if err != nil || begun != (osb.Begun{Answer: row.answer, Work: row.work}) || textOf(t, after) != row.after {
 			t.Errorf("line %s: %+v, %v, %s", row.line, begun, err, textOf(t, after))
 		}
@@ -115,8 +117,8 @@ func TestEnd(t *testing.T) {
 		{making, osb.ModeSync, osb.OutcomeAfter, 500, ready},
 		{starting, osb.ModeAsync, osb.OutcomeAfter, 500, running},
 		{making, osb.ModeSync, osb.OutcomeBefore, 500, none},
-		{deleting, osb.ModeSync, osb.OutcomeDone, 200, marked},
-		{deleting, osb.ModeSync, osb.OutcomeAfter, 500, marked},
+		{deleting, osb.ModeSync, osb.OutcomeDone, 200, tombstone},
+		{deleting, osb.ModeSync, osb.OutcomeAfter, 500, tombstone},
 		{startDeleting, osb.ModeAsync, osb.OutcomeDone, 202, asyncRow("deleting")},
 		{startDeleting, osb.ModeAsync, osb.OutcomeAfter, 500, asyncRow("deleting")},
 		{deleting, osb.ModeSync, osb.OutcomeBefore, 500, ready},
@@ -132,6 +134,42 @@ func TestEnd(t *testing.T) {
 	}
 }
 
+// A backend refuses a Provision, and nothing else.
+func TestRefusedWork(t *testing.T) {
+	making, deleting := working("null", provisionWork+syncIDs+`}`), working(readyRow, deleteWork+syncIDs+`}`)
+	for outcome, status := range map[osb.Outcome]uint16{osb.OutcomeRefused400: 400, osb.OutcomeRefused422: 422} {
+		after, answer, err := holdingOf(t, making).End(osb.ModeSync, outcome)
+		if err != nil || answer != (osb.Answer{Status: status, Body: osb.BodyOtherError}) || textOf(t, after) != tombstone {
+			t.Errorf("%v: %+v, %v, %v", outcome, answer, err, after)
+		}
+		after, _, err = holdingOf(t, deleting).End(osb.ModeSync, outcome)
+		if !errors.Is(err, osb.ErrNotAProvision) || textOf(t, after) != deleting {
+			t.Errorf("%v: %v, %v", outcome, err, after)
+		}
+	}
+}
+
+// With the rule of the first Poll, an instance is made only once it was polled.
+func TestFirstPoll(t *testing.T) {
+	rules := osb.Rules{FirstPoll: true}
+	waiting, begun, err := osb.Holding{}.Begin(osb.ModeAsync, request(osb.KindProvision, async), rules)
+	if answer := (osb.Answer{Status: 202, Body: osb.BodyEmpty}); err != nil || begun != (osb.Begun{Answer: answer}) ||
+		textOf(t, waiting) != asyncRow("waiting") {
+		t.Errorf("%+v, %v, %v", begun, err, waiting)
+	}
+	making, begun, err := waiting.Begin(osb.ModeAsync, request(osb.KindPoll, async), rules)
+	if answer := (osb.Answer{Status: 200, Body: osb.BodyInProgress}); err != nil || begun != (osb.Begun{Answer: answer}) ||
+		textOf(t, making) != asyncRow("making") {
+		t.Errorf("%+v, %v, %v", begun, err, making)
+	}
+	if failed, err := waiting.GiveUpWaiting(); err != nil || textOf(t, failed) != asyncRow("failed") {
+		t.Errorf("%v, %v", err, failed)
+	}
+	if same, err := making.GiveUpWaiting(); !errors.Is(err, osb.ErrNotWaiting) || same != making {
+		t.Errorf("%v, %v", err, same)
+	}
+}
+
 // The table of finish in docs/instance.md.
 func TestFinish(t *testing.T) {
 	for _, row := range []struct {
@@ -141,7 +179,7 @@ func TestFinish(t *testing.T) {
 	}{
 		{asyncRow("making"), true, asyncRow("ready")},
 		{asyncRow("making"), false, asyncRow("failed")},
-		{asyncRow("deleting"), true, marked},
+		{asyncRow("deleting"), true, tombstone},
 		{asyncRow("deleting"), false, asyncRow("delete-failed")},
 	} {
 		after, err := holdingOf(t, row.before).Finish(row.ok)
@@ -161,8 +199,8 @@ func TestParts(t *testing.T) {
 	if work, due := holding.Work(); !due || work != request(osb.KindDeprovision, plan) {
 		t.Errorf("work: %+v, %v", work, due)
 	}
-	if holding.IsMarked() || !holdingOf(t, marked).IsMarked() {
-		t.Error("the mark")
+	if holding.HasTombstone() || !holdingOf(t, tombstone).HasTombstone() {
+		t.Error("the tombstone")
 	}
 	if holdingOf(t, none) != (osb.Holding{}) {
 		t.Error("none isn't the zero holding")
@@ -170,13 +208,9 @@ func TestParts(t *testing.T) {
 	if holding.Fits(osb.ModeNone) || holdingOf(t, running).Fits(osb.ModeSync) {
 		t.Error("a holding fits a plan that can't have it")
 	}
-	after, answer, err := osb.Holding{}.Handle(osb.ModeSync, request(osb.KindProvision, plan), osb.OutcomeDone)
-	if err != nil || answer.Status != 201 || textOf(t, after) != ready {
-		t.Errorf("handle: %+v, %v, %s", answer, err, textOf(t, after))
-	}
 }
 
-// The work of each kind at each mode.
+// Work of each kind. python/osb_tests/test_values.py has each mode.
 func TestWorkOf(t *testing.T) {
 	for _, row := range []struct {
 		kind osb.Kind
@@ -184,10 +218,7 @@ func TestWorkOf(t *testing.T) {
 		work osb.Work
 	}{
 		{osb.KindProvision, osb.ModeSync, osb.WorkMake},
-		{osb.KindProvision, osb.ModeAsync, osb.WorkStartMaking},
-		{osb.KindDeprovision, osb.ModeSync, osb.WorkDelete},
 		{osb.KindDeprovision, osb.ModeAsync, osb.WorkStartDeleting},
-		{osb.KindPoll, osb.ModeSync, osb.WorkNone},
 		{osb.KindProvision, osb.ModeNone, osb.WorkNone},
 	} {
 		if work := osb.WorkOf(row.kind, row.mode); work != row.work {
@@ -231,6 +262,16 @@ func TestRecord(t *testing.T) {
 	next, err = record.Answer(sent.Attempt, osb.Answer{Status: 410, Body: osb.BodyMalformed})
 	step("answer", next, err, osb.StateGone, osb.KindNone)
 
+	record, _ = osb.Create(instance, service, async, true)
+	next, err = record.Timeout(1)
+	step("timeout", next, err, osb.StateCleaning, osb.KindNone)
+	next, sent, err = record.Send(instance)
+	step("send", next, err, osb.StateCleaning, osb.KindDeprovision)
+	next, err = record.Answer(sent.Attempt, osb.Answer{Status: 202, Body: osb.BodyEmpty})
+	step("answer", next, err, osb.StateCleaningPolling, osb.KindNone)
+	next, err = record.Retry()
+	step("retry", next, err, osb.StateCleaning, osb.KindNone)
+
 	row := osb.PlatformRow{Service: service, Plan: plan, State: osb.StateWanted, InFlight: osb.KindProvision}
 	next, err = osb.RecordFromRow(row)
 	step("from a row", next, err, osb.StateCleaning, osb.KindNone)
@@ -239,31 +280,17 @@ func TestRecord(t *testing.T) {
 	}
 }
 
-// Lines of the platform's tables, from docs/platform.md.
+// A line of each of the platform's tables, from docs/platform.md. python/osb_tests/test_rules.py has all lines of those
+// for answers.
 func TestTables(t *testing.T) {
-	for _, row := range []struct {
-		answer osb.Answer
-		state  osb.State
-		cleans bool
-	}{
-		{osb.Answer{Status: 200, Body: osb.BodyEmpty}, osb.StateReady, false},
-		{osb.Answer{Status: 200}, osb.StateUnsettled, false},
-		{osb.Answer{Status: 201}, osb.StateCleaning, true},
-		{osb.Answer{Status: 202, Body: osb.BodyEmpty}, osb.StatePolling, false},
-		{osb.Answer{Status: 409, Body: osb.BodyOtherError}, osb.StateUnsettled, false},
-		{osb.Answer{Status: 422, Body: osb.BodyAsyncRequired}, osb.StateGone, false},
-		{osb.Answer{Status: 500, Body: osb.BodyOtherError}, osb.StateCleaning, true},
-	} {
-		if osb.DecideProvision(row.answer) != row.state || osb.Mitigates(row.answer) != row.cleans {
-			t.Errorf("%+v: %v, %v", row.answer, osb.DecideProvision(row.answer), osb.Mitigates(row.answer))
-		}
+	unread, succeeded := osb.Answer{Status: 201}, osb.Answer{Status: 200, Body: osb.BodySucceeded}
+	if osb.DecideProvision(unread) != osb.StateCleaning || !osb.Mitigates(unread) || osb.Mitigates(succeeded) {
+		t.Error("the answer to a Provision")
 	}
-	succeeded := osb.Answer{Status: 200, Body: osb.BodySucceeded}
 	if !succeeded.IsWellFormed(osb.KindPoll) || succeeded.IsWellFormed(osb.KindProvision) {
 		t.Error("well formed")
 	}
-	if osb.DecidePoll(osb.StatePolling, succeeded) != osb.StateReady ||
-		osb.DecidePoll(osb.StateCleaningPolling, succeeded) != osb.StateGone ||
+	if osb.DecidePoll(osb.StateCleaningPolling, succeeded) != osb.StateGone ||
 		osb.DecidePoll(99, succeeded) != osb.StateNone {
 		t.Error("the answer to a Poll")
 	}

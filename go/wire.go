@@ -46,7 +46,7 @@ func WriteMethod(kind Kind) (string, error) {
 
 // WriteTarget writes the target of a request: the path, which begins with the prefix (empty, or what the broker's URL
 // has before /v2, with no question mark), and the query. The operation is the broker's, or nil; give one to a Poll
-// alone.
+// alone. The ids are sent as GUIDs in lower case: WriteNamedTarget sends others.
 //
 // Errors: ErrNotUTF8 (prefix or operation), ErrBadKind, ErrMemory.
 func WriteTarget(prefix string, request Request, operation *string) (string, error) {
@@ -61,7 +61,7 @@ func WriteTarget(prefix string, request Request, operation *string) (string, err
 
 // WriteBody writes the body of a request: of a Provision an object of the ids, the organization and the space, neither
 // of which may be empty, and the members of further, the text of an object ({} for none), as context, parameters or
-// maintenance_info; else an empty text.
+// maintenance_info; else an empty text. The ids are sent as GUIDs in lower case: WriteNamedBody sends others.
 //
 // Errors: ErrNotUTF8 (organization, space or further), ErrBadKind, ErrNotJSON and ErrNotAnObject (further), ErrMemory.
 func WriteBody(request Request, organization, space string, further []byte) ([]byte, error) {
@@ -132,8 +132,23 @@ func WriteAnswer(answer Answer, operation *string) ([]byte, error) {
 	})
 }
 
-// RefusalStatus is the HTTP status of a refusal, ErrRefusedTarget to ErrRefusedSpace, and 503 of ErrMemory; 0 of every
-// other status.
+// WriteDescribedAnswer writes the body of an answer with a description for a person. The description, or nil for none,
+// is written for an error, in place of the usual sentence, and for a last operation that failed (sections Polling Last
+// Operation for Service Instances and Service Broker Errors). Of one with more than 1,000 characters the first 1,000
+// are written, which is this project's choice. The operation is as in WriteAnswer.
+//
+// Errors: ErrNotUTF8 (operation or description), ErrMemory.
+func WriteDescribedAnswer(answer Answer, operation, description *string) ([]byte, error) {
+	named, hasOperation := optional(operation)
+	told, hasDescription := optional(description)
+	return written(func(buffer *C.uint8_t, bytes C.size_t, needed *C.size_t) C.uint32_t {
+		return C.osb_write_told_answer(answer.c(), hasOperation, pointer(named), size(named), hasDescription,
+			pointer(told), size(told), buffer, bytes, needed)
+	})
+}
+
+// RefusalStatus is the HTTP status of a refusal, ErrRefusedTarget to ErrRefusedSpace and ErrRefusedMaintenance, and 503
+// of ErrMemory; 0 of every other status.
 func RefusalStatus(refusal Status) uint16 { return uint16(C.osb_refusal_status(C.uint32_t(refusal))) }
 
 // RefusalBody writes the body of a refusal.

@@ -14,7 +14,7 @@ const target = "/v2/service_instances/00000000-0000-0000-0000-000000000001"
 const provisionBody = `{"service_id":"00000000-0000-0000-0000-0000000000a0",` +
 	`"plan_id":"00000000-0000-0000-0000-0000000000b1","organization_guid":"org","space_guid":"space"}`
 
-// What a platform takes from a response: the table of docs/wire.md.
+// What a platform takes from a response, by docs/wire.md. checks/wire has every status and body.
 func TestReadAnswer(t *testing.T) {
 	for _, row := range []struct {
 		kind   osb.Kind
@@ -26,15 +26,8 @@ func TestReadAnswer(t *testing.T) {
 		{osb.KindProvision, 201, `{"anything":1}`, osb.BodyEmpty, nil},
 		{osb.KindProvision, 201, `<html>`, osb.BodyMalformed, nil},
 		{osb.KindPoll, 200, `{"state":"in progress"}`, osb.BodyInProgress, nil},
-		{osb.KindPoll, 200, `{"state":"failed"}`, osb.BodyFailed, nil},
-		{osb.KindPoll, 200, `{"state":"other"}`, osb.BodyEmpty, nil},
 		{osb.KindProvision, 422, `{"error":"AsyncRequired"}`, osb.BodyAsyncRequired, nil},
-		{osb.KindDeprovision, 422, `{"error":"ConcurrencyError"}`, osb.BodyConcurrencyError, nil},
-		{osb.KindDeprovision, 500, `{"error":"Else"}`, osb.BodyOtherError, nil},
-		{osb.KindDeprovision, 410, ``, osb.BodyMalformed, nil},
-		{osb.KindProvision, 400, ``, 0, osb.ErrNoAnswer},
 		{osb.KindProvision, 404, `{"error":"x"}`, 0, osb.ErrNoAnswer},
-		{osb.KindProvision, 429, `{"error":"x"}`, 0, osb.ErrNoAnswer},
 		{osb.KindNone, 200, `{}`, 0, osb.ErrBadKind},
 	} {
 		answer, err := osb.ReadAnswer(row.kind, row.status, []byte(row.text))
@@ -112,6 +105,9 @@ func TestNotWritten(t *testing.T) {
 		"asked operation":  {second(osb.AskedOperation(target)), osb.ErrNoOperation},
 		"asked twice":      {second(osb.AskedOperation(target + "?operation=1&operation=1")), osb.ErrRefusedRepeated},
 		"seconds":          {second(osb.RetryAfter("-1")), osb.ErrNoSeconds},
+		"received, prefix": {second(osb.ReceiveRequest(bad, 0, "GET", target, nil)), osb.ErrNotUTF8},
+		"description": {second(osb.WriteDescribedAnswer(osb.Answer{Status: 200, Body: osb.BodyFailed}, nil, &bad)),
+			osb.ErrNotUTF8},
 	} {
 		if !errors.Is(row.err, row.status) {
 			t.Errorf("%s: %v", what, row.err)
@@ -121,7 +117,7 @@ func TestNotWritten(t *testing.T) {
 
 func second[T any](_ T, err error) error { return err }
 
-// What a broker refuses, in the order of docs/wire.md, and with which status.
+// What a broker refuses, and with which status. python/osb_tests/test_wire.py has each refusal.
 func TestReadRequest(t *testing.T) {
 	ids := "?service_id=00000000-0000-0000-0000-0000000000a0&plan_id=00000000-0000-0000-0000-0000000000b1"
 	for _, row := range []struct {
@@ -131,21 +127,17 @@ func TestReadRequest(t *testing.T) {
 	}{
 		{"PUT", "/v2/other", "", osb.ErrRefusedTarget, 404},
 		{"GET", target, "", osb.ErrRefusedMethod, 405},
-		{"PUT", target + "/last_operation", "", osb.ErrRefusedMethod, 405},
-		{"PUT", "/v2/service_instances/1", "", osb.ErrRefusedInstance, 400},
+		{"PUT", "/v2/service_instances/.", "", osb.ErrRefusedInstance, 400},
 		{"PUT", target, strings.Repeat(" ", 301), osb.ErrRefusedLength, 413},
 		{"DELETE", target + ids + "&service_id=1", "", osb.ErrRefusedRepeated, 400},
-		{"DELETE", target, "", osb.ErrRefusedService, 400},
-		{"DELETE", target + ids[:48], "", osb.ErrRefusedPlan, 400},
-		{"DELETE", target + ids + "&accepts_incomplete=1", "", osb.ErrRefusedAcceptsIncomplete, 400},
-		{"PUT", target, "[]", osb.ErrRefusedBody, 400},
-		{"PUT", target, "{}", osb.ErrRefusedService, 400},
-		{"PUT", target, strings.Replace(provisionBody, "plan_id", "plan", 1), osb.ErrRefusedPlan, 400},
-		{"PUT", target, strings.Replace(provisionBody, `"org"`, `""`, 1), osb.ErrRefusedOrganization, 400},
 		{"PUT", target, strings.Replace(provisionBody, `"space"`, `1`, 1), osb.ErrRefusedSpace, 400},
 	} {
 		asked, err := osb.ReadRequest("", 300, row.method, row.target, []byte(row.body))
 		if !errors.Is(err, row.refusal) || asked != (osb.Asked{}) || osb.RefusalStatus(row.refusal) != row.status {
+			t.Errorf("%s %s %s: %v", row.method, row.target, row.body, err)
+		}
+		received, err := osb.ReceiveRequest("", 300, row.method, row.target, []byte(row.body))
+		if !errors.Is(err, row.refusal) || !reflect.DeepEqual(received, osb.Received{}) {
 			t.Errorf("%s %s %s: %v", row.method, row.target, row.body, err)
 		}
 		if body, err := osb.RefusalBody(row.refusal); err != nil || !strings.Contains(string(body), `"error"`) {
@@ -169,7 +161,7 @@ func TestAsked(t *testing.T) {
 	}
 }
 
-// What a broker writes: the table of docs/wire.md.
+// What a broker writes. python/osb_tests/test_wire.py has the table of docs/wire.md.
 func TestWriteAnswer(t *testing.T) {
 	operation := "making 1"
 	for _, row := range []struct {
@@ -179,8 +171,6 @@ func TestWriteAnswer(t *testing.T) {
 		{osb.Answer{Status: 202, Body: osb.BodyEmpty}, `{"operation":"making 1"}`},
 		{osb.Answer{Status: 201, Body: osb.BodyEmpty}, `{}`},
 		{osb.Answer{Status: 200, Body: osb.BodyInProgress}, `{"state":"in progress"}`},
-		{osb.Answer{Status: 200, Body: osb.BodySucceeded}, `{"state":"succeeded"}`},
-		{osb.Answer{Status: 200, Body: osb.BodyFailed}, `{"state":"failed"}`},
 		{osb.Answer{Status: 200}, ``},
 	} {
 		if body, err := osb.WriteAnswer(row.answer, &operation); err != nil || string(body) != row.text {
@@ -233,18 +223,22 @@ func TestCataloguePlans(t *testing.T) {
 		t.Errorf("%+v, %v", plans, err)
 	}
 	for text, status := range map[string]osb.Status{
-		`x`:                          osb.ErrNotJSON,
-		`{}`:                         osb.ErrNoServices,
-		`{"services":[{"id":"1"}]}`:  osb.ErrBadService,
-		serviceWith(``):              osb.ErrNoPlans,
-		serviceWith(`,"plans":[{}]`): osb.ErrBadPlan,
-		serviceWith(`,"plans":[{"id":"00000000-0000-0000-0000-0000000000b1","asynchronous":1}]`): osb.ErrBadPlanMode,
+		`{}`: osb.ErrNoServices,
+		serviceWith(`,"plans":[{"id":"1","asynchronous":true,"x-osb-asynchronous":1}]`): osb.ErrBadPlanMode,
 		serviceWith(`,"plans":[{"id":"00000000-0000-0000-0000-0000000000b1"},` +
 			`{"id":"00000000-0000-0000-0000-0000000000b1"}]`): osb.ErrPlanTwice,
 	} {
 		if _, err := osb.CataloguePlans([]byte(text)); !errors.Is(err, status) {
 			t.Errorf("%s: %v, and not %v", text, err, status)
 		}
+	}
+	plans, err = osb.CataloguePlans([]byte(`{"services":[{"id":"database","plans":[` +
+		`{"id":"small","asynchronous":true,"x-osb-asynchronous":false},{"id":"large","x-osb-asynchronous":true}]}]}`))
+	small := osb.Plan{Service: hashed("database"), Plan: hashed("small")}
+	large := osb.Plan{Service: hashed("database"), Plan: hashed("large"), IsAsynchronous: true}
+	if wanted := []osb.Plan{small, large}; err != nil || len(plans) != 2 ||
+		!reflect.DeepEqual(plans, wanted) && !reflect.DeepEqual(plans, []osb.Plan{large, small}) {
+		t.Errorf("%+v, %v", plans, err)
 	}
 	// More plans than the first list has places for.
 	var many []string

@@ -51,14 +51,14 @@ uint32_t osb_version(void);
  *      If several of them fit, the call returns the first. But if an allocation failed, OSB_MEMORY may come in place of
  *      every status that the text or the list itself decides: OSB_PLAN_TWICE, OSB_TOO_SMALL, OSB_NOT_JSON to
  *      OSB_BAD_MEMBER, OSB_IMPOSSIBLE, OSB_NO_ANSWER, OSB_NO_OPERATION, OSB_UNAUTHORIZED, OSB_REFUSED_REPEATED to
- *      OSB_BAD_PLAN_MODE. */
+ *      OSB_BAD_PLAN_MODE, OSB_NO_MEMBER to OSB_SAME_NUMBER. */
 
 enum osb_status {
     OSB_DONE = 0,                        /* it was done */
     OSB_MEMORY = 1,                      /* out of memory: an allocation failed */
     OSB_BUSY = 6,                        /* a request is in flight */
     OSB_NOTHING_DUE = 7,                 /* in ready, gone and unsettled no request is due */
-    OSB_NOT_POLLING = 9,                 /* none is in flight, and the state isn't polling */
+    OSB_NOT_POLLING = 9,                 /* none is in flight, and the state isn't polling; to send a deletion again: cleaning-polling */
     OSB_NOT_REMOVABLE = 10,              /* none is in flight, and the state isn't polling, ready or unsettled */
     OSB_NOTHING_RUNNING = 11,            /* the instance is neither being made nor being deleted */
     OSB_PLAN_TWICE = 13,                 /* two of the plans have the same service and plan */
@@ -79,7 +79,7 @@ enum osb_status {
     OSB_BAD_MODE = 29,                   /* the number stands for no mode */
     OSB_ATTEMPTS_USED_UP = 30,           /* the latest request has the greatest number, 2^64 - 1 */
     OSB_NOT_IN_FLIGHT = 31,              /* no request is in flight, or one of another number */
-    OSB_NOTHING_BEGUN = 32,              /* no work is recorded */
+    OSB_NOTHING_BEGUN = 32,              /* no work is pending */
     OSB_IMPOSSIBLE = 33,                 /* each member is one of its kind, and together they can't come about */
     OSB_NO_ANSWER = 34,                  /* the response isn't surely the broker's: a timeout takes its place */
     OSB_NO_OPERATION = 35,               /* no operation is named */
@@ -90,33 +90,64 @@ enum osb_status {
     OSB_REFUSED_METHOD = 40,             /* refused with 405: the target has no such method */
     OSB_REFUSED_VERSION = 41,            /* refused with 412: the version isn't 2.x, or none is named */
     OSB_REFUSED_LENGTH = 42,             /* refused with 413: the body is too long */
-    OSB_REFUSED_INSTANCE = 43,           /* refused with 400: the id of the instance is no GUID */
+    OSB_REFUSED_INSTANCE = 43,           /* refused with 400: the instance's id isn't UTF-8 of 1 to 255 bytes, or no path can carry it */
     OSB_REFUSED_REPEATED = 44,           /* refused with 400: a parameter of the query stands twice */
-    OSB_REFUSED_SERVICE = 45,            /* refused with 400: service_id is missing or no GUID */
-    OSB_REFUSED_PLAN = 46,               /* refused with 400: plan_id is missing or no GUID */
+    OSB_REFUSED_SERVICE = 45,            /* refused with 400: service_id is missing, or isn't a string of 1 to 255 bytes */
+    OSB_REFUSED_PLAN = 46,               /* refused with 400: plan_id is missing, or isn't a string of 1 to 255 bytes */
     OSB_REFUSED_ACCEPTS_INCOMPLETE = 47, /* refused with 400: accepts_incomplete is neither true nor false */
     OSB_REFUSED_BODY = 48,               /* refused with 400: the body isn't UTF-8, isn't JSON, or is no object */
     OSB_REFUSED_ORGANIZATION = 49,       /* refused with 400: organization_guid is missing, no string, or empty */
     OSB_REFUSED_SPACE = 50,              /* refused with 400: space_guid is missing, no string, or empty */
     OSB_NO_SERVICES = 51,                /* the document has no list services */
-    OSB_BAD_SERVICE = 52,                /* the id of a service is missing or no GUID */
+    OSB_BAD_SERVICE = 52,                /* the id of a service is missing, or isn't a string of 1 to 255 bytes */
     OSB_NO_PLANS = 53,                   /* a service has no list plans */
-    OSB_BAD_PLAN = 54,                   /* the id of a plan is missing or no GUID */
-    OSB_BAD_PLAN_MODE = 55               /* asynchronous of a plan is neither true nor false */
+    OSB_BAD_PLAN = 54,                   /* the id of a plan is missing, or isn't a string of 1 to 255 bytes */
+    OSB_BAD_PLAN_MODE = 55,              /* the member x-osb-asynchronous of a plan is neither true nor false */
+    OSB_NOT_A_PROVISION = 56,            /* only the pending work of a Provision can be refused */
+    OSB_NOT_WAITING = 57,                /* the row doesn't wait for its first Poll */
+    OSB_NOT_INSTANCE_TEXT = 58,          /* the text isn't that of the request's instance, or no path can carry it */
+    OSB_NOT_SERVICE_TEXT = 59,           /* the text isn't that of the request's service */
+    OSB_NOT_PLAN_TEXT = 60,              /* the text isn't that of the request's plan */
+    OSB_NO_MEMBER = 61,                  /* the text is no object of JSON, or the object has no such member */
+    OSB_NO_IDENTITY = 62,                /* the value of the header names nobody */
+    OSB_NO_PLAN_VERSION = 63,            /* the document has no maintenance_info.version of the plan */
+    OSB_REFUSED_MAINTENANCE = 64,        /* refused with 422: the request names another maintenance_info.version */
+    OSB_NO_NAME = 65,                    /* the name of a service or of a plan is missing, no string, or empty */
+    OSB_NAME_TWICE = 66,                 /* two services, or two plans of a service, have one name */
+    OSB_NO_DESCRIPTION = 67,             /* the description of a service or of a plan is missing, no string, or empty */
+    OSB_NOT_A_BOOLEAN = 68,              /* a flag of the catalogue is neither true nor false */
+    OSB_NO_BINDABLE = 69,                /* a service doesn't say whether it is bindable */
+    OSB_NO_PLAN = 70,                    /* a service has no plan */
+    OSB_BINDABLE_UNSERVED = 71,          /* bindings aren't served, and bindable is true */
+    OSB_UPDATE_UNSERVED = 72,            /* updating isn't served, and plan_updateable is true */
+    OSB_INSTANCES_UNSERVED = 73,         /* fetching an instance isn't served, and instances_retrievable is true */
+    OSB_BINDINGS_UNSERVED = 74,          /* fetching a binding isn't served, and bindings_retrievable is true */
+    OSB_SAME_NUMBER = 75                 /* two ids of the document have one number */
 };
 
-/* ---- Ids: GUIDs. */
+/* ---- Ids. The id of an instance, a service or a plan is any text of 1 to 255 bytes of UTF-8, and the calls know it by
+ *      a number of 128 bits. A GUID in lower case is its own number. Any other text has the first 128 bits of its
+ *      SHA-256 (docs/wire.md). */
 
-/* The halves of the number of 128 bits that the text writes: high has its first 16 digits. */
+/* The halves of the number of an id: as a GUID it has its first 16 digits in high. */
 struct osb_id {
     uint64_t high, low;
 };
 
-/* Reads the text of an id, 36 bytes in either case, as 12345678-9abc-def0-1234-56789abcdef0.
+/* Writes the number of an id to *id, given its text as a request or a catalogue has it. The standard compares ids byte
+ * by byte, so a GUID with a digit in upper case is another id than the same in lower case. The numbers and the greatest
+ * length are this project's choice.
+ * OSB_DONE, OSB_NOT_UTF8, OSB_NOT_AN_ID for an empty text and for one of more than 255 bytes; if it isn't done, *id is
+ * as before. */
+uint32_t osb_id_of_text(const uint8_t *text, size_t length, struct osb_id *id);
+
+/* Reads a GUID, 36 bytes in either case, as 12345678-9abc-def0-1234-56789abcdef0: the number that its digits write.
+ * That is the text's own number only in lower case; for the id in a request or a catalogue call osb_id_of_text.
  * OSB_DONE, or OSB_NOT_AN_ID for every other text; *id is then as before. */
 uint32_t osb_id_from_text(const uint8_t *text, size_t length, struct osb_id *id);
 
-/* Writes the text of an id in lower case: 36 bytes, and no NUL after them. */
+/* Writes the number of an id as a GUID in lower case: 36 bytes, and no NUL after them. It is the id's text only if that
+ * text is a GUID in lower case. */
 void osb_id_to_text(struct osb_id id, uint8_t text[36]);
 
 /* ---- Requests and answers. */
@@ -238,6 +269,11 @@ uint32_t osb_record_timeout(struct osb_record *record, uint64_t attempt);
  * OSB_DONE, OSB_BAD_RECORD, OSB_BUSY, OSB_NOT_POLLING. */
 uint32_t osb_record_expire(struct osb_record *record);
 
+/* Sends a deletion again, for one whose maximum polling duration has passed, or that the broker never ends:
+ * cleaning-polling becomes cleaning.
+ * OSB_DONE, OSB_BAD_RECORD, OSB_BUSY, OSB_NOT_POLLING. */
+uint32_t osb_record_retry(struct osb_record *record);
+
 /* Has the instance deleted, as an operator asks: polling, ready and unsettled become cleaning.
  * OSB_DONE, OSB_BAD_RECORD, OSB_BUSY, OSB_NOT_REMOVABLE. */
 uint32_t osb_record_remove(struct osb_record *record);
@@ -274,19 +310,23 @@ enum osb_work {
 };
 
 /* How the work behind a request goes. It counts where the work would be done at all. Work that is half done is none of
- * these: undo it and say BEFORE, finish it and say DONE, or say nothing until it is known. */
+ * these. Undo a creation and say BEFORE, or finish it and say DONE; finish a deletion, since it creates nothing; or say
+ * nothing until it is known. */
 enum osb_outcome {
-    OSB_OUTCOME_DONE = 0,   /* it is done, or at an asynchronous plan started */
-    OSB_OUTCOME_BEFORE = 1, /* it failed, and all is as it was: nothing was made, or nothing was deleted */
-    OSB_OUTCOME_AFTER = 2   /* it failed, and yet all of it was done: the whole resource exists, or nothing is left */
+    OSB_OUTCOME_DONE = 0,        /* it is done, or at an asynchronous plan started */
+    OSB_OUTCOME_BEFORE = 1,      /* it failed, and all is as it was: nothing was made, or nothing was deleted */
+    OSB_OUTCOME_AFTER = 2,       /* it failed, and yet all of it was done: the whole resource exists, or nothing is left */
+    OSB_OUTCOME_REFUSED_400 = 3, /* the backend refuses a Provision, answered with 400, and nothing of it exists */
+    OSB_OUTCOME_REFUSED_422 = 4  /* the same, answered with 422 */
 };
 
 enum osb_phase {
-    OSB_PHASE_MAKING = 0,       /* it is being made */
-    OSB_PHASE_READY = 1,        /* it exists, complete */
-    OSB_PHASE_FAILED = 2,       /* it could not be made */
-    OSB_PHASE_DELETING = 3,     /* it is being deleted */
-    OSB_PHASE_DELETE_FAILED = 4 /* it could not be deleted */
+    OSB_PHASE_MAKING = 0,        /* it is being made */
+    OSB_PHASE_READY = 1,         /* it exists, complete */
+    OSB_PHASE_FAILED = 2,        /* it could not be made */
+    OSB_PHASE_DELETING = 3,      /* it is being deleted */
+    OSB_PHASE_DELETE_FAILED = 4, /* it could not be deleted */
+    OSB_PHASE_WAITING = 5        /* its making begins with the first Poll */
 };
 
 /* The row of an instance that a broker holds. */
@@ -297,18 +337,19 @@ struct osb_broker_row {
 
 /* What a broker holds of an instance. One of zeroes holds nothing: an id that no request has come for has that. In what
  * a call gives, members that don't count are zeroes, here, in struct osb_begun and in struct osb_asked: two holdings
- * that calls gave are the same exactly where each member is. */
+ * that calls gave are the same exactly if each member is. */
 struct osb_holding {
-    struct osb_broker_row row; /* it counts where has_row is true */
-    struct osb_request work;   /* the request whose work is recorded; it counts where has_work is true */
+    struct osb_broker_row row; /* it counts if has_row is true */
+    struct osb_request work;   /* the request whose work is pending; it counts if has_work is true */
     bool has_row, has_work;
-    bool is_marked;            /* whether the instance has ended: none with this id is ever made again */
+    bool has_tombstone;        /* whether the instance has ended: none with this id is ever made again */
+    uint8_t attributes[32];    /* the digest of the attributes of row and work, zeroes for none */
 };
 
 /* What comes of a request at once. */
 struct osb_begun {
     struct osb_answer answer; /* the answer to send, where the work is OSB_WORK_NONE */
-    uint8_t work;             /* an enum osb_work: what is due, and is recorded */
+    uint8_t work;             /* an enum osb_work: what is due and pending */
 };
 
 /* Whether the holding is one that a call gives, the number a mode's, and the holding can come about at a plan of the
@@ -316,30 +357,32 @@ struct osb_begun {
  * made. */
 bool osb_holding_fits(const struct osb_holding *holding, uint8_t mode);
 
-/* Begins with a request to this instance: answers it, or records it as work that is due. The mode is that of the
- * request's plan. What comes back is written to the database where it differs, before the work begins or the answer is
- * sent.
+/* Begins with a request to this instance: answers it, or makes its work pending. The mode is that of the request's
+ * plan. With first_poll, an asynchronous plan's instance is made only once it was polled: its Provision leaves a row in
+ * OSB_PHASE_WAITING, and its first Poll one in OSB_PHASE_MAKING, whose operation runs from then on. The attributes are
+ * the digest of what a Provision asks for, as osb_attributes_digest writes it: a Provision of the same service and plan
+ * with others is answered with 409. If the holding changed, it is written to the database before the work begins or the
+ * answer is sent.
  * OSB_DONE, OSB_BAD_HOLDING, OSB_BAD_MODE, OSB_BAD_KIND. */
-uint32_t osb_holding_begin(struct osb_holding *holding, uint8_t mode, const struct osb_request *request,
-                           struct osb_begun *begun);
+uint32_t osb_holding_begin(struct osb_holding *holding, uint8_t mode, bool first_poll,
+                           const struct osb_request *request, const uint8_t attributes[32], struct osb_begun *begun);
 
-/* Ends the recorded work with this outcome, and gives the answer to its request. The mode is that of the recorded
- * request's plan, and has to fit. What comes back is written to the database before the answer is sent.
- * OSB_DONE, OSB_BAD_HOLDING, OSB_BAD_MODE, OSB_BAD_OUTCOME, OSB_NOTHING_BEGUN. */
+/* Ends the pending work with this outcome, and returns the answer to its request. The mode is that of the pending
+ * request's plan, and has to fit. A refusal leaves the tombstone. The holding is written to the database before the
+ * answer is sent.
+ * OSB_DONE, OSB_BAD_HOLDING, OSB_BAD_MODE, OSB_BAD_OUTCOME, OSB_NOTHING_BEGUN, OSB_NOT_A_PROVISION. */
 uint32_t osb_holding_end(struct osb_holding *holding, uint8_t mode, uint8_t outcome, struct osb_answer *answer);
 
-/* Ends the operation that runs on the instance, well (ok) or badly. An instance that is being made is ready then, or
- * has failed; one that is being deleted is gone and leaves the tombstone, or could not be deleted.
+/* Ends the operation that runs on the instance, which succeeded (ok) or failed. An instance that is being made is ready
+ * then, or has failed; one that is being deleted is gone and leaves the tombstone, or could not be deleted.
  * OSB_DONE, OSB_BAD_HOLDING, OSB_NOTHING_RUNNING. */
 uint32_t osb_holding_finish(struct osb_holding *holding, bool ok);
 
-/* osb_holding_begin, and where work is due osb_holding_end with this outcome, with nothing between: for tests, and for
- * brokers whose work can't be interrupted.
- * OSB_DONE, OSB_BAD_HOLDING, OSB_BAD_MODE, OSB_BAD_KIND, OSB_BAD_OUTCOME. */
-uint32_t osb_holding_handle(struct osb_holding *holding, uint8_t mode, const struct osb_request *request,
-                            uint8_t outcome, struct osb_answer *answer);
+/* Gives up an instance that has waited too long for its first Poll: it has failed then, and nothing of it was made.
+ * OSB_DONE, OSB_BAD_HOLDING, OSB_NOT_WAITING. */
+uint32_t osb_holding_give_up_waiting(struct osb_holding *holding);
 
-/* The work that a request of the kind means at a plan of the mode: what a broker that starts again asks of recorded
+/* The work that a request of the kind means at a plan of the mode: what a broker that starts again asks of pending
  * work. OSB_WORK_NONE of a Poll, at OSB_MODE_NONE, and where a number stands for nothing. */
 uint8_t osb_work_of(uint8_t kind, uint8_t mode);
 
@@ -366,26 +409,63 @@ uint32_t osb_read_answer(uint8_t kind, uint16_t status, const uint8_t *body, siz
  * OSB_DONE, OSB_NO_OPERATION, OSB_TOO_SMALL, OSB_MEMORY. */
 uint32_t osb_read_operation(const uint8_t *body, size_t length, uint8_t *buffer, size_t bytes, size_t *needed);
 
+/* What the body of an answer says besides the answer. A member counts if its has_ is true, and is false or 0 otherwise.
+ * The texts stand in a buffer one after the other, in this order. */
+struct osb_details {
+    bool has_description, has_error, has_dashboard_url, has_operation, has_metadata;
+    bool has_instance_usable, instance_usable, has_update_repeatable, update_repeatable;
+    size_t description, error, dashboard_url, operation, metadata; /* the length of each text */
+};
+
+/* Reads what the body of an answer says besides the answer, to any request and with any status: the strings description
+ * (for a person), error, dashboard_url and operation (of at most 10,000 characters), the text of metadata, and the
+ * booleans instance_usable and update_repeatable. A body that is no object says nothing. The texts go to the buffer one
+ * after the other, and the length of all to *needed.
+ * OSB_DONE, OSB_TOO_SMALL, OSB_MEMORY. */
+uint32_t osb_read_details(const uint8_t *body, size_t length, struct osb_details *details, uint8_t *buffer,
+                          size_t bytes, size_t *needed);
+
 /* Writes the method of a request of the kind: PUT, GET or DELETE.
  * OSB_DONE, OSB_BAD_KIND, OSB_TOO_SMALL. */
 uint32_t osb_write_method(uint8_t kind, uint8_t *buffer, size_t bytes, size_t *needed);
 
 /* Writes the target of a request: the path, which begins with the prefix (empty, or what the broker's URL has before
  * /v2, with no `?`, `#`, blank or line end: it is written as it stands), and the query. The operation counts where
- * has_operation is true, and is the broker's; give one to a Poll alone.
+ * has_operation is true, and is the broker's; give one to a Poll alone. The ids are sent as GUIDs in lower case; for
+ * other ids call osb_write_named_target.
  * OSB_DONE, OSB_NOT_UTF8 (prefix or operation), OSB_BAD_KIND, OSB_TOO_SMALL, OSB_MEMORY. */
 uint32_t osb_write_target(const uint8_t *prefix, size_t prefix_length, const struct osb_request *request,
                           bool has_operation, const uint8_t *operation, size_t operation_length, uint8_t *buffer,
                           size_t bytes, size_t *needed);
 
+/* Writes the target of a request with the texts of its ids, escaped as a path and a query need it. Each text must be
+ * that of the request's id, so no other instance is asked for. The rest is as in osb_write_target.
+ * OSB_DONE, OSB_NOT_UTF8 (prefix, any text, or an operation that counts), OSB_BAD_KIND, OSB_NOT_INSTANCE_TEXT,
+ * OSB_NOT_SERVICE_TEXT, OSB_NOT_PLAN_TEXT, OSB_TOO_SMALL, OSB_MEMORY. */
+uint32_t osb_write_named_target(const uint8_t *prefix, size_t prefix_length, const struct osb_request *request,
+                                const uint8_t *instance, size_t instance_length, const uint8_t *service,
+                                size_t service_length, const uint8_t *plan, size_t plan_length, bool has_operation,
+                                const uint8_t *operation, size_t operation_length, uint8_t *buffer, size_t bytes,
+                                size_t *needed);
+
 /* Writes the body of a request: of a Provision an object of the ids, the organization and the space, neither of which
  * may be empty, and the members of `further`, the text of an object ({} for none), as context, parameters or
- * maintenance_info; else an empty text.
+ * maintenance_info; else an empty text. The ids are sent as GUIDs in lower case; for other ids call
+ * osb_write_named_body.
  * OSB_DONE, OSB_NOT_UTF8 (organization, space or further), OSB_BAD_KIND, OSB_NOT_JSON (further), OSB_NOT_AN_OBJECT
  * (further), OSB_TOO_SMALL, OSB_MEMORY. */
 uint32_t osb_write_body(const struct osb_request *request, const uint8_t *organization, size_t organization_length,
                         const uint8_t *space, size_t space_length, const uint8_t *further, size_t further_length,
                         uint8_t *buffer, size_t bytes, size_t *needed);
+
+/* Writes the body of a request of the kind with the texts of the service and the plan. osb_write_named_target says
+ * whether they are the request's. The rest is as in osb_write_body.
+ * OSB_DONE, OSB_NOT_UTF8 (any text), OSB_BAD_KIND, OSB_NOT_JSON (further), OSB_NOT_AN_OBJECT (further), OSB_TOO_SMALL,
+ * OSB_MEMORY. */
+uint32_t osb_write_named_body(uint8_t kind, const uint8_t *service, size_t service_length, const uint8_t *plan,
+                              size_t plan_length, const uint8_t *organization, size_t organization_length,
+                              const uint8_t *space, size_t space_length, const uint8_t *further, size_t further_length,
+                              uint8_t *buffer, size_t bytes, size_t *needed);
 
 /* What a request asks of a broker. The service counts where has_service is true, and the plan where has_plan is; else
  * osb_read_request writes zeroes. */
@@ -405,6 +485,45 @@ uint32_t osb_read_request(const uint8_t *prefix, size_t prefix_length, size_t lo
                           size_t method_length, const uint8_t *target, size_t target_length, const uint8_t *body,
                           size_t body_length, struct osb_asked *asked);
 
+/* The texts of a request, which stand in a buffer one after the other: those of the ids and of the parts of a
+ * Provision's body, in this order. A text that isn't there has the length 0. */
+struct osb_received {
+    bool has_service, has_plan;                             /* whether the request names them; only a Poll may lack them */
+    bool has_parameters, has_context, has_maintenance_info; /* whether the body of a Provision has them */
+    bool has_others;                                        /* true for a Provision alone */
+    size_t instance, service, plan;                         /* the length of the text of each id */
+    size_t parameters, context, maintenance_info, others;   /* the length of each part */
+};
+
+/* Reads what a request asks of a broker as osb_read_request does, with the texts of its ids and the parts of a
+ * Provision's body: parameters, context, maintenance_info, and others, the object of all other members but service_id
+ * and plan_id. A part is JSON with no spaces, numbers as they are written, and members in their order. The texts go to
+ * the buffer one after the other, in the order of struct osb_received, and the length of all to *needed.
+ * OSB_DONE, OSB_NOT_UTF8 (prefix or method), OSB_REFUSED_TARGET, OSB_REFUSED_METHOD, OSB_REFUSED_INSTANCE,
+ * OSB_REFUSED_LENGTH, and the first of OSB_REFUSED_REPEATED to OSB_REFUSED_SPACE in the order of docs/wire.md,
+ * OSB_TOO_SMALL, OSB_MEMORY. */
+uint32_t osb_receive_request(const uint8_t *prefix, size_t prefix_length, size_t longest_body, const uint8_t *method,
+                             size_t method_length, const uint8_t *target, size_t target_length, const uint8_t *body,
+                             size_t body_length, struct osb_asked *asked, struct osb_received *received,
+                             uint8_t *buffer, size_t bytes, size_t *needed);
+
+/* Writes the JSON that stands under a name in the object that a body is, with no spaces, numbers as they are written,
+ * and members in their order. Of a name that stands twice the last counts.
+ * OSB_DONE, OSB_NOT_UTF8 (name), OSB_NO_MEMBER, OSB_TOO_SMALL, OSB_MEMORY. */
+uint32_t osb_member_text(const uint8_t *body, size_t length, const uint8_t *name, size_t name_length, uint8_t *buffer,
+                         size_t bytes, size_t *needed);
+
+/* Writes the digest for osb_holding_begin of what the body of a Provision asks for: that of its parameters, or 32
+ * zeroes if it has none. Context, organization and space don't count (this project's choice).
+ * OSB_DONE, OSB_MEMORY; if it isn't done, the digest is as before. */
+uint32_t osb_attributes_digest(const uint8_t *body, size_t length, uint8_t digest[32]);
+
+/* Writes the digest of the JSON of parameters: the SHA-256 of the same JSON with no spaces, each number as it is
+ * written, and the members of each object in ascending order of their names. {} and null have 32 zeroes. All of this is
+ * this project's choice.
+ * OSB_DONE, OSB_NOT_JSON, OSB_MEMORY; if it isn't done, the digest is as before. */
+uint32_t osb_parameters_digest(const uint8_t *parameters, size_t length, uint8_t digest[32]);
+
 /* The request for a broker, with the service and the plan that are held, which count where has_held is true: they stand
  * in the place of those that a Poll lacks.
  * OSB_DONE, OSB_BAD_ASKED. */
@@ -420,8 +539,16 @@ uint32_t osb_asked_operation(const uint8_t *target, size_t length, uint8_t *buff
 uint32_t osb_write_answer(struct osb_answer answer, bool has_operation, const uint8_t *operation,
                           size_t operation_length, uint8_t *buffer, size_t bytes, size_t *needed);
 
-/* The HTTP status of a refusal, OSB_REFUSED_TARGET to OSB_REFUSED_SPACE, and 503 of OSB_MEMORY; 0 of every other
- * number. */
+/* Writes the body of an answer with a description for a person. The description counts where has_description is true,
+ * and is written for an error, in place of the usual sentence, and for a last operation that failed; of one with more
+ * than 1,000 characters the first 1,000 (this project's choice). The rest is as in osb_write_answer.
+ * OSB_DONE, OSB_NOT_UTF8 (an operation or a description that counts), OSB_TOO_SMALL, OSB_MEMORY. */
+uint32_t osb_write_told_answer(struct osb_answer answer, bool has_operation, const uint8_t *operation,
+                               size_t operation_length, bool has_description, const uint8_t *description,
+                               size_t description_length, uint8_t *buffer, size_t bytes, size_t *needed);
+
+/* The HTTP status of a refusal, OSB_REFUSED_TARGET to OSB_REFUSED_SPACE and OSB_REFUSED_MAINTENANCE, and 503 of
+ * OSB_MEMORY; 0 of every other number. */
 uint16_t osb_refusal_status(uint32_t refusal);
 
 /* Writes the body of a refusal. It takes no memory, so that want of it can be told.
@@ -440,18 +567,70 @@ uint32_t osb_api_version(bool has_value, const uint8_t *value, size_t length);
 uint32_t osb_basic_auth(const uint8_t *value, size_t length, const uint8_t *user, size_t user_length,
                         const uint8_t *password, size_t password_length);
 
+/* Reads the header X-Broker-API-Originating-Identity: the platform, a blank, and an object of JSON in padded base64.
+ * The name of the platform and then the text of the object go to the buffer, the length of the name to *platform, and
+ * the length of both to *needed.
+ * OSB_DONE, OSB_NOT_UTF8, OSB_NO_IDENTITY, OSB_TOO_SMALL (*platform is then written too), OSB_MEMORY. */
+uint32_t osb_originating_identity(const uint8_t *value, size_t length, size_t *platform, uint8_t *buffer, size_t bytes,
+                                  size_t *needed);
+
+/* Judges the header X-Broker-API-Request-Identity. If it is done, the broker returns the value in the same header of
+ * its answer. A value that is empty or has a control character names nobody (this project's choice).
+ * OSB_DONE, OSB_NOT_UTF8, OSB_NO_IDENTITY. */
+uint32_t osb_request_identity(const uint8_t *value, size_t length);
+
 /* Reads the seconds that a broker names in the header Retry-After.
  * OSB_DONE, OSB_NO_SECONDS. */
 uint32_t osb_retry_after(const uint8_t *value, size_t length, uint64_t *seconds);
 
 /* Reads the plans that a catalogue's document names, as a broker answers it to GET /v2/catalog; a plan is asynchronous
- * where its member `asynchronous` is true. They go to the front of `plans`, which has `places`, in ascending order of
- * service and plan, and how many they are to *needed. What is behind them is as before.
+ * where its member `x-osb-asynchronous` is true, or `asynchronous` if it lacks that. They go to the front of `plans`,
+ * which has `places`, in ascending order of service and plan, and how many they are to *needed. What is behind them is
+ * as before.
  * OSB_DONE, OSB_NOT_JSON, OSB_NO_SERVICES, and the first of OSB_BAD_SERVICE, OSB_NO_PLANS, OSB_BAD_PLAN,
  * OSB_BAD_PLAN_MODE and OSB_PLAN_TWICE in the document's order, OSB_TOO_SMALL (*needed is then written, and the places
  * are as before), OSB_MEMORY. */
 uint32_t osb_catalogue_plans(const uint8_t *document, size_t length, struct osb_plan *plans, size_t places,
                              size_t *needed);
+
+/* The endpoints that a broker serves besides those of Provision, Deprovision and Poll. */
+struct osb_endpoints {
+    bool updating;           /* of an instance, which plan_updateable promises */
+    bool bindings;           /* which bindable promises */
+    bool fetching_instances; /* which instances_retrievable promises */
+    bool fetching_bindings;  /* which bindings_retrievable promises */
+};
+
+/* Judges whether a broker that serves these endpoints can have the document as its catalogue (section Catalog
+ * Management): the plans as osb_catalogue_plans reads them, and then the names, descriptions and flags of services and
+ * plans, and the numbers of their ids (docs/wire.md has the table).
+ * OSB_DONE, OSB_NOT_JSON, OSB_NO_SERVICES, and the first of OSB_BAD_SERVICE, OSB_NO_PLANS, OSB_BAD_PLAN,
+ * OSB_BAD_PLAN_MODE and OSB_PLAN_TWICE in the document's order, and then the first of OSB_NO_NAME to
+ * OSB_BINDINGS_UNSERVED in the document's order, OSB_SAME_NUMBER, OSB_MEMORY. */
+uint32_t osb_catalogue_check(const uint8_t *document, size_t length, const struct osb_endpoints *serves);
+
+/* Writes the document that a broker serves as its catalogue: the object that is given, with no spaces, and with the
+ * member x-osb-tombstones, which is true. A platform with this library learns from it that the broker never creates an
+ * id again (this project's choice).
+ * OSB_DONE, OSB_NOT_AN_OBJECT, OSB_TOO_SMALL, OSB_MEMORY. */
+uint32_t osb_served_catalogue(const uint8_t *document, size_t length, uint8_t *buffer, size_t bytes, size_t *needed);
+
+/* Whether a target asks for the catalogue: the path is the prefix and /v2/catalog, or stands for that as in
+ * osb_read_request. False too where the prefix isn't UTF-8. */
+bool osb_asks_for_catalogue(const uint8_t *prefix, size_t prefix_length, const uint8_t *target, size_t target_length);
+
+/* Writes the maintenance_info.version that a catalogue's document has of a plan of a service (section Catalog
+ * Management).
+ * OSB_DONE, OSB_NO_PLAN_VERSION, OSB_TOO_SMALL, OSB_MEMORY. */
+uint32_t osb_plan_version(const uint8_t *document, size_t length, struct osb_id service, struct osb_id plan,
+                          uint8_t *buffer, size_t bytes, size_t *needed);
+
+/* Judges whether the body of a Provision names another maintenance_info.version than the plan has, which is
+ * osb_plan_version's and counts where has_version is true. If so, osb_refusal_status and osb_refusal_body give the
+ * answer (section Maintenance Info Object). A plan or a request without a version conflicts with nothing.
+ * OSB_DONE, OSB_NOT_UTF8 (a version that counts), OSB_REFUSED_MAINTENANCE, OSB_MEMORY. */
+uint32_t osb_maintenance_conflict(bool has_version, const uint8_t *version, size_t version_length, const uint8_t *body,
+                                  size_t body_length);
 
 #ifdef __cplusplus
 }

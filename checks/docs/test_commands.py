@@ -154,10 +154,16 @@ def test_story_in_c(texts: list[str], workdir: Workdir) -> None:
     assert workdir.run(f"./libosb build build\n{texts[0]}") == read("examples/c/story.out")
 
 
+@covers("docs/c.md", "cc -std=c99 -Iinclude -o build/received ")
+def test_received_in_c(texts: list[str], workdir: Workdir) -> None:
+    needs("cc")
+    assert workdir.run(f"./libosb build build\n{texts[0]}") == read("examples/c/received.out")
+
+
 @covers("docs/c.md", "rustc ")
-def test_story_in_rust(texts: list[str], workdir: Workdir) -> None:
+def test_first_program_in_rust(texts: list[str], workdir: Workdir) -> None:
     needs("rustc")
-    assert workdir.run(f"./libosb build build\n{texts[0]}") == read("examples/c/story.out")
+    assert workdir.run(f"./libosb build build\n{texts[0]}") == read("examples/c/first.out")
 
 
 # ---- Go

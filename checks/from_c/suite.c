@@ -59,9 +59,10 @@ void __wrap_free(void *old)
 
 /* All that calls write to. */
 static struct out {
-    uint8_t text[400];
-    size_t needed;
+    uint8_t text[500];
+    size_t needed, platform;
     uint64_t seconds;
+    uint8_t digest[32];
     struct osb_id id;
     struct osb_record record;
     struct osb_holding holding;
@@ -69,6 +70,8 @@ static struct out {
     struct osb_answer answer;
     struct osb_begun begun;
     struct osb_asked asked;
+    struct osb_details details;
+    struct osb_received received;
     struct osb_plan plans[3];
 } out, before;
 
@@ -107,8 +110,10 @@ static void returned(uint32_t value, uint32_t wanted)
     is_done = memory.refusals == 0;
     check(value == (is_done ? wanted : (uint32_t)OSB_MEMORY), "it returned something else");
     check(memory.in_use == 0, "memory is left");
-    if (value == OSB_TOO_SMALL)
+    if (value == OSB_TOO_SMALL) {
         before.needed = out.needed;
+        before.platform = out.platform;
+    }
     if (value != OSB_DONE)
         check(memcmp(&before, &out, sizeof out) == 0, "it has written something");
     if (is_done)
@@ -140,9 +145,16 @@ static bool is_text(const char *text)
 #define PAIR "service_id=" SERVICE "&plan_id=" PLAN
 
 static const struct osb_id id = {0, 1}, service = {0, 0xa0}, plan = {0, 0xb1};
+static const uint8_t no_attributes[32];
 static const struct osb_request provision = {OSB_KIND_PROVISION, true, {0, 1}, {0, 0xa0}, {0, 0xb1}};
 static const struct osb_request poll = {OSB_KIND_POLL, true, {0, 1}, {0, 0xa0}, {0, 0xb1}};
 static const struct osb_request deprovision = {OSB_KIND_DEPROVISION, true, {0, 1}, {0, 0xa0}, {0, 0xb1}};
+
+/* A Poll of "a database", a "small" one of "postgres". The numbers are the first 128 bits that sha256sum prints. */
+static const struct osb_request named = {OSB_KIND_POLL, true,
+    {UINT64_C(0xe152d5ae22936201), UINT64_C(0xab8402b3f72750be)},
+    {UINT64_C(0xa942b37ccfaf5a81), UINT64_C(0x3b1432caa209a43b)},
+    {UINT64_C(0x81db8ebbbbc69c6c), UINT64_C(0x6ad4a6aa92b76e0c)}};
 
 static bool is_same_id(struct osb_id a, struct osb_id b)
 {
@@ -155,6 +167,13 @@ static struct osb_answer answered(uint16_t status, uint8_t body)
     answer.status = status;
     answer.body = body;
     return answer;
+}
+
+/* Whether the text that was written ends so. */
+static bool ends_with(const char *text)
+{
+    size_t length = strlen(text);
+    return out.needed >= length && memcmp(out.text + out.needed - length, text, length) == 0;
 }
 
 static bool is_recorded(uint64_t attempt, uint8_t state, uint8_t kind)
@@ -173,6 +192,12 @@ static void call_ids(void)
     CALL(0, (osb_id_to_text(out.id, out.text), 0));
     THEN(memcmp(out.text, "67e55044-10b1-426f-9247-bb680e5fe0c8", 36) == 0);
     CALL(OSB_NOT_AN_ID, osb_id_from_text(TEXT("67e5504410b1426f9247bb680e5fe0c8"), &out.id));
+    CALL(OSB_DONE, osb_id_of_text(TEXT("a database"), &out.id));
+    THEN(is_same_id(out.id, named.id));
+    CALL(OSB_DONE, osb_id_of_text(TEXT("67e55044-10b1-426f-9247-bb680e5fe0c8"), &out.id));
+    THEN(out.id.high == UINT64_C(0x67e5504410b1426f) && out.id.low == UINT64_C(0x9247bb680e5fe0c8));
+    CALL(OSB_NOT_UTF8, osb_id_of_text(TEXT("\xff"), &out.id));
+    CALL(OSB_NOT_AN_ID, osb_id_of_text(TEXT(""), &out.id));
 }
 
 static void call_tables(void)
@@ -216,6 +241,10 @@ static void call_records(void)
     CALL(OSB_NOTHING_DUE, osb_record_send(&out.record, id, &out.request));
     CALL(OSB_DONE, osb_record_remove(&out.record));
     THEN(is_recorded(0, OSB_STATE_CLEANING, OSB_KIND_NONE));
+    out.record.state = OSB_STATE_CLEANING_POLLING;
+    CALL(OSB_DONE, osb_record_retry(&out.record));
+    THEN(is_recorded(0, OSB_STATE_CLEANING, OSB_KIND_NONE));
+    CALL(OSB_NOT_POLLING, osb_record_retry(&out.record));
     row.state = out.record.state = 7;
     CALL(OSB_BAD_ROW, osb_record_from_row(&row, &out.record));
     CALL(OSB_BAD_RECORD, osb_record_remove(&out.record));
@@ -243,10 +272,13 @@ static void call_holdings(void)
     out.holding = nothing;
     CALL(OSB_NOTHING_RUNNING, osb_holding_finish(&out.holding, true));
     CALL(OSB_NOTHING_BEGUN, osb_holding_end(&out.holding, OSB_MODE_ASYNC, OSB_OUTCOME_DONE, &out.answer));
-    CALL(OSB_DONE, osb_holding_begin(&out.holding, OSB_MODE_ASYNC, &provision, &out.begun));
+    CALL(OSB_DONE, osb_holding_begin(&out.holding, OSB_MODE_ASYNC, false, &provision, out.digest, &out.begun));
     THEN(out.begun.work == OSB_WORK_START_MAKING && out.holding.has_work && !out.holding.has_row);
-    CALL(OSB_DONE, osb_holding_begin(&out.holding, OSB_MODE_ASYNC, &provision, &out.begun));
+    THEN(memcmp(out.holding.attributes, out.digest, 32) == 0);
+    CALL(OSB_DONE, osb_holding_begin(&out.holding, OSB_MODE_ASYNC, false, &provision, out.digest, &out.begun));
     THEN(out.begun.work == OSB_WORK_NONE && out.begun.answer.status == 503);
+    CALL(OSB_DONE, osb_holding_begin(&out.holding, OSB_MODE_ASYNC, false, &provision, no_attributes, &out.begun));
+    THEN(out.begun.work == OSB_WORK_NONE && out.begun.answer.status == 409);
     CALL(OSB_DONE, osb_holding_end(&out.holding, OSB_MODE_ASYNC, OSB_OUTCOME_DONE, &out.answer));
     THEN(out.answer.status == 202 && out.answer.body == OSB_BODY_EMPTY);
     THEN(out.holding.has_row && out.holding.row.phase == OSB_PHASE_MAKING && !out.holding.has_work);
@@ -254,30 +286,51 @@ static void call_holdings(void)
     CALL(true, osb_holding_fits(&out.holding, OSB_MODE_ASYNC));
     CALL(false, osb_holding_fits(&out.holding, OSB_MODE_SYNC));
     CALL(OSB_DONE, osb_holding_finish(&out.holding, true));
-    THEN(out.holding.row.phase == OSB_PHASE_READY && !out.holding.is_marked);
-    CALL(OSB_BAD_MODE, osb_holding_handle(&out.holding, 7, &deprovision, OSB_OUTCOME_DONE, &out.answer));
-    CALL(OSB_DONE, osb_holding_handle(&out.holding, OSB_MODE_SYNC, &deprovision, OSB_OUTCOME_DONE, &out.answer));
-    THEN(out.answer.status == 200 && !out.holding.has_row && out.holding.is_marked);
+    THEN(out.holding.row.phase == OSB_PHASE_READY && !out.holding.has_tombstone);
+    CALL(OSB_BAD_MODE, osb_holding_begin(&out.holding, 7, false, &deprovision, no_attributes, &out.begun));
+    CALL(OSB_DONE, osb_holding_begin(&out.holding, OSB_MODE_SYNC, false, &deprovision, no_attributes, &out.begun));
+    THEN(out.begun.work == OSB_WORK_DELETE);
+    CALL(OSB_NOT_A_PROVISION, osb_holding_end(&out.holding, OSB_MODE_SYNC, OSB_OUTCOME_REFUSED_400, &out.answer));
+    CALL(OSB_DONE, osb_holding_end(&out.holding, OSB_MODE_SYNC, OSB_OUTCOME_DONE, &out.answer));
+    THEN(out.answer.status == 200 && !out.holding.has_row && out.holding.has_tombstone);
     out.holding.has_row = true;
     CALL(OSB_BAD_HOLDING, osb_holding_finish(&out.holding, true));
     CALL(OSB_WORK_DELETE, osb_work_of(OSB_KIND_DEPROVISION, OSB_MODE_SYNC));
     CALL(OSB_WORK_NONE, osb_work_of(OSB_KIND_POLL, OSB_MODE_SYNC));
 }
 
+static void call_waiting(void)
+{
+    static const struct osb_holding nothing;
+    out.holding = nothing;
+    CALL(OSB_NOT_WAITING, osb_holding_give_up_waiting(&out.holding));
+    CALL(OSB_DONE, osb_holding_begin(&out.holding, OSB_MODE_ASYNC, true, &provision, no_attributes, &out.begun));
+    THEN(out.begun.work == OSB_WORK_NONE && out.begun.answer.status == 202);
+    THEN(out.holding.has_row && out.holding.row.phase == OSB_PHASE_WAITING && !out.holding.has_work);
+    CALL(OSB_DONE, osb_holding_give_up_waiting(&out.holding));
+    THEN(out.holding.has_row && out.holding.row.phase == OSB_PHASE_FAILED && !out.holding.has_tombstone);
+}
+
 static void call_holding_texts(void)
 {
     /* The longest text of a holding. */
-    static const char text[] = "{\"marked\":false,\"row\":{\"phase\":\"delete-failed\",\"plan\":\"" PLAN
-                               "\",\"service\":\"" SERVICE "\"},\"version\":1,\"work\":{\"accepts_incomplete\":true,"
+    static const char text[] = "{\"attributes\":\"0123456789abcdef0123456789abcdef0123456789abcdef0123456789abcdef\","
+                               "\"row\":{\"phase\":\"delete-failed\",\"plan\":\"" PLAN "\",\"service\":\"" SERVICE
+                               "\"},\"tombstone\":false,\"version\":2,\"work\":{\"accepts_incomplete\":false,"
                                "\"id\":\"" ID "\",\"kind\":\"deprovision\",\"plan\":\"" PLAN "\",\"service\":\"" SERVICE
                                "\"}}";
     struct osb_holding holding = {{{0, 0xa0}, {0, 0xb1}, OSB_PHASE_DELETE_FAILED},
-        {OSB_KIND_DEPROVISION, true, {0, 1}, {0, 0xa0}, {0, 0xb1}}, true, true, false};
+        {OSB_KIND_DEPROVISION, false, {0, 1}, {0, 0xa0}, {0, 0xb1}}, true, true, false, {0}};
+    static const uint8_t digits[8] = {0x01, 0x23, 0x45, 0x67, 0x89, 0xab, 0xcd, 0xef};
+    size_t at;
+    for (at = 0; at < 32; at++)
+        holding.attributes[at] = digits[at % 8];
     CALL(OSB_DONE, osb_holding_to_text(&holding, INTO));
     THEN(is_text(text));
     CALL(OSB_DONE, osb_holding_from_text(TEXT(text), &out.holding));
-    THEN(out.holding.has_row && out.holding.row.phase == OSB_PHASE_DELETE_FAILED && !out.holding.is_marked);
-    THEN(out.holding.has_work && out.holding.work.kind == OSB_KIND_DEPROVISION && out.holding.work.accepts_incomplete);
+    THEN(out.holding.has_row && out.holding.row.phase == OSB_PHASE_DELETE_FAILED && !out.holding.has_tombstone);
+    THEN(out.holding.has_work && out.holding.work.kind == OSB_KIND_DEPROVISION);
+    THEN(memcmp(out.holding.attributes, holding.attributes, 32) == 0);
     THEN(is_same_id(out.holding.work.id, id) && is_same_id(out.holding.work.plan, plan));
 }
 
@@ -303,6 +356,48 @@ static void call_platform_wire(void)
     CALL(OSB_DONE, osb_retry_after(TEXT("120"), &out.seconds));
     THEN(out.seconds == 120);
     CALL(OSB_NO_SECONDS, osb_retry_after(TEXT("Fri, 31 Dec 1999 23:59:59 GMT"), &out.seconds));
+}
+
+static void call_named(void)
+{
+    static const char target[] = "/a/v2/service_instances/a%20database/last_operation?service_id=postgres&plan_id=small"
+                                 "&accepts_incomplete=true&operation=making+1";
+    static const char body[] = "{\"context\":{},\"organization_guid\":\"o\",\"plan_id\":\"small\","
+                               "\"service_id\":\"postgres\",\"space_guid\":\"s\"}";
+    CALL(OSB_DONE, osb_write_named_target(TEXT("/a"), &named, TEXT("a database"), TEXT("postgres"), TEXT("small"), true,
+                                          TEXT("making 1"), INTO));
+    THEN(is_text(target));
+    CALL(OSB_NOT_INSTANCE_TEXT, osb_write_named_target(TEXT("/a"), &named, TEXT("A database"), TEXT("postgres"),
+                                                       TEXT("small"), false, TEXT(""), INTO));
+    CALL(OSB_NOT_SERVICE_TEXT, osb_write_named_target(TEXT("/a"), &named, TEXT("a database"), TEXT("small"),
+                                                      TEXT("postgres"), false, TEXT(""), INTO));
+    CALL(OSB_NOT_PLAN_TEXT, osb_write_named_target(TEXT("/a"), &named, TEXT("a database"), TEXT("postgres"), TEXT(""),
+                                                   false, TEXT(""), INTO));
+    CALL(OSB_DONE, osb_write_named_body(OSB_KIND_PROVISION, TEXT("postgres"), TEXT("small"), TEXT("o"), TEXT("s"),
+                                        TEXT("{\"context\":{}}"), INTO));
+    THEN(is_text(body));
+    CALL(OSB_NOT_AN_OBJECT, osb_write_named_body(OSB_KIND_PROVISION, TEXT("postgres"), TEXT("small"), TEXT("o"),
+                                                 TEXT("s"), TEXT("[]"), INTO));
+}
+
+static void call_details(void)
+{
+    static const char body[] = "{\"description\":\"It is full.\",\"error\":\"Conflict\",\"dashboard_url\":\"\","
+                               "\"metadata\": {\"labels\": {}},\"instance_usable\":false,\"update_repeatable\":true}";
+    CALL(OSB_DONE, osb_read_details(TEXT(body), &out.details, INTO));
+    THEN(is_text("It is full.Conflict{\"labels\":{}}"));
+    THEN(out.details.has_description && out.details.description == 11);
+    THEN(out.details.has_error && out.details.error == 8);
+    THEN(out.details.has_dashboard_url && out.details.dashboard_url == 0);
+    THEN(!out.details.has_operation && out.details.operation == 0);
+    THEN(out.details.has_metadata && out.details.metadata == 13);
+    THEN(out.details.has_instance_usable && !out.details.instance_usable);
+    THEN(out.details.has_update_repeatable && out.details.update_repeatable);
+    CALL(OSB_TOO_SMALL, osb_read_details(TEXT(body), &out.details, out.text, 31, &out.needed));
+    THEN(out.needed == 32);
+    CALL(OSB_DONE, osb_member_text(TEXT(body), TEXT("metadata"), INTO));
+    THEN(is_text("{\"labels\":{}}"));
+    CALL(OSB_NO_MEMBER, osb_member_text(TEXT(body), TEXT("labels"), INTO));
 }
 
 /* ---- The wire, as a broker uses it (docs/wire.md). */
@@ -334,6 +429,69 @@ static void call_requests(void)
     CALL(OSB_UNAUTHORIZED, osb_basic_auth(TEXT("Basic QWxhZGRpbjpvcGVuIHNlc2FtZQ=="), TEXT("Aladdin"), TEXT("open")));
 }
 
+static void call_received(void)
+{
+    static const char body[] = "{\"service_id\":\"postgres\",\"plan_id\":\"small\",\"parameters\": {\"size\": 1.50},"
+                               "\"organization_guid\":\"o\",\"space_guid\":\"s\",\"context\": null}";
+    static const char texts[] = "a databasepostgressmall{\"size\":1.50}null"
+                                "{\"organization_guid\":\"o\",\"space_guid\":\"s\"}";
+    static const char target[] = "/a/v2/service_instances/a%20database";
+    CALL(OSB_DONE, osb_receive_request(TEXT("/a"), 999, TEXT("PUT"), TEXT(target), TEXT(body), &out.asked,
+                                       &out.received, INTO));
+    THEN(is_text(texts));
+    THEN(out.asked.kind == OSB_KIND_PROVISION && is_same_id(out.asked.id, named.id));
+    THEN(is_same_id(out.asked.service, named.service) && is_same_id(out.asked.plan, named.plan));
+    THEN(out.received.instance == 10 && out.received.has_service && out.received.service == 8);
+    THEN(out.received.has_plan && out.received.plan == 5);
+    THEN(out.received.has_parameters && out.received.parameters == 13);
+    THEN(out.received.has_context && out.received.context == 4);
+    THEN(!out.received.has_maintenance_info && out.received.maintenance_info == 0);
+    THEN(out.received.has_others && out.received.others == 42);
+    CALL(OSB_TOO_SMALL, osb_receive_request(TEXT("/a"), 999, TEXT("PUT"), TEXT(target), TEXT(body), &out.asked,
+                                            &out.received, out.text, 10, &out.needed));
+    THEN(out.needed == strlen(texts));
+    CALL(OSB_DONE, osb_receive_request(TEXT(""), 9, TEXT("GET"), TEXT(LAST), TEXT(""), &out.asked, &out.received,
+                                       INTO));
+    THEN(is_text(ID) && out.received.instance == 36 && !out.received.has_service && !out.received.has_others);
+    CALL(OSB_REFUSED_BODY, osb_receive_request(TEXT("/a"), 999, TEXT("PUT"), TEXT(target), TEXT("[]"), &out.asked,
+                                               &out.received, INTO));
+}
+
+static void call_digests(void)
+{
+    /* What sha256sum prints of {"a":1,"size":1.50}. */
+    static const uint8_t digest[32] = {0xcf, 0x78, 0x33, 0xb1, 0xb9, 0x41, 0x9e, 0x8b, 0x4e, 0x93, 0x99, 0xe7, 0x2a,
+        0x2c, 0x10, 0x99, 0x71, 0x55, 0xcb, 0x66, 0x74, 0x74, 0xcf, 0x2c, 0x15, 0xff, 0x43, 0xc1, 0xb9, 0x6c, 0x78,
+        0xb6};
+    CALL(OSB_DONE, osb_parameters_digest(TEXT("null"), out.digest));
+    THEN(memcmp(out.digest, no_attributes, 32) == 0);
+    CALL(OSB_DONE, osb_parameters_digest(TEXT("{ \"size\": 1.50, \"a\": 1 }"), out.digest));
+    THEN(memcmp(out.digest, digest, 32) == 0);
+    CALL(OSB_NOT_JSON, osb_parameters_digest(TEXT("{"), out.digest));
+    CALL(OSB_DONE, osb_attributes_digest(TEXT("{\"context\":{\"a\":1}}"), out.digest));
+    THEN(memcmp(out.digest, no_attributes, 32) == 0);
+    CALL(OSB_DONE, osb_attributes_digest(TEXT("{\"parameters\":{\"size\":1.50,\"a\":1}}"), out.digest));
+    THEN(memcmp(out.digest, digest, 32) == 0);
+}
+
+static void call_identities(void)
+{
+    /* The examples of the standard, sections Originating Identity and Request Identity. */
+    static const char value[] = "cloudfoundry "
+                                "eyANCiAgInVzZXJfaWQiOiAiNjgzZWE3NDgtMzA5Mi00ZmY0LWI2NTYtMzljYWNjNGQ1MzYwIg0KfQ==";
+    static const char user[] = "cloudfoundry{ \r\n  \"user_id\": \"683ea748-3092-4ff4-b656-39cacc4d5360\"\r\n}";
+    out.platform = 0;
+    CALL(OSB_TOO_SMALL, osb_originating_identity(TEXT(value), &out.platform, out.text, 12, &out.needed));
+    THEN(out.platform == 12 && out.needed == strlen(user));
+    out.platform = 0;
+    CALL(OSB_DONE, osb_originating_identity(TEXT(value), &out.platform, INTO));
+    THEN(is_text(user) && out.platform == 12);
+    CALL(OSB_NO_IDENTITY, osb_originating_identity(TEXT("cloudfoundry"), &out.platform, INTO));
+    CALL(OSB_DONE, osb_request_identity(TEXT("e26cee84-6b38-4456-b34e-d1a9f002c956")));
+    CALL(OSB_NO_IDENTITY, osb_request_identity(TEXT("a\nb")));
+    CALL(OSB_NOT_UTF8, osb_request_identity(TEXT("\xff")));
+}
+
 static void call_answers(void)
 {
     static const char catalogue[] = "{\"services\":[{\"id\":\"" SERVICE "\",\"plans\":[{\"id\":"
@@ -344,15 +502,47 @@ static void call_answers(void)
     THEN(is_text("{\"operation\":\"task_10\"}"));
     CALL(OSB_DONE, osb_write_answer(answered(200, OSB_BODY_FAILED), false, TEXT(""), INTO));
     THEN(is_text("{\"state\":\"failed\"}"));
+    CALL(OSB_DONE, osb_write_told_answer(answered(200, OSB_BODY_FAILED), false, TEXT(""), true, TEXT("It is full."),
+                                         INTO));
+    THEN(is_text("{\"description\":\"It is full.\",\"state\":\"failed\"}"));
+    CALL(OSB_DONE, osb_write_told_answer(answered(202, OSB_BODY_EMPTY), true, TEXT("task_10"), false, TEXT(""), INTO));
+    THEN(is_text("{\"operation\":\"task_10\"}"));
     CALL(412, osb_refusal_status(OSB_REFUSED_VERSION));
     CALL(503, osb_refusal_status(OSB_MEMORY));
     CALL(OSB_DONE, osb_refusal_body(OSB_REFUSED_METHOD, INTO));
-    THEN(out.needed > strlen(error) && memcmp(out.text + out.needed - strlen(error), error, strlen(error)) == 0);
+    THEN(ends_with(error));
     CALL(OSB_NOT_REFUSED, osb_refusal_body(OSB_DONE, INTO));
     CALL(OSB_DONE, osb_catalogue_plans(TEXT(catalogue), out.plans, 3, &out.needed));
     THEN(out.needed == 2 && is_same_id(out.plans[0].service, service) && is_same_id(out.plans[0].plan, plan));
     THEN(!out.plans[0].is_asynchronous && out.plans[1].plan.low == 0xb2 && out.plans[1].is_asynchronous);
     THEN(out.plans[2].plan.low == before.plans[2].plan.low);
+}
+
+static void call_catalogues(void)
+{
+    static const char catalogue[] =
+        "{\"services\":[{\"id\":\"postgres\",\"name\":\"postgres\",\"description\":\"A database\",\"bindable\":true,"
+        "\"plans\":[{\"id\":\"small\",\"name\":\"small\",\"description\":\"One\","
+        "\"maintenance_info\":{\"version\":\"2.1.1+abcdef\"}}]}]}";
+    struct osb_endpoints serves = {false, true, false, false};
+    CALL(OSB_DONE, osb_catalogue_check(TEXT(catalogue), &serves));
+    serves.bindings = false;
+    CALL(OSB_BINDABLE_UNSERVED, osb_catalogue_check(TEXT(catalogue), &serves));
+    CALL(OSB_NO_SERVICES, osb_catalogue_check(TEXT("{}"), &serves));
+    CALL(OSB_DONE, osb_served_catalogue(TEXT(" { } "), INTO));
+    THEN(is_text("{\"x-osb-tombstones\":true}"));
+    CALL(OSB_NOT_AN_OBJECT, osb_served_catalogue(TEXT("[]"), INTO));
+    CALL(true, osb_asks_for_catalogue(TEXT("/a"), TEXT("/a/v2/catalog?x=1")));
+    CALL(false, osb_asks_for_catalogue(TEXT("/a"), TEXT("/v2/catalog")));
+    CALL(OSB_DONE, osb_plan_version(TEXT(catalogue), named.service, named.plan, INTO));
+    THEN(is_text("2.1.1+abcdef"));
+    CALL(OSB_NO_PLAN_VERSION, osb_plan_version(TEXT(catalogue), named.plan, named.service, INTO));
+    CALL(OSB_DONE, osb_maintenance_conflict(true, TEXT("2"), TEXT("{\"maintenance_info\":{\"version\":\"2\"}}")));
+    CALL(OSB_REFUSED_MAINTENANCE, osb_maintenance_conflict(true, TEXT("2"),
+                                                           TEXT("{\"maintenance_info\":{\"version\":\"1\"}}")));
+    CALL(422, osb_refusal_status(OSB_REFUSED_MAINTENANCE));
+    CALL(OSB_DONE, osb_refusal_body(OSB_REFUSED_MAINTENANCE, INTO));
+    THEN(ends_with("\"error\":\"MaintenanceInfoConflict\"}"));
 }
 
 int main(void)
@@ -363,9 +553,16 @@ int main(void)
     call_records();
     call_record_texts();
     call_holdings();
+    call_waiting();
     call_holding_texts();
     call_platform_wire();
+    call_named();
+    call_details();
     call_requests();
+    call_received();
+    call_digests();
+    call_identities();
     call_answers();
+    call_catalogues();
     return failed;
 }

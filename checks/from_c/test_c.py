@@ -22,6 +22,7 @@ HERE = Path(__file__).resolve().parent
 SOURCES = {
     "first": TOP / "examples/c/first.c",
     "story": TOP / "examples/c/story.c",
+    "received": TOP / "examples/c/received.c",
     "suite": HERE / "suite.c",
 }
 EXPORTS = sorted(it.name for it in CALLS)

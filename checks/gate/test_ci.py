@@ -13,12 +13,13 @@ TOP = Path(__file__).resolve().parents[2]
 
 pytestmark = pytest.mark.slow
 
-SLURM = "skipped: checks.replay_log.test_engines::test_slurm: sbatch isn't installed (apt-get install slurm-client)"
+SLURM = "skipped: checks.docs.test_commands::test_log_by_slurm[docs/logs.md]: Slurm isn't installed, or doesn't run (x)"
 KIT = (
     "skipped: prebuilt/x86_64-linux/libosb.a: it was built by another kit, kit 1, and this one is kit 2. "
     "Run make prebuilt under that kit"
 )
 OTHER = "skipped: checks.page.test_page::test_paint: chromium isn't installed"
+NAMED = "skipped: checks.page.test_page::test_sbatch: curl isn't installed"
 
 
 class Runner:
@@ -71,6 +72,7 @@ def runner(tmp_path: Path) -> Runner:
         ([], 0, 0, ""),
         ([SLURM, KIT], 0, 0, ""),
         ([SLURM, OTHER], 0, 1, "ci: these skips aren't allowed:"),
+        ([NAMED], 0, 1, "ci: these skips aren't allowed:"),
         ([], 1, 1, ""),
     ],
 )
@@ -114,6 +116,19 @@ def test_silent_registry_allows_skips_and_no_failure(runner: Runner) -> None:
     assert status == 0 and "never answered: all skips are allowed in this run" in reported
     runner.check(OTHER, failed=1)
     assert runner.run()[0] == 1
+
+
+def test_packages_that_cannot_be_fetched_allow_skips(runner: Runner) -> None:
+    runner.script("bin/apt-get", '[ "$1" = update ] || { echo "E: Failed to fetch http://deb/wrk"; exit 100; }')
+    runner.check(OTHER)
+    status, reported = runner.run()
+    assert status == 0 and "never answered: all skips are allowed in this run" in reported
+
+
+def test_packages_that_cannot_be_installed_fail(runner: Runner) -> None:
+    runner.script("bin/apt-get", '[ "$1" = update ] || { echo "E: dpkg returned an error code"; exit 100; }')
+    status, reported = runner.run()
+    assert status == 1 and reported.endswith("the packages can't be installed, though the registry answers")
 
 
 def test_package_that_does_not_exist_fails(runner: Runner) -> None:

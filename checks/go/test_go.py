@@ -1,15 +1,11 @@
-"""The Go package and its examples: gofmt, go vet, staticcheck, the tests with the race detector, and the programs."""
+"""The Go package and its examples: gofmt, go vet, staticcheck, and the tests with the race detector."""
 from __future__ import annotations
 
 import fcntl
 import hashlib
 import os
 import shutil
-import socket
 import subprocess
-import time
-import urllib.error
-import urllib.request
 from pathlib import Path
 
 import pytest
@@ -67,11 +63,6 @@ class Go:
             fcntl.flock(lock, fcntl.LOCK_EX)
             return run(list(line), folder, **{**self.environment, **environment})
 
-    def build(self, program: str, to: Path) -> Path:
-        """Builds a program of examples/go with the race detector."""
-        self(EXAMPLES, "go", "build", "-race", "-o", str(to / program), f"./{program}")
-        return to / program
-
 
 @pytest.fixture(scope="session")
 def go(library: Path, tmp_path_factory: pytest.TempPathFactory) -> Go:
@@ -116,44 +107,3 @@ def test_staticcheck(go: Go, staticcheck: str, module: Path) -> None:
 def test_tests(go: Go, module: Path) -> None:
     """The tests of each package, and the examples of the package's page."""
     go(module, "go", "test", "-race", "-count=1", "-timeout", "5m", "./...")
-
-
-def test_story(go: Go, tmp_path: Path) -> None:
-    printed = run([str(go.build("story", tmp_path))], tmp_path, **go.environment)
-    assert printed == (TOP / "examples" / "c" / "story.out").read_text(encoding="utf-8")
-
-
-def test_broker_and_platform(go: Go, tmp_path: Path) -> None:
-    """The broker of examples/go is asked by curl, and then by the platform of examples/go."""
-    if shutil.which("curl") is None:
-        pytest.skip("curl isn't installed (Debian: curl)")
-    broker, platform = go.build("broker", tmp_path), go.build("platform", tmp_path)
-    with socket.create_server(("127.0.0.1", 0)) as free:
-        port = free.getsockname()[1]
-    environment = {**go.environment, "PORT": str(port), "BROKER_PASSWORD": "secret"}
-    with open(tmp_path / "log", "w") as log:
-        with subprocess.Popen([broker], cwd=tmp_path, env={**os.environ, **environment}, stderr=log) as serving:
-            try:
-                wait_until_it_answers(f"http://127.0.0.1:{port}/", serving)
-                asked = run([str(EXAMPLES / "broker" / "curl.sh")], tmp_path, **environment)
-                ordered = run([str(platform)], tmp_path, **environment)
-            finally:
-                serving.kill()
-    assert asked == (EXAMPLES / "broker" / "curl.out").read_text(encoding="utf-8")
-    assert ordered == (EXAMPLES / "platform" / "platform.out").read_text(encoding="utf-8")
-    assert (tmp_path / "log").read_text() == ""
-
-
-def wait_until_it_answers(url: str, serving: subprocess.Popen[bytes]) -> None:
-    """Returns once the server gives any answer."""
-    for _ in range(300):
-        assert serving.poll() is None, "the broker has ended"
-        try:
-            urllib.request.urlopen(url, timeout=5).close()
-        except urllib.error.HTTPError as answer:
-            answer.close()
-        except OSError:
-            time.sleep(0.1)
-            continue
-        return
-    raise AssertionError(f"nothing answers at {url}")

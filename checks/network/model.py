@@ -1,7 +1,7 @@
 """A second model of osb_network: one instance, by docs/broker.md, docs/platform.md and docs/instance.md.
 
-The model has the tables of both sides, the pending work, the tombstones, the numbers of the requests, and what a
-network, work and crashes do. No code of the crates is used.
+The model has the tables of both sides, the pending work, the tombstones, the rule of the first Poll, the attributes,
+the numbers of the requests, and what a network, work and crashes do. No code of the crates is used.
 """
 
 from __future__ import annotations
@@ -9,10 +9,12 @@ from __future__ import annotations
 from dataclasses import dataclass, field
 from typing import Callable, NamedTuple
 
-OUTCOMES = ["done", "before", "after"]
-THINGS = ["absent", "part", "whole"]
+OUTCOMES = ["done", "before", "after", "refused 400", "refused 422"]
+# The outcomes that the tables of the broker have.
+TABLED = OUTCOMES[:3]
+RESOURCES = ["absent", "part", "whole"]
 STATES = ["-", "wanted", "polling", "ready", "cleaning", "cleaning-polling", "gone", "unsettled"]
-PHASES = ["-", "making", "ready", "failed", "deleting", "delete-failed"]
+PHASES = ["-", "waiting", "making", "ready", "failed", "deleting", "delete-failed"]
 MODES = ["sync", "async", "-"]
 # The pending work, by the mode of the plan and the kind of the request.
 WORKS = ["sync provision", "sync deprovision", "async provision", "async deprovision"]
@@ -22,21 +24,25 @@ PLAIN = [
     "create",
     "send",
     "expire",
+    "retry",
     "remove",
     "timeout",
+    "give-up-waiting",
     "end-unknown",
     "crash-broker",
     "crash-platform",
     "finish ok",
     "finish failed",
     *(f"end {it}" for it in OUTCOMES),
-    *(f"work {it}" for it in THINGS),
+    *(f"work {it}" for it in RESOURCES),
 ]
-NUMBERED = ["arrive", "take", "garbled", "gateway"]
+NUMBERED = ["arrive", "put-off", "take", "garbled", "gateway"]
 ALWAYS = {"crash-broker", "crash-platform"}
 # What the parts of the design are for.
 HARMS = [
     "a Provision after the end",
+    "a Provision after a refusal",
+    "a Provision that nobody polls",
     "a request during the work",
     "a crash during the work",
     "an end that nobody waits for",
@@ -45,10 +51,12 @@ HARMS = [
 
 
 class Request(NamedTuple):
-    """A request that was sent."""
+    """A request that was sent: its plan and the digest of its attributes are numbers."""
 
     kind: str
     accepts: bool
+    plan: int = 0
+    attributes: int = 1
 
 
 class Answer(NamedTuple):
@@ -65,10 +73,26 @@ class Given(NamedTuple):
     answer: Answer
 
 
-class Handled(NamedTuple):
-    """What the broker's table gives: the row's phase after it, and the answer."""
+class Row(NamedTuple):
+    """The broker's row of an instance."""
 
-    phase: str | None
+    plan: int
+    phase: str
+
+
+class Held(NamedTuple):
+    """What a broker holds of an instance. The attributes are those of the row and of the pending work."""
+
+    row: Row | None = None
+    work: Request | None = None
+    tombstone: bool = False
+    attributes: int = 0
+
+
+class Handled(NamedTuple):
+    """What the broker's table gives: the row after it, and the answer."""
+
+    row: Row | None
     answer: Answer
 
 
@@ -110,15 +134,15 @@ def state_after(state: str, kind: str, answer: Answer) -> str:
 DUE = {"polling": "poll", "cleaning-polling": "poll", "cleaning": "deprovision"}
 
 
-# ---- the broker; each instance has one service and plan throughout
+# ---- the broker's tables, by the mode of the request's plan
 
 
 def error(status: int, code: str = "error") -> Answer:
     return Answer(status, code)
 
 
-def ended(outcome: str, before: str | None, after: str | None, done: int) -> Handled:
-    """The phase and the answer once the work has ended so."""
+def ended(outcome: str, before: Row | None, after: Row | None, done: int) -> Handled:
+    """The row and the answer once the work has ended so."""
     if outcome == "before":
         return Handled(before, error(500))
     return Handled(after, error(500) if outcome == "after" else Answer(done, "empty"))
@@ -133,26 +157,32 @@ REPEATED = {
 }
 
 
-def provision(mode: str, phase: str | None, request: Request, outcome: str) -> Handled:
+def provision(mode: str, row: Row | None, request: Request, outcome: str) -> Handled:
     if mode == "-":
-        return Handled(phase, error(400))
+        return Handled(row, error(400))
     if mode == "async" and not request.accepts:
-        return Handled(phase, error(422, "AsyncRequired"))
-    if phase is not None:
-        return Handled(phase, REPEATED[phase])
-    return ended(outcome, None, "ready", 201) if mode == "sync" else ended(outcome, None, "making", 202)
+        return Handled(row, error(422, "AsyncRequired"))
+    if row is not None:
+        return Handled(row, REPEATED[row.phase] if row.plan == request.plan else error(409))
+    if mode == "sync":
+        return ended(outcome, None, Row(request.plan, "ready"), 201)
+    return ended(outcome, None, Row(request.plan, "making"), 202)
 
 
-def deprovision(mode: str, phase: str | None, request: Request, outcome: str) -> Handled:
-    if phase is None:
+def deprovision(mode: str, row: Row | None, request: Request, outcome: str) -> Handled:
+    if row is None:
         return Handled(None, error(410))
+    if row.plan != request.plan or mode == "-":
+        return Handled(row, error(400))
     if mode == "async" and not request.accepts:
-        return Handled(phase, error(422, "AsyncRequired"))
-    if phase == "making":
-        return Handled(phase, error(422, "ConcurrencyError"))
-    if phase == "deleting":
-        return Handled(phase, Answer(202, "empty"))
-    return ended(outcome, phase, None, 200) if mode == "sync" else ended(outcome, phase, "deleting", 202)
+        return Handled(row, error(422, "AsyncRequired"))
+    if row.phase == "making":
+        return Handled(row, error(422, "ConcurrencyError"))
+    if row.phase == "deleting":
+        return Handled(row, Answer(202, "empty"))
+    if mode == "sync":
+        return ended(outcome, row, None, 200)
+    return ended(outcome, row, row._replace(phase="deleting"), 202)
 
 
 LAST_OPERATION = {
@@ -164,21 +194,25 @@ LAST_OPERATION = {
 }
 
 
-def poll(phase: str | None) -> Handled:
-    return Handled(phase, error(410) if phase is None else Answer(200, LAST_OPERATION[phase]))
+def poll(row: Row | None, request: Request) -> Handled:
+    if row is None:
+        return Handled(row, error(410))
+    return Handled(row, Answer(200, LAST_OPERATION[row.phase]) if row.plan == request.plan else error(400))
 
 
-def handled(mode: str, phase: str | None, request: Request, outcome: str) -> Handled:
+def handled(mode: str, row: Row | None, request: Request, outcome: str) -> Handled:
     if request.kind == "poll":
-        return poll(phase)
+        return poll(row, request)
     table = provision if request.kind == "provision" else deprovision
-    return table(mode, phase, request, outcome)
+    return table(mode, row, request, outcome)
 
 
-def is_due(mode: str, phase: str | None, request: Request) -> bool:
+def is_due(mode: str, row: Row | None, request: Request) -> bool:
     """Whether the table gives another answer or row by the outcome."""
-    return len({handled(mode, phase, request, outcome) for outcome in OUTCOMES}) > 1
+    return len({handled(mode, row, request, outcome) for outcome in TABLED}) > 1
 
+
+# ---- what a broker holds, request by request
 
 BUSY = {
     "provision": error(503),
@@ -187,26 +221,117 @@ BUSY = {
 }
 
 
+def conflicts(held: Held, request: Request) -> bool:
+    """Whether a Provision names the service and plan of the row or of the pending Provision, and other attributes."""
+    if request.kind != "provision" or request.attributes == held.attributes:
+        return False
+    plan = held.row.plan if held.row else held.work.plan if held.work else None
+    return plan == request.plan
+
+
+def begin_waiting(mode: str, held: Held, row: Row, request: Request) -> tuple[Held, Answer]:
+    """A request to an instance that waits for its first Poll. But for the first Poll and the deletion, the table
+    answers as of an instance in `making`.
+    """
+    making = row._replace(phase="making")
+    if request.kind == "deprovision" and is_due(mode, row._replace(phase="failed"), request):
+        return Held(tombstone=True), Answer(200, "empty")
+    if request.kind == "poll" and request.plan == row.plan:
+        held = held._replace(row=making)
+    if request.kind == "deprovision":
+        making = row._replace(phase="failed")
+    return held, handled(mode, making, request, "done").answer
+
+
+def begin(mode: str, first_poll: bool, held: Held, request: Request) -> tuple[Held, Answer | None]:
+    """What is held after a request, and the answer, or None if the request becomes pending work."""
+    if conflicts(held, request):
+        return held, error(409)
+    if held.work is not None:
+        return held, BUSY[request.kind]
+    if held.tombstone and request.kind == "provision":
+        return held, error(409)
+    if held.row is not None and held.row.phase == "waiting":
+        return begin_waiting(mode, held, held.row, request)
+    if is_due(mode, held.row, request):
+        attributes = request.attributes if held.row is None else held.attributes
+        if first_poll and mode == "async" and request.kind == "provision":
+            return Held(Row(request.plan, "waiting"), None, False, attributes), Answer(202, "empty")
+        return held._replace(work=request, attributes=attributes), None
+    answer = handled(mode, held.row, request, "done").answer
+    return held._replace(tombstone=held.tombstone or request.kind == "deprovision" and held.row is None), answer
+
+
+def end(mode: str, held: Held, outcome: str) -> tuple[Held, Answer] | None:
+    """What is held after the pending work, and the answer to its request; None if the work can't end so."""
+    if held.work is None:
+        return None
+    if outcome.startswith("refused"):
+        status = int(outcome.removeprefix("refused "))
+        return (Held(tombstone=True), error(status)) if held.work.kind == "provision" else None
+    row, answer = handled(mode, held.row, held.work, outcome)
+    tombstone = held.work.kind == "deprovision" and row is None
+    return Held(row, None, tombstone, held.attributes if row else 0), answer
+
+
+def finish(held: Held, ok: bool) -> Held | None:
+    """What is held once the operation that runs has ended; None if none runs."""
+    if held.work is not None or held.row is None or held.row.phase not in ("making", "deleting"):
+        return None
+    made = held.row.phase == "making"
+    if ok:
+        return held._replace(row=held.row._replace(phase="ready")) if made else Held(tombstone=True)
+    return held._replace(row=held.row._replace(phase="failed" if made else "delete-failed"))
+
+
+def give_up_waiting(held: Held) -> Held | None:
+    """What is held once nobody has polled for too long; None if the row doesn't wait."""
+    if held.row is None or held.row.phase != "waiting":
+        return None
+    return held._replace(row=held.row._replace(phase="failed"))
+
+
+def can_have_ended(mode: str, held: Held, outcome: str, resource: str) -> bool:
+    """Whether the pending work that ended so may have left this resource."""
+    if held.work is None:
+        return False
+    if outcome.startswith("refused") or outcome == "before" and held.work.kind == "provision":
+        return resource == "absent"
+    if outcome == "before":
+        return True
+    return mode != "sync" or resource == ("whole" if held.work.kind == "provision" else "absent")
+
+
+def is_made(held: Held) -> bool | None:
+    """Whether what goes on makes or deletes; None if nothing goes on."""
+    if held.work is not None:
+        return held.work.kind == "provision"
+    return None if held.row is None else {"making": True, "deleting": False}.get(held.row.phase)
+
+
 # ---- one instance
 
 
 @dataclass
 class Instance:
-    """What the platform records, what the broker holds, the thing, and all that was ever sent and given."""
+    """What the platform records, what the broker holds, the resource, and all that was ever sent and given."""
 
     mode: str
     accepts: bool
+    first_poll: bool = False
     state: str | None = None
     out: str | None = None
     attempt: int = 0
-    phase: str | None = None
-    work: Request | None = None
-    marked: bool = False
-    # The number of the request that waits for the work.
-    waiting: int | None = None
-    thing: str = "absent"
+    held: Held = Held()
+    # The number of the request whose work goes on.
+    worker: int | None = None
+    resource: str = "absent"
     sent: list[Request] = field(default_factory=list)
     given: list[Given] = field(default_factory=list)
+
+    @property
+    def phase(self) -> str | None:
+        return self.held.row.phase if self.held.row else None
 
     # ---- the platform's events
 
@@ -236,6 +361,9 @@ class Instance:
     def expire(self, _: str) -> bool:
         return self.clean_up({"polling"})
 
+    def retry(self, _: str) -> bool:
+        return self.clean_up({"cleaning-polling"})
+
     def remove(self, _: str) -> bool:
         return self.clean_up({"polling", "ready", "unsettled"})
 
@@ -257,9 +385,16 @@ class Instance:
             return False
         answer = self.begin(self.sent[attempt - 1])
         if answer is None:
-            self.waiting = attempt
+            self.worker = attempt
         else:
             self.given.append(Given(attempt, answer))
+        return True
+
+    def put_off(self, number: str) -> bool:
+        attempt = int(number)
+        if not 1 <= attempt <= len(self.sent):
+            return False
+        self.given.append(Given(attempt, BUSY[self.sent[attempt - 1].kind]))
         return True
 
     def answered(self, answer: Answer) -> bool:
@@ -269,7 +404,7 @@ class Instance:
         return True
 
     def given_to_out(self, place: str) -> Answer | None:
-        """The answer at this place, where it was given and is to the request that is out."""
+        """The answer at this place, if it was given and is to the request that is out."""
         at = int(place)
         if at >= len(self.given) or self.given[at].attempt != self.attempt:
             return None
@@ -290,70 +425,53 @@ class Instance:
 
     def begin(self, request: Request) -> Answer | None:
         """The answer at once, or None if the request becomes pending work."""
-        if self.work is not None:
-            return BUSY[request.kind]
-        if self.marked and request.kind == "provision":
-            return error(409)
-        if is_due(self.mode, self.phase, request):
-            self.work = request
-            return None
-        answer = handled(self.mode, self.phase, request, "done").answer
-        self.marked = self.marked or request.kind == "deprovision" and answer.status == 410
+        self.held, answer = begin(self.mode, self.first_poll, self.held, request)
         return answer
 
-    def answer_waiting(self, answer: Answer) -> None:
-        if self.waiting is not None:
-            self.given.append(Given(self.waiting, answer))
-        self.waiting = None
-
-    def can_have_ended(self, kind: str, outcome: str) -> bool:
-        """Whether work of the kind that ended so may have left the thing that is there."""
-        if outcome == "before":
-            return kind == "deprovision" or self.thing == "absent"
-        return self.mode != "sync" or self.thing == ("whole" if kind == "provision" else "absent")
+    def answer_request(self, answer: Answer) -> None:
+        """Answers the request whose work went on, if there is one."""
+        if self.worker is not None:
+            self.given.append(Given(self.worker, answer))
+        self.worker = None
 
     def end(self, outcome: str) -> bool:
-        if self.work is None or not self.can_have_ended(self.work.kind, outcome):
+        ended = end(self.mode, self.held, outcome)
+        if ended is None or not can_have_ended(self.mode, self.held, outcome, self.resource):
             return False
-        self.phase, answer = handled(self.mode, self.phase, self.work, outcome)
-        self.marked = self.marked or self.work.kind == "deprovision" and self.phase is None
-        self.work = None
-        self.answer_waiting(answer)
+        self.held, answer = ended
+        self.answer_request(answer)
         return True
 
     def end_unknown(self, _: str) -> bool:
-        if self.waiting is None:
+        if self.worker is None:
             return False
-        self.answer_waiting(error(500))
+        self.answer_request(error(500))
+        return True
+
+    def become_held(self, held: Held | None) -> bool:
+        if held is None:
+            return False
+        self.held = held
         return True
 
     def finish(self, how: str) -> bool:
-        well = {"making": "whole", "deleting": "absent"}
-        if self.work is not None or self.phase not in well or how == "ok" and self.thing != well[self.phase]:
+        if how == "ok" and self.resource != {True: "whole", False: "absent", None: "-"}[is_made(self.held)]:
             return False
-        made = self.phase == "making"
-        if how == "ok":
-            self.phase, self.marked = "ready" if made else None, self.marked or not made
-        else:
-            self.phase = "failed" if made else "delete-failed"
-        return True
+        return self.become_held(finish(self.held, how == "ok"))
+
+    def give_up_waiting(self, _: str) -> bool:
+        return self.become_held(give_up_waiting(self.held))
 
     def crash_broker(self, _: str) -> bool:
-        self.waiting = None
+        self.worker = None
         return True
 
     # ---- the work's
 
-    def is_made(self) -> bool | None:
-        """Whether what goes on makes or deletes; none where nothing goes on."""
-        if self.work is not None:
-            return self.work.kind == "provision"
-        return {"making": True, "deleting": False}.get(self.phase or "-")
-
-    def become(self, thing: str) -> bool:
-        if self.is_made() is None:
+    def become(self, resource: str) -> bool:
+        if is_made(self.held) is None:
             return False
-        self.thing = thing
+        self.resource = resource
         return True
 
     # ---- any event, and fault-free rounds
@@ -364,10 +482,10 @@ class Instance:
         return event(argument)
 
     def go_well(self, end: str) -> None:
-        """What goes on goes well for the thing, and ends so."""
-        made = self.is_made()
+        """What goes on goes well for the resource, and ends so."""
+        made = is_made(self.held)
         if made is not None:
-            self.thing = "whole" if made else "absent"
+            self.resource = "whole" if made else "absent"
         self.happen(end)
 
     def settle(self) -> None:
@@ -385,18 +503,18 @@ class Instance:
     def told(self, before: int) -> str:
         """What there is, and the answers that were given since there were so many."""
         record = "-" if self.state is None else f"{self.state} {self.out or '-'} {self.attempt}"
-        work = self.work.kind if self.work else "-"
-        holding = f"{self.phase or '-'} {work} {'marked' if self.marked else '-'}"
+        row, work = self.held.row, self.held.work
+        words = (row.phase if row else "-", work.kind if work else "-", "tombstone" if self.held.tombstone else "-")
         counts = f"{len(self.sent)} sent, {len(self.given)} given"
         answers = [f"{it.attempt}: {it.answer.status} {it.answer.body}" for it in self.given[before:]]
-        return "; ".join([record, holding, self.thing, counts, *answers])
+        return "; ".join([record, " ".join(words), self.resource, counts, *answers])
 
     def agrees(self) -> bool:
-        """What is recorded as ready is there, whole; of what is gone, or was never recorded, there is nothing."""
+        """What is recorded as ready exists, whole; of what is gone, or was never recorded, there is nothing."""
         if self.state == "ready":
-            return self.phase == "ready" and self.work is None and self.thing == "whole"
+            return self.held.row == Row(0, "ready") and self.held.work is None and self.resource == "whole"
         if self.state in (None, "gone"):
-            return self.phase is None and self.work is None and self.thing == "absent"
+            return self.held.row is None and self.held.work is None and self.resource == "absent"
         return True
 
 
@@ -405,16 +523,19 @@ EVENTS = {
     "create": "create",
     "send": "send",
     "expire": "expire",
+    "retry": "retry",
     "remove": "remove",
     "timeout": "timeout",
     "crash-platform": "crash_platform",
     "arrive": "arrive",
+    "put-off": "put_off",
     "take": "take",
     "garbled": "garbled",
     "gateway": "gateway",
     "end": "end",
     "end-unknown": "end_unknown",
     "finish": "finish",
+    "give-up-waiting": "give_up_waiting",
     "crash-broker": "crash_broker",
     "work": "become",
 }

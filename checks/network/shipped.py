@@ -8,14 +8,22 @@ from __future__ import annotations
 from typing import Callable
 
 import osb
-from network.model import Answer, Instance, Request
+from network.model import Answer, Held, Instance, Request, Row, can_have_ended, is_made
 
 ONE, SERVICE, PLAN = osb.Id(0, 1), osb.Id(0, 2), osb.Id(0, 3)
+ATTRIBUTES = bytes(range(32))
 MODES = {"sync": osb.Mode.SYNC, "async": osb.Mode.ASYNC, "-": None}
 KINDS = {str(kind): kind for kind in osb.Kind}
 BODIES = {"error" if body is osb.Body.OTHER_ERROR else str(body): body for body in osb.Body} | {
     "AsyncRequired": osb.Body.ASYNC_REQUIRED,
     "ConcurrencyError": osb.Body.CONCURRENCY_ERROR,
+}
+OUTCOMES = {
+    "done": osb.Outcome.DONE,
+    "before": osb.Outcome.BEFORE,
+    "after": osb.Outcome.AFTER,
+    "refused 400": osb.Outcome.REFUSED_400,
+    "refused 422": osb.Outcome.REFUSED_422,
 }
 WORDS = {body: word for word, body in BODIES.items()}
 # The statuses by which a record or a holding says that an event doesn't apply.
@@ -27,14 +35,16 @@ SKIPPED = {
     osb.Status.NOT_REMOVABLE,
     osb.Status.NOTHING_BEGUN,
     osb.Status.NOTHING_RUNNING,
+    osb.Status.NOT_A_PROVISION,
+    osb.Status.NOT_WAITING,
 }
 
 
 class Shipped(Instance):
     """An instance of which libosb has the record and the holding."""
 
-    def __init__(self, mode: str, accepts: bool) -> None:
-        super().__init__(mode, accepts)
+    def __init__(self, mode: str, accepts: bool, first_poll: bool) -> None:
+        super().__init__(mode, accepts, first_poll)
         self.record: osb.Record | None = None
         self.holding = osb.Holding.NONE
 
@@ -79,6 +89,9 @@ class Shipped(Instance):
     def expire(self, _: str) -> bool:
         return self.apply(lambda record: record.expire())
 
+    def retry(self, _: str) -> bool:
+        return self.apply(lambda record: record.retry())
+
     def remove(self, _: str) -> bool:
         return self.apply(lambda record: record.remove())
 
@@ -93,46 +106,63 @@ class Shipped(Instance):
 
     def hold(self, holding: osb.Holding) -> None:
         assert holding.fits(MODES[self.mode])
-        self.holding, self.marked = holding, holding.is_marked
-        self.phase = None if holding.row is None else str(holding.row.phase)
-        work = holding.work
-        self.work = None if work is None else Request(str(work.kind), work.accepts_incomplete)
+        assert holding.attributes == (ATTRIBUTES if holding.row or holding.work else osb.NO_ATTRIBUTES)
+        row, work = holding.row, holding.work
+        self.holding = holding
+        self.held = Held(
+            None if row is None else Row(0, str(row.phase)),
+            None if work is None else Request(str(work.kind), work.accepts_incomplete),
+            holding.has_tombstone,
+            1 if row or work else 0,
+        )
 
     def begin(self, request: Request) -> Answer | None:
         asked = osb.Request(KINDS[request.kind], request.accepts, ONE, SERVICE, PLAN)
-        holding, due = self.holding.begin(MODES[self.mode], asked)
+        holding, due = self.holding.begin(MODES[self.mode], asked, first_poll=self.first_poll, attributes=ATTRIBUTES)
         self.hold(holding)
         return Answer(due.status, WORDS[due.body]) if isinstance(due, osb.Answer) else None
 
     def end(self, outcome: str) -> bool:
-        if self.work is None or not self.can_have_ended(self.work.kind, outcome):
-            return False
-        holding, answer = self.holding.end(MODES[self.mode], osb.Outcome[outcome.upper()])
-        self.hold(holding)
-        self.answer_waiting(Answer(answer.status, WORDS[answer.body]))
-        return True
-
-    def finish(self, how: str) -> bool:
-        if how == "ok" and self.thing != {"making": "whole", "deleting": "absent"}.get(self.phase or "-", self.thing):
+        if not can_have_ended(self.mode, self.held, outcome, self.resource):
             return False
         try:
-            self.hold(self.holding.finish(how == "ok"))
+            holding, answer = self.holding.end(MODES[self.mode], OUTCOMES[outcome])
+        except osb.OsbError as error:
+            if error.status not in SKIPPED:
+                raise
+            return False
+        self.hold(holding)
+        self.answer_request(Answer(answer.status, WORDS[answer.body]))
+        return True
+
+    def change(self, change: Callable[[osb.Holding], osb.Holding]) -> bool:
+        """Whether the change applies to the holding."""
+        try:
+            self.hold(change(self.holding))
         except osb.OsbError as error:
             if error.status not in SKIPPED:
                 raise
             return False
         return True
 
+    def finish(self, how: str) -> bool:
+        if how == "ok" and self.resource != {True: "whole", False: "absent", None: "-"}[is_made(self.held)]:
+            return False
+        return self.change(lambda holding: holding.finish(how == "ok"))
+
+    def give_up_waiting(self, _: str) -> bool:
+        return self.change(lambda holding: holding.give_up_waiting())
+
 
 def tell(lines: list[str]) -> list[str]:
     """What library_cases would tell of these lines, by the record and the holding of libosb."""
     told: list[str] = []
-    instance = Shipped("-", False)
+    instance = Shipped("-", False, False)
     for line in lines:
         word, _, rest = line.partition(" ")
         if word == "order":
-            mode, _, accepts = rest.partition(" ")
-            instance = Shipped(mode, accepts == "accepts")
+            mode, accepts, first = rest.split(" ")
+            instance = Shipped(mode, accepts == "accepts", first == "first-poll")
             told.append(f"new: {instance.told(0)}")
             continue
         before = len(instance.given)

@@ -8,17 +8,18 @@ OSB_EXAMPLES=10 compares ten times as many events, drawn at random (checks/gener
 
 from __future__ import annotations
 
-import subprocess
 from collections.abc import Callable
 
 import pytest
-from crate_programs import program_of
+from crate_programs import cases_of
 from generated import examples
 from hypothesis import given
 from hypothesis import strategies as st
 from hypothesis.stateful import RuleBasedStateMachine, initialize, precondition, rule, run_state_machine_as_test
 from network import shipped
-from network.model import MODES, OUTCOMES, THINGS
+from network.alone import Alone
+from network.alone import Seen as SeenAlone
+from network.model import MODES, OUTCOMES, RESOURCES, is_made
 from network.walks import Seen, Step, Walk, any_event, likely
 
 Tell = Callable[[list[str]], list[str]]
@@ -32,15 +33,16 @@ def tell(request: pytest.FixtureRequest) -> Tell:
     if request.param == "libosb":
         request.getfixturevalue("library")
         return shipped.tell
-    program = program_of("library_cases")
+    return of_osb_network()
+
+
+def of_osb_network() -> Tell:
+    cases = cases_of("osb_network")
 
     def told(lines: list[str]) -> list[str]:
-        text = "".join(f"{line}\n" for line in ("of osb_network", *lines))
-        ran = subprocess.run([program], input=text, capture_output=True, text=True, check=False)
-        assert (ran.returncode, ran.stderr) == (0, "")
-        cases = ran.stdout.splitlines()[1:]
-        assert all(case.startswith(f"{line}  ") for line, case in zip(lines, cases))
-        return [case.removeprefix(f"{line}  ") for line, case in zip(lines, cases)]
+        written = cases(lines).splitlines()
+        assert all(case.startswith(f"{line}  ") for line, case in zip(lines, written))
+        return [case.removeprefix(f"{line}  ") for line, case in zip(lines, written)]
 
     return told
 
@@ -59,18 +61,18 @@ class Events(RuleBasedStateMachine):
     def __init__(self, tell: Tell) -> None:
         super().__init__()
         self.tell = tell
-        self.walk = Walk(Seen(), "-", False)
+        self.walk = Walk(Seen(), "-", False, False)
 
-    @initialize(mode=st.sampled_from(MODES), accepts=st.booleans())
-    def order(self, mode: str, accepts: bool) -> None:
-        self.walk = Walk(Seen(), mode, accepts)
+    @initialize(mode=st.sampled_from(MODES), accepts=st.booleans(), first_poll=st.booleans())
+    def order(self, mode: str, accepts: bool, first_poll: bool) -> None:
+        self.walk = Walk(Seen(), mode, accepts, first_poll)
 
     @precondition(lambda self: self.walk.instance.state is None)
     @rule()
     def create(self) -> None:
         self.walk.happen("create")
 
-    @rule(event=st.sampled_from(["send", "timeout", "expire", "remove", "create"]))
+    @rule(event=st.sampled_from(["send", "timeout", "expire", "retry", "remove", "create"]))
     def platform(self, event: str) -> None:
         self.walk.happen(event)
 
@@ -80,13 +82,13 @@ class Events(RuleBasedStateMachine):
         self.walk.happen("send")
 
     @precondition(lambda self: bool(self.walk.instance.sent))
-    @rule(back=st.integers(0, 4))
-    def arrive(self, back: int) -> None:
-        self.walk.happen(f"arrive {max(len(self.walk.instance.sent) - back, 0)}")
+    @rule(word=st.sampled_from(["arrive", "arrive", "put-off"]), back=st.integers(0, 4))
+    def arrive(self, word: str, back: int) -> None:
+        self.walk.happen(f"{word} {max(len(self.walk.instance.sent) - back, 0)}")
 
-    @rule(number=st.sampled_from([0, 2**32, 2**64 - 1]))
-    def arrive_unsent(self, number: int) -> None:
-        self.walk.happen(f"arrive {number}")
+    @rule(word=st.sampled_from(["arrive", "put-off"]), number=st.sampled_from([0, 2**32, 2**64 - 1]))
+    def arrive_unsent(self, word: str, number: int) -> None:
+        self.walk.happen(f"{word} {number}")
 
     @precondition(lambda self: bool(self.walk.instance.given))
     @rule(word=st.sampled_from(["take", "garbled"]), back=st.integers(0, 3))
@@ -101,23 +103,25 @@ class Events(RuleBasedStateMachine):
     def gateway(self, status: int) -> None:
         self.walk.happen(f"gateway {status}")
 
-    @precondition(lambda self: self.walk.instance.is_made() is not None)
+    @precondition(lambda self: is_made(self.walk.instance.held) is not None)
     @rule(outcome=st.sampled_from(["ok", "failed"]))
     def finish(self, outcome: str) -> None:
         self.walk.happen(f"finish {outcome}")
 
-    @precondition(lambda self: self.walk.instance.work is not None)
+    @precondition(lambda self: self.walk.instance.held.work is not None)
     @rule(outcome=st.sampled_from(OUTCOMES))
     def end(self, outcome: str) -> None:
         self.walk.happen(f"end {outcome}")
 
-    @precondition(lambda self: self.walk.instance.is_made() is not None)
-    @rule(thing=st.sampled_from(THINGS))
-    def work(self, thing: str) -> None:
-        self.walk.happen(f"work {thing}")
+    @precondition(lambda self: is_made(self.walk.instance.held) is not None)
+    @rule(resource=st.sampled_from(RESOURCES))
+    def work(self, resource: str) -> None:
+        self.walk.happen(f"work {resource}")
 
     @rule(
-        event=st.sampled_from(["crash-broker", "crash-platform", "end-unknown", "finish ok", "end done", "work part"])
+        event=st.sampled_from(
+            ["crash-broker", "crash-platform", "end-unknown", "finish ok", "end done", "work part", "give-up-waiting"]
+        )
     )
     def broker(self, event: str) -> None:
         self.walk.happen(event)
@@ -141,7 +145,8 @@ ACCEPTS = [True] * 6 + [False]
 @st.composite
 def walks(draw: st.DrawFn, seen: Seen) -> Walk:
     """An order and at most 250 events, most of which are likely to apply; few come after the end."""
-    walk = Walk(seen, draw(st.sampled_from(["async"] * 10 + ["sync"] * 5 + ["-"])), draw(st.sampled_from(ACCEPTS)))
+    mode = draw(st.sampled_from(["async"] * 10 + ["sync"] * 5 + ["-"]))
+    walk = Walk(seen, mode, draw(st.sampled_from(ACCEPTS)), draw(st.booleans()))
     many = draw(st.integers(1, 250))
     picks = iter(draw(st.binary(min_size=2 * many, max_size=2 * many)))
     for which, at in zip(picks, picks):
@@ -163,3 +168,29 @@ def test_walks(tell: Tell) -> None:
     walked()
     assert not seen.missing()
     print(sum(seen.applied.values()), "events applied,", sum(seen.skipped.values()), "were skipped")
+
+
+@st.composite
+def alone(draw: st.DrawFn, seen: SeenAlone) -> Alone:
+    """A broker alone, and at most 120 events, half of which are likely to apply."""
+    modes = st.sampled_from(["async"] * 3 + ["sync", "-"])
+    broker = Alone(seen, (draw(modes), draw(modes)), draw(st.booleans()))
+    many = draw(st.integers(1, 120))
+    for pick in draw(st.binary(min_size=many, max_size=many)):
+        events = broker.likely()
+        broker.happen(events[pick % len(events)])
+        if broker.cell.held.tombstone and pick % 8 == 7:
+            break
+    return broker
+
+
+def test_broker_alone() -> None:
+    told, seen = of_osb_network(), SeenAlone()
+
+    @examples(1000)
+    @given(broker=alone(seen))
+    def walked(broker: Alone) -> None:
+        compare(told, broker.steps)
+
+    walked()
+    assert not seen.missing()

@@ -7,9 +7,11 @@ from collections.abc import Iterable, Iterator
 from dataclasses import dataclass, field
 from typing import NamedTuple
 
-from network.model import ALWAYS, HARMS, MODES, NUMBERED, PHASES, PLAIN, SETTLED, STATES, WORKS, Instance
+from network.model import ALWAYS, HARMS, MODES, NUMBERED, PHASES, PLAIN, SETTLED, STATES, WORKS, Instance, is_made
 
-ORDERS = [f"{mode} {accepts}" for mode in MODES for accepts in ("accepts", "refuses")]
+ORDERS = [
+    f"{mode} {accepts} {first}" for mode in MODES for accepts in ("accepts", "refuses") for first in ("first-poll", "-")
+]
 
 
 class Step(NamedTuple):
@@ -29,13 +31,17 @@ def harms(instance: Instance, line: str) -> Iterator[str]:
     """Which of the harms this event would do, if a part of the design were left out."""
     word, _, number = line.partition(" ")
     arrives = word == "arrive" and 1 <= int(number) <= len(instance.sent)
-    works = instance.work is not None
+    provision = arrives and instance.sent[int(number) - 1].kind == "provision"
+    works = instance.held.work is not None
     is_taken = word == "take" and instance.out is not None and int(number) < len(instance.given)
+    refused = any(it.answer.status in (400, 422) and it.answer.body == "error" for it in instance.given)
     came = [
-        arrives and instance.marked and instance.sent[int(number) - 1].kind == "provision",
+        provision and instance.held.tombstone and not refused,
+        provision and instance.held.tombstone and refused,
+        word == "give-up-waiting" and instance.phase == "waiting",
         arrives and works,
         word == "crash-broker" and works,
-        word == "end" and works and not instance.waiting,
+        word == "end" and works and instance.worker is None,
         is_taken and instance.given[int(number)].attempt != instance.attempt,
     ]
     return (harm for harm, it in zip(HARMS, came) if it)
@@ -73,9 +79,9 @@ class Seen:
 class Walk:
     """An order, and what happened to the instance since."""
 
-    def __init__(self, seen: Seen, mode: str, accepts: bool) -> None:
-        self.seen, self.instance = seen, Instance(mode, accepts)
-        order = f"{mode} {'accepts' if accepts else 'refuses'}"
+    def __init__(self, seen: Seen, mode: str, accepts: bool, first_poll: bool) -> None:
+        self.seen, self.instance = seen, Instance(mode, accepts, first_poll)
+        order = f"{mode} {'accepts' if accepts else 'refuses'} {'first-poll' if first_poll else '-'}"
         seen.orders[order] += 1
         self.steps = [Step(f"order {order}", f"new: {self.instance.told(0)}")]
 
@@ -98,8 +104,8 @@ class Walk:
     def note(self) -> None:
         self.seen.states[self.instance.state or "-"] += 1
         self.seen.phases[self.instance.phase or "-"] += 1
-        if self.instance.work:
-            self.seen.works[f"{self.instance.mode} {self.instance.work.kind}"] += 1
+        if self.instance.held.work:
+            self.seen.works[f"{self.instance.mode} {self.instance.held.work.kind}"] += 1
 
     def lines(self, *more: str) -> str:
         return "\n".join([*(step.line for step in self.steps), *more])
@@ -109,7 +115,7 @@ class Walk:
 NEXT = {
     "polling": ["send"] * 6 + ["expire", "remove"],
     "cleaning": ["send"] * 6,
-    "cleaning-polling": ["send"] * 6,
+    "cleaning-polling": ["send"] * 6 + ["retry"],
     "ready": ["remove"],
     "unsettled": ["remove"],
 }
@@ -121,7 +127,7 @@ def of_platform(instance: Instance) -> list[str]:
         return ["create"] * 12
     if instance.out is None:
         return NEXT.get(instance.state, [])
-    events = [f"arrive {instance.attempt}"] * (1 if instance.work else 8)
+    events = [f"arrive {instance.attempt}"] * (1 if instance.held.work else 8)
     events += ["timeout", *(f"gateway {status}" for status in (500, 599))]
     for at, given in enumerate(instance.given):
         if given.attempt == instance.attempt:
@@ -131,25 +137,27 @@ def of_platform(instance: Instance) -> list[str]:
 
 def of_broker(instance: Instance) -> list[str]:
     """What is likely to become of what goes on."""
-    is_made = instance.is_made()
-    if is_made is None:
-        return []
-    events = ["work whole" if is_made else "work absent"] * 4 + ["work part"]
-    if instance.work is None:
+    made = is_made(instance.held)
+    if made is None:
+        return ["give-up-waiting"] if instance.phase == "waiting" else []
+    events = ["work whole" if made else "work absent"] * 4 + ["work part"]
+    if instance.held.work is None:
         return events + ["finish ok"] * 6 + ["finish failed"]
-    return events + ["end done"] * 6 + ["end before", "end after", "end-unknown"]
+    refused = ["work absent", "end refused 400", "end refused 422"] if made else []
+    return events + ["end done"] * 6 + ["end before", "end after", "end-unknown"] + refused
 
 
 def likely(instance: Instance) -> list[str]:
     """Events that are likely to apply, each as often as it is likely."""
-    late = [f"arrive {number}" for number in range(1, len(instance.sent) + 1)]
-    return of_platform(instance) + of_broker(instance) + ["crash-broker", "crash-platform"] + late[-4:] + late[:2]
+    late = [f"{word} {number}" for number in range(1, len(instance.sent) + 1) for word in ("arrive", "put-off")]
+    return of_platform(instance) + of_broker(instance) + ["crash-broker", "crash-platform"] + late[-8:] + late[:2]
 
 
 def any_event(instance: Instance) -> list[str]:
     """Every event, whether it applies or not."""
     numbers = {
         "arrive": range(len(instance.sent) + 2),
+        "put-off": range(len(instance.sent) + 2),
         "take": range(len(instance.given) + 2),
         "garbled": range(len(instance.given) + 2),
         "gateway": (0, 404, 499, 500, 502, 503, 599, 600, 65535),

@@ -9,7 +9,7 @@ from random import Random
 
 from osb import Answer, Body, Id, Record
 from osb.records import Kept
-from osb_platform.instances import Instances
+from osb_platform.instances import Execute, Instances
 from osb_platform.sqlite_database import SqliteDatabase
 
 SERVICE = Id.of("00000000-0000-0000-0000-0000000000a0")
@@ -44,7 +44,7 @@ class _Then(SqliteDatabase):
         self.time = 0.0
         self._connection.execute("PRAGMA synchronous = OFF")
 
-    def now(self) -> float:
+    def now(self, _: Execute | None = None) -> float:
         return self.time
 
 

@@ -1,7 +1,7 @@
 """Refuses each allocation in turn, and fails each read and each write in turn (docs/reliability.md).
 
-So it is done with the calls of the libraries, which the program of the crate refusal_cases makes and tells of, and with
-osb-replay on every worked schedule.
+So it is done with the calls of the libraries that neither C nor osb-replay makes, which the program of the crate
+refusal_cases makes and tells of, and with osb-replay on every worked schedule.
 """
 
 from __future__ import annotations
@@ -98,11 +98,13 @@ def of_worked(it: Worked) -> Case:
 
 
 def sixteen() -> Case:
-    """Enough instances for every collection to grow more than once, created in no order."""
+    """Enough instances for every collection to grow more than once, created in no order. A request times out while the
+    list of messages is full.
+    """
     ids = [f"00000000-0000-0000-0000-{number:012}" for number in (*range(16, 8, -1), *range(1, 9))]
-    text = lines(PLANS) + "".join(lines(f"create {it} S P no") for it in ids) + "restart\n"
+    text = lines(PLANS) + "".join(lines(f"create {it} S P no") for it in ids) + f"timeout {ids[0]}\nrestart\n"
     ends = [f"{it} cleaning none" for it in sorted(ids)]
-    return Case("sixteen instances", ["replay"], text.encode(), Ran(0, report(ends, 17, 0), ""))
+    return Case("sixteen instances", ["replay"], text.encode(), Ran(0, report(ends, 18, 0), ""))
 
 
 FAULTS = [

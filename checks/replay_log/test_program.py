@@ -185,10 +185,6 @@ def test_a_late_plan(launcher: Launcher, logs: Logs, tmp_path: Path) -> None:
     fails(told, 1, f"osb-replay-log: {late}: line {text.count(chr(10))}: LatePlan\n")
 
 
-def test_a_plan_twice(launcher: Launcher, logs: Logs) -> None:
-    fails(replayed(launcher, logs.first, logs.first), 1, f"osb-replay-log: {logs.first}: line 1: LatePlan\n")
-
-
 @pytest.mark.parametrize(
     ("line", "count", "message"),
     [
@@ -209,12 +205,6 @@ def test_too_many_lines(launcher: Launcher, tmp_path: Path, line: str, count: in
 def test_no_such_log(launcher: Launcher, tmp_path: Path) -> None:
     none = tmp_path / "none"
     fails(replayed(launcher, none), 3, f"osb-replay-log: {none}: read failed: No such file")
-
-
-def test_a_pipe(launcher: Launcher) -> None:
-    command = ["bash", "-c", '"$0" "$@" <(echo)', str(LAUNCHER)]
-    told = launcher.run_by(command, "replay", "--engine", "processes", "--room", str(launcher.room))
-    fails(told, 3, "it isn't a file")
 
 
 def test_a_pipe_that_nobody_writes_to(launcher: Launcher, tmp_path: Path) -> None:
@@ -354,13 +344,6 @@ def test_what_is_no_log_json(launcher: Launcher, logs: Logs, split: Split, text:
     log_json = split(*logs.paths) / "log.json"
     log_json.write_text(f"{text}\n")
     fails(launcher.run("merge", str(log_json.parent)), 3, f"{log_json}: it isn't what")
-
-
-def test_a_report_that_is_not_whole(launcher: Launcher, logs: Logs, split: Split) -> None:
-    last = sorted(split(*logs.paths).glob("*.schedule"))[-1]
-    report = last.with_suffix(".report")
-    report.write_bytes(last.read_bytes()[:-1][:3000])
-    fails(launcher.run("merge", str(last.parent)), 3, f"{report}: it is no whole report")
 
 
 def test_a_report_that_is_missing(launcher: Launcher, logs: Logs, split: Split) -> None:

@@ -37,9 +37,9 @@ def read(given: list[str]) -> argparse.Namespace:
     parser.add_argument("--settle", type=float, default=120.0, help="how many seconds it may take to settle (120)")
     parser.add_argument(
         "--without",
-        choices=("marks", "work", "busy", "attempts", "locks", "broker", "platform", "both"),
-        help="take a part of the design out (marks, work, busy, attempts, locks), or run a broker, a platform or both "
-        "as they are usually written; the storm then passes if it finds what that leaves behind",
+        choices=("tombstones", "work", "busy", "attempts", "locks", "broker", "platform", "both"),
+        help="take a part of the design out (tombstones, work, busy, attempts, locks), or run a broker, a platform or "
+        "both as they are usually written; the storm then passes if it finds what that leaves behind",
     )
     parser.add_argument(
         "--kills",

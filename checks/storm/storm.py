@@ -12,7 +12,7 @@ from pathlib import Path
 from random import Random
 from typing import NamedTuple
 
-from osb_broker.catalogue import default
+from osb_broker.catalogue import default, served
 from osb_broker.points import POINTS as BROKER_POINTS
 from osb_platform.points import POINTS as PLATFORM_POINTS
 from storm.audit import REST, Audit
@@ -43,7 +43,7 @@ class Storm:
         self._proxy = Proxy(self.faults, entrances)
         # not asked for, so that a platform that is killed after some seconds has sent something
         self._catalogue = folder / "catalogue.json"
-        self._catalogue.write_bytes(default("folder", "a folder of one's own"))
+        self._catalogue.write_bytes(served(default("folder", "a folder of one's own")))
         chance = Random(f"{asked.seed} kills")
         points = [it for it in chance.sample(PLATFORM_POINTS, len(PLATFORM_POINTS)) if it not in ORDER_POINTS]
         for point in ("give-up-next", "give-up-written"):  # what these want is left by a kill while a request is sent
@@ -175,7 +175,7 @@ class Storm:
             "20",
         ]
         start = [sys.executable, "-m", "osb_broker"]
-        if self._asked.without in ("marks", "work", "busy", "locks"):
+        if self._asked.without in ("tombstones", "work", "busy", "locks"):
             start = [sys.executable, "-m", "storm.without_broker", self._asked.without]
         elif self._asked.without in OTHER_BROKERS:
             start = [sys.executable, "-m", "storm.usual_broker"]

@@ -1,5 +1,5 @@
 """The broker with a part of the design taken out, to see that the storm finds it: `python3 -m storm.without_broker
-PART serve ..`. PART is `marks`, `work`, `busy` or `locks`.
+PART serve ..`. PART is `tombstones`, `work`, `busy` or `locks`.
 """
 from __future__ import annotations
 
@@ -17,19 +17,19 @@ from osb_broker.locks import RangeLocks
 _begin, _end, _finish = Holding.begin, Holding.end, Holding.finish
 
 
-def _without_marks() -> None:
-    """No mark is kept of an instance that has ended."""
+def _without_tombstones() -> None:
+    """No tombstone is left of an instance that has ended."""
 
-    def begin(self: Holding, mode: Mode | None, request: Request) -> tuple[Holding, Answer | Work]:
-        after, begun = _begin(self, mode, request)
-        return replace(after, is_marked=False), begun
+    def begin(self: Holding, mode: Mode | None, request: Request, **rest: Any) -> tuple[Holding, Answer | Work]:
+        after, begun = _begin(self, mode, request, **rest)
+        return replace(after, has_tombstone=False), begun
 
     def end(self: Holding, mode: Mode | None, outcome: Outcome) -> tuple[Holding, Answer]:
         after, answer = _end(self, mode, outcome)
-        return replace(after, is_marked=False), answer
+        return replace(after, has_tombstone=False), answer
 
     def finish(self: Holding, ok: bool) -> Holding:
-        return replace(_finish(self, ok), is_marked=False)
+        return replace(_finish(self, ok), has_tombstone=False)
 
     _patch(Holding, begin=begin, end=end, finish=finish)
 
@@ -37,10 +37,10 @@ def _without_marks() -> None:
 def _without_busy() -> None:
     """While work is recorded, other requests are judged as if none were; it stays recorded, unless other work is."""
 
-    def begin(self: Holding, mode: Mode | None, request: Request) -> tuple[Holding, Answer | Work]:
-        after, begun = _begin(replace(self, work=None), mode, request)
+    def begin(self: Holding, mode: Mode | None, request: Request, **rest: Any) -> tuple[Holding, Answer | Work]:
+        after, begun = _begin(replace(self, work=None), mode, request, **rest)
         if isinstance(begun, Answer) and self.work is not None:
-            after = replace(after, work=self.work, is_marked=False)
+            after = replace(after, work=self.work, has_tombstone=False)
         return after, begun
 
     _patch(Holding, begin=begin)
@@ -83,5 +83,7 @@ def _patch(of: Any, **methods: Any) -> None:
 
 
 if __name__ == "__main__":
-    {"marks": _without_marks, "work": _without_work, "busy": _without_busy, "locks": _without_locks}[sys.argv[1]]()
+    {"tombstones": _without_tombstones, "work": _without_work, "busy": _without_busy, "locks": _without_locks}[
+        sys.argv[1]
+    ]()
     sys.exit(main(sys.argv[2:]))

@@ -8,8 +8,18 @@ TOP = Path(__file__).resolve().parents[2]
 CRATES = ("osb_c_types", "osb_c", "osb_c_instance", "osb_c_wire")
 
 # How the names of an enum's numbers begin in C, if not with the name of the enum.
-FRONTS = {"Status": "", "LastState": "BODY_", "ErrorCode": "BODY_"}
-NAMES = {"ErrorCode::Other": "BODY_OTHER_ERROR"}
+FRONTS = {
+    "Status": "",
+    "LastState": "BODY_",
+    "ErrorCode": "BODY_",
+    "HoldingPhase": "PHASE_",
+    "WorkOutcome": "OUTCOME_",
+}
+NAMES = {
+    "ErrorCode::Other": "BODY_OTHER_ERROR",
+    "Rejection::BadRequest": "OUTCOME_REFUSED_400",
+    "Rejection::UnprocessableEntity": "OUTCOME_REFUSED_422",
+}
 """Where a name isn't made of the source's by upper case alone. Those of refusals are the names of their statuses."""
 
 # The numbers for none: the function that gives or takes one, or the constant.
@@ -34,7 +44,7 @@ TEXT = _sources()
 
 
 def upper(name: str) -> str:
-    return re.sub(r"(?<=[a-z0-9])(?=[A-Z])", "_", name).upper()
+    return re.sub(r"(?<=[a-z0-9])(?=[A-Z])|(?<=[A-Z])(?=[A-Z][a-z])", "_", name).upper()
 
 
 def c_type(name: str) -> str:

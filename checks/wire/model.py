@@ -1,16 +1,24 @@
-"""What an answer or a request says, read by Python's json and urllib, by the rules of docs/wire.md."""
+"""What an answer, a request or a catalogue says, read by Python's json, urllib, base64 and hashlib.
+
+The rules are those of docs/wire.md.
+"""
 
 from __future__ import annotations
 
+import base64
+import binascii
+import hashlib
 import json
 import math
 import re
 import urllib.parse
-from typing import Any
+import uuid
+from typing import Any, NamedTuple
 
 # What gateways, proxies and servers say of themselves.
 OF_THE_WAY = {401, 403, 404, 405, 407, 408, 412, 413, 414, 415, 429, 431}
-GUID = re.compile(r"[0-9a-fA-F]{8}(-[0-9a-fA-F]{4}){3}-[0-9a-fA-F]{12}\Z")
+GUID = re.compile(r"[0-9a-f]{8}(-[0-9a-f]{4}){3}-[0-9a-f]{12}\Z")
+LONGEST_ID = 255
 # What the kit's reader takes of arrays and objects within one another.
 DEEPEST = 127
 
@@ -103,31 +111,90 @@ def one(pairs: list[tuple[str, str]], name: str) -> str | None:
     return found[0] if found else None
 
 
-def guid(text: str | None, name: str, needed: bool) -> str:
+def number_of(text: str) -> int | None:
+    """The number of an id's text, or none if no id can have it."""
+    if not 1 <= len(text.encode()) <= LONGEST_ID:
+        return None
+    if GUID.match(text):
+        return uuid.UUID(text).int
+    return int.from_bytes(hashlib.sha256(text.encode()).digest()[:16], "big")
+
+
+def shown(number: int | None) -> str:
+    """The number of an id, as a GUID, or `-` if there is none."""
+    return "-" if number is None else str(uuid.UUID(int=number))
+
+
+def guid(text: str | None) -> str:
+    return shown(None if text is None else number_of(text))
+
+
+def named(text: str | None, name: str, needed: bool) -> str | None:
+    """The text of an id, or None if the request doesn't name it."""
     if text is None and not needed:
-        return "-"
-    if text is None or not GUID.match(text):
-        raise Refused(f"400 {name} must be a GUID.")
-    return text.lower()
+        return None
+    if text is None or number_of(text) is None:
+        raise Refused(f"400 {name} must be a string of 1 to 255 bytes.")
+    return text
 
 
-def kind_at(method: str, path: bytes) -> tuple[str, bytes]:
+def plain(path: bytes) -> bytes:
+    """The path in absolute form without scheme and host, with one slash at the front and none at the end."""
+    if re.match(rb"https?://", path, re.IGNORECASE):
+        rest = path.split(b"//", 1)[1]
+        path = rest[rest.index(b"/") :] if b"/" in rest else b""
+    path = re.sub(rb"\A/+", b"/", path)
+    return path[:-1] if path.endswith(b"/") else path
+
+
+def place_at(path: bytes) -> tuple[bytes, bool] | None:
+    """The segment of the instance's id, and whether the last operation is asked for."""
     front = b"/v2/service_instances/"
-    parts = path[len(front) :].split(b"/", 1)
-    if not path.startswith(front) or len(parts) == 2 and parts[1] != b"last_operation":
+    if not path.startswith(front):
+        return None
+    segment, slash, more = path[len(front) :].partition(b"/")
+    if slash and more != b"last_operation":
+        return None
+    return segment, bool(slash)
+
+
+def behind(prefix: bytes, path: bytes) -> list[bytes]:
+    """What stands behind the prefix: in the path as it stands, and in the plain path."""
+    return [it[len(prefix) :] for it in (path, plain(path)) if it.startswith(prefix)]
+
+
+def kind_at(method: str, prefix: bytes, path: bytes) -> tuple[str, bytes]:
+    places = [place for it in behind(prefix, path) for place in [place_at(it)] if place is not None]
+    if not places:
         raise Refused("404 There is no such target.")
-    kind = {("GET", 2): "poll", ("PUT", 1): "provision", ("DELETE", 1): "deprovision"}.get((method, len(parts)))
+    segment, of_last_operation = places[0]
+    kind = {
+        ("GET", True): "poll",
+        ("PUT", False): "provision",
+        ("DELETE", False): "deprovision",
+    }.get((method, of_last_operation))
     if kind is None:
         raise Refused("405 The target has no such method.")
-    return kind, parts[0]
+    return kind, segment
 
 
-def body_ids(body: bytes) -> tuple[str, str]:
+def instance_text(segment: bytes) -> str:
+    """The text of the instance's id, decoded."""
+    try:
+        text = urllib.parse.unquote_to_bytes(segment).decode()
+    except UnicodeDecodeError:
+        text = ""
+    if text in (".", "..") or number_of(text) is None:
+        raise Refused("400 The instance id must be UTF-8 of 1 to 255 bytes, and no dot segment.")
+    return text
+
+
+def body_ids(body: bytes) -> tuple[str | None, str | None]:
     found = members(body)
     if found is None:
         raise Refused("400 The body must be a JSON object.")
-    service = guid(text_at(found, "service_id"), "service_id", True)
-    plan = guid(text_at(found, "plan_id"), "plan_id", True)
+    service = named(text_at(found, "service_id"), "service_id", True)
+    plan = named(text_at(found, "plan_id"), "plan_id", True)
     for name in ("organization_guid", "space_guid"):
         if not text_at(found, name):
             raise Refused(f"400 {name} must be a string that is not empty.")
@@ -140,27 +207,42 @@ def query_pairs(query: bytes) -> list[tuple[str, str]]:
     return urllib.parse.parse_qsl(quoted, keep_blank_values=True, errors="replace")
 
 
+class Received(NamedTuple):
+    """What a broker takes of a request: the texts of the ids, and the body of a Provision."""
+
+    kind: str
+    instance: str
+    service: str | None
+    plan: str | None
+    accepts: bool
+    body: bytes
+
+    def asked(self) -> str:
+        """What is asked, with each id's number."""
+        ids = " ".join(guid(text) for text in (self.instance, self.service, self.plan))
+        return f"{self.kind} {ids} {str(self.accepts).lower()}"
+
+
 def asked(method: str, target: bytes, body: bytes, longest: int) -> str:
     """What a request asks, or the status and the description with which it is rejected."""
     try:
-        return accepted(method, target, body, longest)
+        return received(method, b"", target, body, longest).asked()
     except Refused as refused:
         return str(refused)
 
 
-def accepted(method: str, target: bytes, body: bytes, longest: int) -> str:
+def received(method: str, prefix: bytes, target: bytes, body: bytes, longest: int) -> Received:
+    """What is taken of a request, or `Refused` with the status and the description."""
     path, _, query = target.partition(b"?")
-    kind, text = kind_at(method, path)
-    instance = text.decode("latin-1")
-    if not GUID.match(instance):
-        raise Refused("400 The instance id must be a GUID.")
+    kind, segment = kind_at(method, prefix, path)
+    instance = instance_text(segment)
     if len(body) > longest:
         raise Refused("413 The body is too long.")
     pairs = query_pairs(query)
-    service, plan = "-", "-"
+    service, plan = None, None
     if kind != "provision":
-        service = guid(one(pairs, "service_id"), "service_id", kind == "deprovision")
-        plan = guid(one(pairs, "plan_id"), "plan_id", kind == "deprovision")
+        service = named(one(pairs, "service_id"), "service_id", kind == "deprovision")
+        plan = named(one(pairs, "plan_id"), "plan_id", kind == "deprovision")
     accepts = one(pairs, "accepts_incomplete")
     if accepts not in (None, "true", "false"):
         raise Refused("400 accepts_incomplete must be true or false.")
@@ -168,4 +250,297 @@ def accepted(method: str, target: bytes, body: bytes, longest: int) -> str:
         one(pairs, "operation")
     if kind == "provision":
         service, plan = body_ids(body)
-    return f"{kind} {instance.lower()} {service} {plan} {str(accepts == 'true').lower()}"
+    return Received(kind, instance, service, plan, accepts == "true", body if kind == "provision" else b"")
+
+
+# ---- the parts of a body, with numbers as they are written
+
+
+class Written(str):
+    """A number as it is written."""
+
+
+def value_of(body: bytes) -> Any:
+    """The value of a body, or `Refused`. Arrays and objects may nest one deeper than those of `members`."""
+    try:
+        value = json.loads(
+            body.decode(), parse_constant=refuse, parse_float=Written, parse_int=Written, object_pairs_hook=Pairs
+        )
+    except (ValueError, RecursionError) as error:
+        raise Refused(str(error)) from error
+    if not is_sound(value, -1):
+        raise Refused("a lone surrogate, or too deep")
+    return value
+
+
+def compact(value: Any) -> str:
+    """The text of a value, with no spaces: members in their order, and those that stand twice stand twice."""
+    if isinstance(value, Written):
+        return str(value)
+    if isinstance(value, list):
+        return "[" + ",".join(compact(it) for it in value) + "]"
+    if isinstance(value, Pairs):
+        return "{" + ",".join(f"{json.dumps(k, ensure_ascii=False)}:{compact(v)}" for k, v in value.pairs) + "}"
+    return json.dumps(value, ensure_ascii=False)
+
+
+def ascending(value: Any) -> Any:
+    """The value with each object's members in ascending order of names. If a name stands twice, the last counts."""
+    if isinstance(value, list):
+        return [ascending(it) for it in value]
+    if isinstance(value, Pairs):
+        return Pairs(sorted((name, ascending(it)) for name, it in dict(value.pairs).items()))
+    return value
+
+
+def pairs_of(body: bytes) -> list[tuple[str, Any]]:
+    try:
+        value = value_of(body)
+    except Refused:
+        return []
+    return value.pairs if isinstance(value, Pairs) else []
+
+
+def member(body: bytes, name: str) -> str | None:
+    found = dict(pairs_of(body))
+    return compact(found[name]) if name in found else None
+
+
+PARTS = ("service_id", "plan_id", "parameters", "context", "maintenance_info")
+
+
+def others(body: bytes) -> str | None:
+    """The object of the members that have no text of their own."""
+    try:
+        value = value_of(body)
+    except Refused:
+        return None
+    return compact(Pairs([it for it in value.pairs if it[0] not in PARTS])) if isinstance(value, Pairs) else None
+
+
+def digest_of(value: Any) -> bytes:
+    text = compact(ascending(value))
+    return bytes(32) if text in ("{}", "null") else hashlib.sha256(text.encode()).digest()
+
+
+def parameters_digest(text: bytes) -> bytes | None:
+    try:
+        return digest_of(value_of(text))
+    except Refused:
+        return None
+
+
+def attributes_digest(body: bytes) -> bytes:
+    found = dict(pairs_of(body))
+    return digest_of(found["parameters"]) if "parameters" in found else bytes(32)
+
+
+# ---- headers of identity
+
+
+def identity(value: str) -> tuple[str, str] | None:
+    """The platform and the object of X-Broker-API-Originating-Identity."""
+    platform, _, encoded = value.partition(" ")
+    try:
+        decoded = base64.b64decode(encoded.encode(), validate=True)
+    except binascii.Error:
+        return None
+    if not platform or base64.b64encode(decoded).decode() != encoded or members(decoded) is None:
+        return None
+    return platform, decoded.decode()
+
+
+def request_identity(value: str) -> str | None:
+    return value if value and all(c >= " " and c != "\x7f" for c in value) else None
+
+
+# ---- details of answers
+
+
+class Details(NamedTuple):
+    """What the body of an answer says besides the answer."""
+
+    description: str | None
+    error: str | None
+    dashboard_url: str | None
+    operation: str | None
+    metadata: str | None
+    instance_usable: bool | None
+    update_repeatable: bool | None
+
+
+def details(body: bytes) -> Details:
+    found = members(body) or {}
+    operation = text_at(found, "operation")
+    flags = [found.get(name) for name in ("instance_usable", "update_repeatable")]
+    return Details(
+        text_at(found, "description"),
+        text_at(found, "error"),
+        text_at(found, "dashboard_url"),
+        operation if operation is not None and len(operation) <= 10_000 else None,
+        member(body, "metadata"),
+        *(it if isinstance(it, bool) else None for it in flags),
+    )
+
+
+# ---- maintenance
+
+
+def conflicts(sold: str | None, body: bytes) -> bool:
+    info = (members(body) or {}).get("maintenance_info")
+    named_version = dict(info.pairs).get("version") if isinstance(info, Pairs) else None
+    return sold is not None and isinstance(named_version, str) and named_version != sold
+
+
+def plan_version(document: bytes, service: int | None, plan: int | None) -> str | None:
+    """The version of the first plan of this number, of the first service of this number that has one."""
+    for it in entries(members(document) or {}, "services"):
+        plans = [own for own in entries(it, "plans") if number_at(own) == plan]
+        if number_at(it) == service and plans:
+            info = plans[0].get("maintenance_info")
+            return text_at(dict(info.pairs), "version") if isinstance(info, Pairs) else None
+    return None
+
+
+def entries(of: dict[str, Any], name: str) -> list[dict[str, Any]]:
+    found = of.get(name)
+    return [dict(it.pairs) if isinstance(it, Pairs) else {} for it in found] if isinstance(found, list) else []
+
+
+def number_at(of: dict[str, Any]) -> int | None:
+    text = text_at(of, "id")
+    return None if text is None else number_of(text)
+
+
+def asks_for_catalogue(prefix: bytes, target: bytes) -> bool:
+    return b"/v2/catalog" in behind(prefix, target.partition(b"?")[0])
+
+
+# ---- catalogues
+
+
+FLAGS = {
+    "bindable": "bindings",
+    "plan_updateable": "updating",
+    "instances_retrievable": "fetching_instances",
+    "bindings_retrievable": "fetching_bindings",
+}
+
+
+def served(document: bytes) -> str | None:
+    try:
+        value = value_of(document)
+    except Refused:
+        return None
+    if not isinstance(value, Pairs):
+        return None
+    kept = [it for it in value.pairs if it[0] != "x-osb-tombstones"]
+    return compact(Pairs([("x-osb-tombstones", True), *kept]))
+
+
+def listed(of: dict[str, Any], name: str, fault: str) -> list[dict[str, Any]]:
+    found = of.get(name)
+    if not isinstance(found, list):
+        raise Refused(fault)
+    return [dict(it.pairs) if isinstance(it, Pairs) else {} for it in found]
+
+
+def plan_mode(plan: dict[str, Any]) -> str:
+    says = plan.get("x-osb-asynchronous", plan.get("asynchronous", False))
+    if not isinstance(says, bool):
+        raise Refused("x-osb-asynchronous must be true or false")
+    return "async" if says else "sync"
+
+
+def own_number(of: dict[str, Any], fault: str) -> int:
+    text = text_at(of, "id")
+    number = None if text is None else number_of(text)
+    if number is None:
+        raise Refused(fault)
+    return number
+
+
+def sold(document: bytes) -> dict[tuple[int, int], str]:
+    """The modes of the plans that a document names, or `Refused` with the first fault."""
+    try:
+        value = json.loads(
+            document.decode(), parse_constant=refuse, parse_float=finite, parse_int=finite, object_pairs_hook=Pairs
+        )
+    except (ValueError, RecursionError, Refused):
+        value = refuse
+    if value is refuse or not is_sound(value):
+        raise Refused("the document must be JSON")
+    modes: dict[tuple[int, int], str] = {}
+    top = dict(value.pairs) if isinstance(value, Pairs) else {}
+    for service in listed(top, "services", "the document must have a list of services"):
+        number = own_number(service, "the id of a service must be a string of 1 to 255 bytes")
+        for plan in listed(service, "plans", "a service must have a list of plans"):
+            pair = number, own_number(plan, "the id of a plan must be a string of 1 to 255 bytes")
+            mode = plan_mode(plan)
+            if pair in modes:
+                raise Refused("a plan of a service stands twice")
+            modes[pair] = mode
+    return modes
+
+
+def judge_own(of: dict[str, Any], names: list[str]) -> None:
+    name = text_at(of, "name")
+    if not name:
+        raise Refused("each service and each plan must have a name")
+    if name in names:
+        raise Refused("two services, or two plans of a service, have one name")
+    if not text_at(of, "description"):
+        raise Refused("each service and each plan must have a description")
+    names.append(name)
+
+
+WHY = {
+    "bindable": "bindings are not served",
+    "plan_updateable": "updating is not served",
+    "instances_retrievable": "fetching an instance is not served",
+    "bindings_retrievable": "fetching a binding is not served",
+}
+
+
+def judge_flags(of: dict[str, Any], names: list[str], serves: set[str]) -> None:
+    for name in names:
+        says = of.get(name, False)
+        if not isinstance(says, bool):
+            raise Refused(f"{', '.join([*FLAGS][:-1])} and {[*FLAGS][-1]} must be true or false")
+        if says and FLAGS[name] not in serves:
+            raise Refused(f"{name} must be false: {WHY[name]}")
+
+
+def judge(document: bytes, serves: set[str]) -> dict[tuple[int, int], str]:
+    """The plans of a catalogue that can be kept, given the endpoints that are served, or `Refused`."""
+    modes = sold(document)
+    top = dict(json.loads(document.decode(), object_pairs_hook=Pairs).pairs)
+    names: list[str] = []
+    for service in listed(top, "services", ""):
+        judge_own(service, names)
+        if "bindable" not in service:
+            raise Refused("each service must say whether it is bindable")
+        judge_flags(service, [*FLAGS], serves)
+        plans = listed(service, "plans", "")
+        if not plans:
+            raise Refused("each service must have a plan")
+        plan_names: list[str] = []
+        for plan in plans:
+            judge_own(plan, plan_names)
+            judge_flags(plan, ["bindable", "plan_updateable"], serves)
+    for texts in id_texts(document):
+        if len({number_of(text) for text in texts}) < len(texts):
+            raise Refused("two ids have one number")
+    return modes
+
+
+def id_texts(document: bytes) -> tuple[set[str], set[str]]:
+    """The different texts of the services' ids, and those of the plans', of a document that can be read."""
+    top = dict(json.loads(document.decode(), object_pairs_hook=Pairs).pairs)
+    services = listed(top, "services", "")
+    plans = [plan for service in services for plan in listed(service, "plans", "")]
+    return {service["id"] for service in services}, {plan["id"] for plan in plans}
+
+
+def has_tombstones(document: bytes) -> bool:
+    return (members(document) or {}).get("x-osb-tombstones") is True

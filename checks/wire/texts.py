@@ -3,7 +3,9 @@
 from __future__ import annotations
 
 import json
-from collections.abc import Iterator
+import random
+import urllib.parse
+from collections.abc import Iterator, Sequence
 from typing import NamedTuple
 
 from hypothesis import strategies as st
@@ -37,11 +39,28 @@ VALUES = [
     '"\\ud83d\\ude00"',
     '"é"',
     '"\\n"',
+    '"\\u0001\\b\\\\\\"\\/\\u007f"',
+    "1.50",
+    "0.1E+2",
+    "false",
     "NaN",
     "01",
     '""',
 ]
-NAMES = ['"state"', '"error"', '"st\\u0061te"', '"description"', '"a"', '"err\\u006fr"']
+# A body with one of these isn't taken.
+ODD = ["1e400", '"\\ud800"', "NaN", "01"]
+NAMES = [
+    '"state"',
+    '"error"',
+    '"st\\u0061te"',
+    '"description"',
+    '"a"',
+    '"err\\u006fr"',
+    '""',
+    '"é"',
+    '"\\uffff"',
+    '"\\ud83d\\ude00"',
+]
 # The bytes that are added to a body, to a target, and to the body of a Provision.
 IN_BODY = b'{}[]",:\\ \x00\xff\xc3a1-.eE\r'
 IN_TARGET = b"/?&=%+-0aZ\xff\xc3\xa9"
@@ -70,6 +89,19 @@ def edits(of: bytes) -> st.SearchStrategy[list[tuple[str, int, int]]]:
     return st.lists(st.tuples(kind, st.integers(0, 400), st.sampled_from([*of])), max_size=2)
 
 
+def variants(whole: bytes, of: bytes, seed: int, many: int) -> list[bytes]:
+    """The bytes themselves, and others with one edit to three, which the seed chooses."""
+    chance = random.Random(seed)
+    made = [whole]
+    while len(made) < many:
+        changes = [
+            (chance.choice(["delete", "insert", "replace"]), chance.randrange(len(whole) + 1), chance.choice(of))
+            for _ in range(chance.choice([1, 1, 1, 2, 3]))
+        ]
+        made.append(edited(whole, changes))
+    return made
+
+
 def neighbours(whole: bytes, of: bytes) -> Iterator[bytes]:
     """The bytes themselves, each beginning of them, and what each edit of one byte makes of them."""
     yield whole
@@ -86,7 +118,11 @@ def neighbours(whole: bytes, of: bytes) -> Iterator[bytes]:
 # ---- bodies of answers
 
 
-def joined(pairs: list[tuple[str, str, str]], comma: str) -> str:
+# A name, a colon and a value, as they are written.
+Member = tuple[str, str, str]
+
+
+def joined(pairs: Sequence[Member], comma: str) -> str:
     return "{" + comma.join("".join(pair) for pair in pairs) + "}"
 
 
@@ -101,6 +137,7 @@ def nested(values: st.SearchStrategy[str]) -> st.SearchStrategy[str]:
 
 
 VALUE = st.recursive(st.sampled_from(VALUES), nested, max_leaves=6)
+SOUND_VALUE = st.recursive(st.sampled_from([it for it in VALUES if it not in ODD]), nested, max_leaves=6)
 OBJECT = objects(VALUE)
 WHOLE_BODY = st.one_of(OBJECT, OBJECT, OBJECT, VALUE).map(str.encode)
 MARK = st.sampled_from([b""] * 30 + [BYTE_ORDER_MARK])
@@ -122,6 +159,30 @@ def cased(number: int, mask: int) -> str:
 
 
 GUIDS = st.builds(cased, st.integers(0, 2**128 - 1), st.sampled_from([0, 0, 2**32 - 1, 0xA5A5A5A5]))
+# Texts that are ids, and some that are none: empty, a dot segment, one byte too long.
+NAMES_OF_IDS = st.sampled_from(
+    [
+        "postgres-small",
+        "a b",
+        "a/b",
+        "a%b?c",
+        "~é",
+        "\U0001f600",
+        "x" * 255,
+        "é" * 127 + "x",
+        ".",
+        "..",
+        "...",
+        "",
+        "x" * 256,
+    ]
+)
+IDS = GUIDS | GUIDS | NAMES_OF_IDS | st.text(st.characters(blacklist_categories=["Cs"]), max_size=6)
+
+
+def quoted(text: str) -> str:
+    """The text with escapes for all that a target can't carry."""
+    return urllib.parse.quote(text, safe="")
 
 
 def escaped(text: str, places: set[int]) -> str:
@@ -136,7 +197,7 @@ FURTHER = st.sampled_from(["", "x=1", "operation=a%20b", "operation=", "y", "%zz
 @st.composite
 def parameters(draw: st.DrawFn, name: str) -> list[str]:
     """The parameter of this name: mostly once, at times never or twice."""
-    values = GUIDS if name != "accepts_incomplete" else st.sampled_from(["true", "false"] * 5 + ["True", ""])
+    values = IDS.map(quoted) if name != "accepts_incomplete" else st.sampled_from(["true", "false"] * 5 + ["True", ""])
     return [
         escaped(name, draw(PLACES)) + draw(EQUALS) + escaped(draw(values), draw(PLACES))
         for _ in range(draw(st.sampled_from([1] * 12 + [0, 2])))
@@ -162,13 +223,37 @@ class Asked(NamedTuple):
 ENDS = {"GET": "/last_operation", "PUT": "", "DELETE": ""}
 
 
+VERSIONS = st.sampled_from(
+    ['{"version":"1.0"}', '{"version":"2.0"}', '{"version":2}', '{"version":"1.0","version":"2.0"}']
+)
+
+
+def members(
+    names: Sequence[str], values: st.SearchStrategy[str], least: int, most: int
+) -> st.SearchStrategy[list[Member]]:
+    """So many members of these names, each as often as it may be."""
+    return st.lists(
+        st.tuples(st.sampled_from([json.dumps(name) for name in names]), st.sampled_from([":", " : "]), values),
+        min_size=least,
+        max_size=most,
+    )
+
+
+IN_PROVISIONS = members(
+    ["parameters", "parameters", "context", "maintenance_info", "vendor", "space_guid"], SOUND_VALUE | VERSIONS, 1, 4
+)
+
+
 @st.composite
 def provisions(draw: st.DrawFn) -> bytes:
     """The body of a Provision."""
-    made = {name: draw(GUIDS) for name in ("service_id", "plan_id", "organization_guid", "space_guid")}
+    made = {name: draw(IDS) for name in ("service_id", "plan_id", "organization_guid", "space_guid")}
     if draw(st.sampled_from([False] * 4 + [True])):
         made[draw(st.sampled_from([*made]))] = draw(st.sampled_from(["", "x"]))
-    return json.dumps(made).encode()
+    escapes = draw(st.booleans())
+    pairs = [(json.dumps(name), ":", json.dumps(text, ensure_ascii=escapes)) for name, text in made.items()]
+    pairs += draw(IN_PROVISIONS)
+    return joined(draw(st.permutations(pairs)), draw(st.sampled_from([",", " ,", ", "]))).encode()
 
 
 @st.composite
@@ -178,9 +263,13 @@ def whole_requests(draw: st.DrawFn) -> Asked:
     method = draw(st.sampled_from([of] * 14 + ["GET", "PUT", "DELETE", "POST", "put"]))
     end = draw(st.sampled_from([ENDS[of]] * 14 + ["", "/", "/last_operation", "/service_bindings/1"]))
     query = draw(st.sampled_from(["?"] * 15 + [""]))
-    target = f"/v2/service_instances/{draw(GUIDS)}{end}{query}{draw(queries()) if query else ''}".encode()
+    front = draw(
+        st.sampled_from(["/v2"] * 12 + ["//v2", "///v2", "http://host:80/v2", "HTTPS://host/v2", "https://host//v2"])
+    )
+    segment = quoted(draw(IDS))
+    target = f"{front}/service_instances/{segment}{end}{query}{draw(queries()) if query else ''}".encode()
     body = draw(provisions()) if method == "PUT" else b""
-    return Asked(method, target, body, draw(st.sampled_from([1000] * 15 + [200])))
+    return Asked(method, target, body, draw(st.sampled_from([10_000] * 15 + [200])))
 
 
 @st.composite

@@ -7,12 +7,15 @@
 #include <stdlib.h>
 
 static const char *const states[] = {"wanted", "polling", "ready", "cleaning", "cleaning-polling", "gone", "unsettled"};
-static const char *const phases[] = {"making", "ready", "failed", "deleting", "delete-failed"};
+static const char *const phases[] = {"making", "ready", "failed", "deleting", "delete-failed", "waiting"};
 
 static const struct osb_id service = {0, 0xa0}, plan = {0, 0xb1};
 
 /* How the plan works, as the broker's catalogue has it. */
 enum { MODE = OSB_MODE_SYNC };
+
+/* The digest of a Provision's parameters, which these don't have. osb_attributes_digest computes it from a body. */
+static const uint8_t no_attributes[32];
 
 struct text {
     uint8_t bytes[300];
@@ -53,7 +56,7 @@ static const char *held(const struct osb_holding *holding)
         return "pending";
     if (holding->has_row)
         return phases[holding->row.phase];
-    return holding->is_marked ? "tombstone" : "empty";
+    return holding->has_tombstone ? "tombstone" : "empty";
 }
 
 /* Prints a step, and what both sides keep after it. */
@@ -96,7 +99,7 @@ static struct given handle(struct story *story, const struct sent *sent)
                           sent->target.length, sent->body.bytes, sent->body.length, &asked),
          "osb_read_request");
     done(osb_asked_request(&asked, story->holding.has_row, row.service, row.plan, &request), "osb_asked_request");
-    done(osb_holding_begin(&story->holding, MODE, &request, &begun), "osb_holding_begin");
+    done(osb_holding_begin(&story->holding, MODE, false, &request, no_attributes, &begun), "osb_holding_begin");
     if (begun.work != OSB_WORK_NONE)
         begun.answer = work(story, begun.work);
     given.status = begun.answer.status;

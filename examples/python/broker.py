@@ -20,7 +20,7 @@ CATALOGUE = b"""{"services": [{"id": "00000000-0000-0000-0000-0000000000a0", "na
 
 
 class Folders:
-    """The worker: the thing behind an instance is a folder that is named by its id. No plan here is asynchronous."""
+    """The worker: the resource of an instance is a folder that is named by its id. No plan here is asynchronous."""
 
     def __init__(self, top: str) -> None:
         self._top = top

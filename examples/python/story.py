@@ -85,7 +85,7 @@ def held(holding: Holding) -> str:
         return "pending"
     if holding.row is not None:
         return str(holding.row.phase)
-    return "tombstone" if holding.is_marked else "empty"
+    return "tombstone" if holding.has_tombstone else "empty"
 
 
 lost = Story("00000000-0000-0000-0000-000000000001")

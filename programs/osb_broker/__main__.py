@@ -7,7 +7,7 @@ import sys
 import time
 
 from osb.wsgi import BrokerApplication
-from osb_broker import logs, parts, words
+from osb_broker import catalogue, logs, parts, words
 from osb_broker.databases import password_of
 from osb_broker.fence import fenced
 from osb_broker.front import Front
@@ -45,6 +45,9 @@ def main(given: list[str]) -> int:
     except OSError as error:
         raise words.refuse(f"it can't listen at {written(*settings.listen)}: {error}") from error
     logs.begin()
+    in_upper_case = catalogue.in_upper_case(document)
+    if in_upper_case:
+        _log.warning("guid_in_upper_case", extra={"ids": in_upper_case})
     if crash.IS_SET:
         store = PointedStore(store)
     worker = BackendWorker(backend)

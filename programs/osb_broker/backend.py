@@ -40,11 +40,11 @@ class Backend(Protocol):
         ...
 
     def make(self, id: Id, request: Request) -> None:
-        """Makes the thing whole. There is none, or a part of it. Once this returns, the thing outlives a power cut."""
+        """Creates the resource. There is none, or a part of it. Once this returns, it outlives a power cut."""
         ...
 
     def delete(self, id: Id) -> None:
-        """Takes the thing away. It is there, whole or in part."""
+        """Deletes the resource. It is there, whole or in part."""
         ...
 
 

@@ -27,7 +27,7 @@ _OWNER_LOCK = 0x6F73625F6F776E72
 
 
 class Databases:
-    """The thing behind an instance is a database and a role, both named by its id.
+    """The resource behind an instance is a database and a role, both named by its id.
 
     A statement that the server runs goes on where its client is killed. So the lock of an instance is held by the very
     session that runs its statements: the server lets it go once the last of them has ended.

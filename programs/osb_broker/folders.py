@@ -19,7 +19,7 @@ _ID = re.compile("[0-9a-f]{8}(-[0-9a-f]{4}){3}-[0-9a-f]{12}")
 
 
 class Folders:
-    """The thing behind an instance is a folder that is named by its id, in one folder for all of them.
+    """The resource behind an instance is a folder that is named by its id, in one folder for all of them.
 
     It is made under another name, and has its own once it is whole; so it loses its own before it is taken apart.
     """

@@ -6,16 +6,18 @@ import re
 import secrets
 import time
 from typing import Any, Callable, Iterable
+from urllib.parse import unquote_to_bytes
 
 from osb import Id, OsbError
-from osb.wsgi import Environ, Headers
+from osb.wsgi import Environ, Headers, target_of
 from osb_broker.logs import REQUEST
 
 _log = logging.getLogger("osb_broker.request")
 
 HEALTH = "/healthz"
 
-_INSTANCE = re.compile(r"/v2/service_instances/([^/]{36})(?:/|\Z)")
+# The forms of the path that the library takes: with a scheme and a host, more slashes at the front, one at the end.
+_INSTANCE = re.compile(rb"(?:(?i:https?)://[^/]*)?/+v2/service_instances/([^/]+)(?:/last_operation)?/?")
 _REQUEST_ID = re.compile(r"[!-~]{1,100}")
 # Answers after which an instance is tended: an operation has begun; or work is recorded whose worker may be dead, which
 # a Poll is answered as one in progress.
@@ -101,11 +103,11 @@ def _said(start_response: Callable[..., Any], line: str, body: bytes, *headers: 
 
 
 def _instance(environ: Environ) -> Id | None:
-    """The instance that the path names, or None."""
-    named = _INSTANCE.match(str(environ.get("PATH_INFO", "")))
+    """The instance that the path names, as the application reads it, or None."""
+    named = _INSTANCE.fullmatch(target_of(environ).partition(b"?")[0])
     try:
-        return None if named is None else Id.of(named[1])
-    except OsbError:
+        return None if named is None else Id.of_text(unquote_to_bytes(named[1]).decode())
+    except (OsbError, UnicodeDecodeError):
         return None
 
 

@@ -27,10 +27,10 @@ class NoPart(Exception):
 
 
 def catalogue_of(settings: Settings) -> bytes:
-    """The document of the catalogue, which can be read."""
+    """The document of the catalogue to serve, which can be read."""
     if settings.catalogue is None:
         sells = "database" if settings.backend is not None and pg.is_url(settings.backend) else "folder"
-        return catalogue.default(sells, f"a {sells} of one's own")
+        return catalogue.served(catalogue.default(sells, f"a {sells} of one's own"))
     try:
         document = settings.catalogue.read_bytes()
     except OSError as error:
@@ -39,7 +39,7 @@ def catalogue_of(settings: Settings) -> bytes:
         catalogue_plans(document)
     except OsbError as error:
         raise NoPart(f"{settings.catalogue} is no catalogue: {error}") from error
-    return document
+    return catalogue.served(document)
 
 
 def store_of(settings: Settings, backend: Backend) -> WorkersStore:

@@ -12,8 +12,8 @@ T = TypeVar("T")
 POINTS = (
     "begin-next",  # work is due, and its record isn't written yet
     "begin-written",  # it is recorded and committed, and not begun
-    "mark-next",  # a Deprovision found nothing, and the mark isn't written yet
-    "mark-written",  # it is committed, and 410 isn't answered yet
+    "tombstone-next",  # a Deprovision found nothing, and the tombstone isn't written yet
+    "tombstone-written",  # it is committed, and 410 isn't answered yet
     "work-next",  # the worker has the lock, and has done nothing
     "work-running",  # some milliseconds into the backend's work
     "work-half",  # the backend has done part of its work
@@ -63,4 +63,4 @@ def _step(before: Holding, after: Holding) -> str | None:
         return "begin"
     if before.work is not None:
         return "end"
-    return "mark" if before.row is None else "finish"
+    return "tombstone" if before.row is None else "finish"

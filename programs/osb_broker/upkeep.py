@@ -1,4 +1,4 @@
-"""What goes on besides requests: recorded work of dead workers is taken up, and operations are gone on with.
+"""What goes on besides requests: pending work of dead workers is taken up, and operations are gone on with.
 
 An instance is tended by one thread of a bounded pool, under its lock. Where somebody else has the lock it is passed
 over, since its worker lives, or its work has outlived it: it is tended again when a request touches it, and at the next
@@ -21,10 +21,10 @@ _log = logging.getLogger("osb_broker.upkeep")
 
 
 class Ends(Protocol):
-    """What ends recorded work and operations: `osb.wsgi.BrokerApplication`, or `osb.service.BrokerService`."""
+    """What ends pending work and operations: `osb.wsgi.BrokerApplication`, or `osb.service.BrokerService`."""
 
     def take_up(self, id: Id) -> None:
-        """Does the recorded work of an instance, whose lock the caller holds."""
+        """Does the pending work of an instance, whose lock the caller holds."""
         ...
 
     def finish(self, id: Id, ok: bool) -> None:

@@ -8,7 +8,7 @@ from typing import NamedTuple
 
 from osb import Id
 from osb_program.addresses import address_of
-from osb_program.words import count_up_to, id_of, refusal, seconds_up_to
+from osb_program.words import any_id_of, count_up_to, refusal, seconds_up_to
 
 _PROGRAM = "osb-broker"
 
@@ -118,7 +118,7 @@ def _parser() -> argparse.ArgumentParser:
     password = commands.add_parser(
         "password", help="print the password of an instance's PostgreSQL database", allow_abbrev=False
     )
-    password.add_argument("instance", type=id_of, metavar="INSTANCE", help="the instance's id")
+    password.add_argument("instance", type=any_id_of, metavar="INSTANCE", help="the instance's id")
     _key(password)
     return parser
 
@@ -182,7 +182,7 @@ def _limits(serve: argparse.ArgumentParser) -> None:
         type=_count,
         default=4,
         metavar="N",
-        help="operations and recorded work at once, besides requests (4)",
+        help="operations and pending work at once, besides requests (4)",
     )
     serve.add_argument(
         "--longest-body",

@@ -14,7 +14,7 @@ _log = logging.getLogger("osb_broker.worker")
 
 
 class NobodyKnows(Exception):
-    """A part of the thing is there and can't be taken away: the work stays recorded, and is tried again."""
+    """A part of the resource is there and can't be taken away: the work stays recorded, and is tried again."""
 
 
 class BackendWorker:
@@ -47,7 +47,7 @@ class BackendWorker:
         return outcome == Outcome.DONE
 
     def _make(self, request: Request) -> Outcome:
-        """Done where the thing is whole in the end, and Before where there is none: a part is taken away."""
+        """Done if the resource is whole in the end, and Before where there is none: a part is taken away."""
         id = request.id
         if self._backend.look(id) == There.WHOLE:
             self._sync(id)

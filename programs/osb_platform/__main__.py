@@ -9,20 +9,21 @@ import os
 import queue
 import signal
 import sqlite3
+import ssl
 import sys
 from pathlib import Path
-from typing import Iterator
+from typing import Callable, Iterator
 
 from osb import Id, Kind, OsbError, Request
 from osb.client import Client
-from osb.records import IdUsed, UnknownId
+from osb.records import IdUsed, RecordStore, UnknownId
 from osb.wire import write_body
 from osb_platform import tell, words
 from osb_platform.instances import Database, Instances
-from osb_platform.pace import Pace
+from osb_platform.pace import USUAL_HOLD, Pace
 from osb_platform.page import Page, serving
 from osb_platform.pg_database import PgDatabase, PgReader
-from osb_platform.plans import Durations, Longest, durations
+from osb_platform.plans import Known, Longest, known
 from osb_platform.points import POINTS
 from osb_platform.reach import Unreached, reached
 from osb_platform.readings import Reader
@@ -94,7 +95,8 @@ def _show(asked: argparse.Namespace) -> int:
 def _run(asked: argparse.Namespace) -> int:
     logging.basicConfig(level=logging.WARNING, stream=sys.stderr, format="%(asctime)s %(levelname)s %(message)s")
     instances, progress = _instances(asked, asked.seconds), tell.Progress()
-    client, worker = _client(asked, instances), Worker(asked.threads, asked.seconds + _MARGIN, asked.look_seconds)
+    client, worker = _client(asked), Worker(asked.threads, asked.seconds + _MARGIN, asked.look_seconds)
+    first = _first(client, instances)
     for number in (signal.SIGTERM, signal.SIGINT):
         signal.signal(number, lambda *_: worker.stop())
 
@@ -106,8 +108,8 @@ def _run(asked: argparse.Namespace) -> int:
         if not is_only:
             raise words.refuse(f"a worker of the name {asked.worker} runs already: name this one with --worker")
         with _page(asked):
-            known = _durations(asked, client, worker)
-            if known is not None:
+            said = _known(asked, first, worker)
+            if said is not None:
                 _see_to_broker(asked, instances)
                 instances.free(asked.worker)
                 worker.run(
@@ -115,8 +117,8 @@ def _run(asked: argparse.Namespace) -> int:
                         client,
                         instances,
                         asked.worker,
-                        Pace(asked.pace, asked.longest_pace, asked.late_for),
-                        Longest(asked.longest_poll, known),
+                        Pace(asked.pace, asked.longest_pace, _hold(asked, said)),
+                        Longest(asked.longest_poll, said.durations),
                         progress.changed,
                     ),
                     asked.once,
@@ -155,26 +157,42 @@ def _reader(asked: argparse.Namespace) -> Reader:
     return SqliteReader(Path(asked.store))
 
 
-def _client(asked: argparse.Namespace, instances: Instances) -> Client:
+def _client(asked: argparse.Namespace) -> Callable[[RecordStore], Client]:
+    """What makes a client of the broker over a store."""
     try:
         password = secret("OSB_PLATFORM_PASSWORD", "--password-file", asked.password_file)
-        return Client(
-            asked.broker,
-            asked.user,
-            password,
-            instances,
-            organization=asked.organization,
-            space=asked.space,
-            seconds=asked.seconds,
-        )
     except NoSecret as error:
         raise words.refuse(f"the password at the broker: {error}") from error
+    tls = ssl.create_default_context()
+    return lambda store: Client(
+        asked.broker,
+        asked.user,
+        password,
+        store,
+        organization=asked.organization,
+        space=asked.space,
+        seconds=asked.seconds,
+        tls=tls,
+    )
+
+
+def _first(client: Callable[[RecordStore], Client], instances: Instances) -> Client:
+    """The client that asks for the catalogue. Refuses what no client takes."""
+    try:
+        return client(instances)
     except ValueError as error:
         raise words.refuse(str(error)) from error
 
 
-def _durations(asked: argparse.Namespace, client: Client, worker: Worker) -> Durations | None:
-    """How long the plans' instances may be polled, or None where it is to stop before that is known."""
+def _hold(asked: argparse.Namespace, said: Known) -> float:
+    """The seconds of `Pace.late_for`: those that were given, or else by whether the broker has tombstones."""
+    if asked.late_for is not None:
+        return float(asked.late_for)
+    return 0.0 if said.has_tombstones else USUAL_HOLD
+
+
+def _known(asked: argparse.Namespace, client: Client, worker: Worker) -> Known | None:
+    """What the broker's catalogue says, or None where it is to stop before that is known."""
     if asked.catalog is None:
         try:
             return reached(
@@ -186,7 +204,7 @@ def _durations(asked: argparse.Namespace, client: Client, worker: Worker) -> Dur
         except Unreached as error:
             raise words.refuse(f"the broker {asked.broker}: {error}; nothing was sent", 1) from error
     try:
-        return durations(Path(asked.catalog).read_bytes())
+        return known(Path(asked.catalog).read_bytes())
     except (OSError, ValueError, RecursionError) as error:
         raise words.refuse(f"the catalogue {asked.catalog} can't be read: {error}") from error
 

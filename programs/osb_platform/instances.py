@@ -2,8 +2,8 @@
 
 A row is an order at first, without a record: `create` writes it, and nothing is sent. A worker leases rows that are
 due, for as long as a step may take, so that an instance is stepped by one worker at a time. A lease that has run out,
-as of a worker that is dead, is taken over. That this may come too early does no harm to the record: what an older
-exchange brings has an older attempt, and is passed over.
+as of a worker that is dead or paused, is taken over. A step hands its `Guard` to `insert` and `update`: so whether its
+lease holds, and whether the request may be sent now, is decided in the transaction that writes the request.
 
 The states that an instance has left stand in a second table, the first of them with the number 1. Each is written in
 the transaction that ends it, so an instance's life is those, and then the state of its row.
@@ -11,7 +11,7 @@ the transaction that ends it, so an instance's life is those, and then the state
 from __future__ import annotations
 
 from dataclasses import dataclass
-from typing import Any, Callable, ContextManager, Protocol, Sequence, TypeVar
+from typing import Any, Callable, ContextManager, NamedTuple, Protocol, Sequence, TypeVar
 
 from osb import Id, Kind, Record, State
 from osb.records import IdUsed, Kept, UnknownId
@@ -38,7 +38,10 @@ _TABLE = (
     "CREATE INDEX IF NOT EXISTS osb_leased_instances ON osb_instances (leased_until) WHERE worker IS NOT NULL",
 )
 
-_COLUMNS = "id, service, plan, further, record, operation, state, since, sent_until, polled_since, removal, due, tries"
+_COLUMNS = (
+    "id, service, plan, further, record, operation, state, since, sent_until, polled_since, removal, due, tries, "
+    "worker, leased_until"
+)
 
 
 class Database(Protocol):
@@ -57,13 +60,23 @@ class Database(Protocol):
         """Whether the error says that a key is there already."""
         ...
 
-    def now(self) -> float:
-        """The time, in seconds, as all workers of this database have it."""
+    def now(self, execute: Execute | None = None) -> float:
+        """The time, in seconds, as all workers of this database have it. In a transaction, `execute` is that of it."""
         ...
 
     def only(self, worker: str) -> ContextManager[bool]:
         """Whether no other process is the worker of this name, and until the end of the block none will be."""
         ...
+
+
+class Lease(NamedTuple):
+    """The right of a worker to step an instance, until a moment. If a worker leases an instance again, the moment is
+    another one.
+    """
+
+    id: Id
+    worker: str
+    until: float
 
 
 @dataclass(frozen=True)
@@ -91,6 +104,14 @@ class Instance:
     """When the next step is due, or None where it rests."""
     tries: int
     """How many requests in turn have changed nothing."""
+    lease: Lease | None = None
+    """Who steps it, or None."""
+
+
+Guard = Callable[[Instance, Kept, float], None]
+"""Judges what a step is about to write: the row as the transaction has read and locked it, what is kept then, and the
+time. If it raises, nothing is written.
+"""
 
 
 class Instances:
@@ -126,7 +147,7 @@ class Instances:
             with self._database.transaction() as execute:
                 execute(
                     f"INSERT INTO osb_instances ({_COLUMNS}) VALUES (?, ?, ?, ?, NULL, NULL, ?, ?, NULL, NULL, 0, "
-                    "?, 0)",
+                    "?, 0, NULL, NULL)",
                     [str(id), str(service), str(plan), further, ORDERED, now, now],
                 )
         except Exception as error:
@@ -146,7 +167,7 @@ class Instances:
                 execute("UPDATE osb_instances SET removal = 1, due = ? WHERE id = ?", [now, str(id)])
         return row.state
 
-    def claim(self, worker: str, most: int, seconds: float) -> list[Id]:
+    def claim(self, worker: str, most: int, seconds: float) -> list[Lease]:
         """Leases at most so many instances that are due, for so many seconds."""
         now = self.now()
         crash("claim-next")
@@ -162,22 +183,23 @@ class Instances:
                 )
         if found:
             crash("claim-written")
-        return [Id.of(id) for (id,) in found]
+        return [Lease(Id.of(id), worker, now + seconds) for (id,) in found]
 
-    def release(self, id: Id, worker: str, next: Callable[[Instance, float], tuple[float | None, int]]) -> Instance:
+    def release(self, lease: Lease, next: Callable[[Instance, float], tuple[float | None, int]]) -> Instance:
         """Ends the lease; `next` gives, for the time that it is now, when the next step is due, and the tries until
-        then. Nothing changes where another worker has taken it over.
+        then. If the instance was leased anew, nothing changes.
         """
         now = self.now()
         crash("release-next")
         with self._database.transaction() as execute:
-            row = self._locked(execute, id)
+            row = self._locked(execute, lease.id)
             due, tries = next(row, now)
-            execute(
-                "UPDATE osb_instances SET worker = NULL, leased_until = NULL, removal = ?, due = ?, tries = ? "
-                "WHERE id = ? AND worker = ?",
-                [int(_still_asked(row)), due, tries, str(id), worker],
-            )
+            if row.lease == lease:
+                execute(
+                    "UPDATE osb_instances SET worker = NULL, leased_until = NULL, removal = ?, due = ?, tries = ? "
+                    "WHERE id = ?",
+                    [int(_still_asked(row)), due, tries, str(lease.id)],
+                )
         crash("release-written")
         return row
 
@@ -237,13 +259,15 @@ class Instances:
 
     # What a `osb.client.Client` asks of a store: `RecordStore`.
 
-    def insert(self, id: Id, kept: Kept) -> None:
-        """Writes the record of an order that wasn't sent yet."""
-        now = self.now()
+    def insert(self, id: Id, kept: Kept, guard: Guard | None = None) -> None:
+        """Writes the record of an order that wasn't sent yet. Raises what the guard raises."""
         with self._database.transaction() as execute:
             row = self._locked(execute, id)
+            now = self._database.now(execute)  # once the row is locked: a worker may have waited, or been paused
             if row.kept is not None or row.state != ORDERED:
                 raise IdUsed(id)
+            if guard is not None:
+                guard(row, kept, now)
             _leave(execute, row)
             execute(
                 "UPDATE osb_instances SET record = ?, operation = ?, state = ?, since = ?, sent_until = ? "
@@ -253,15 +277,17 @@ class Instances:
             crash("send-next")
         _sent()
 
-    def update(self, id: Id, change: Callable[[Kept], tuple[Kept, T]]) -> T:
-        """As `RecordStore` says. Raises `UnknownId` of an order too."""
-        now = self.now()
+    def update(self, id: Id, change: Callable[[Kept], tuple[Kept, T]], guard: Guard | None = None) -> T:
+        """As `RecordStore` says. Raises `UnknownId` of an order too, and what the guard raises."""
         with self._database.transaction() as execute:
             row = self._locked(execute, id)
+            now = self._database.now(execute)  # as in `insert`
             if row.kept is None:
                 raise UnknownId(id)
             before = row.kept
             after, given = change(before)
+            if guard is not None:
+                guard(row, after, now)
             if after != before:
                 _write(execute, row, after, now)
             step = _step(before.record.out, after.record.out)
@@ -288,7 +314,7 @@ def _one(found: list[tuple[Any, ...]], id: Id) -> Instance:
 
 def _instance(row: tuple[Any, ...]) -> Instance:
     id, service, plan, further, record, operation, *rest = row
-    state, since, sent_until, polled_since, removal, due, tries = rest
+    state, since, sent_until, polled_since, removal, due, tries, worker, leased_until = rest
     kept = None if record is None else Kept(Record.from_text(record), operation)
     return Instance(
         Id.of(id),
@@ -303,6 +329,7 @@ def _instance(row: tuple[Any, ...]) -> Instance:
         bool(removal),
         due,
         tries,
+        None if worker is None else Lease(Id.of(id), worker, leased_until),
     )
 
 

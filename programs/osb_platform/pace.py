@@ -5,6 +5,9 @@ from typing import NamedTuple
 
 from osb import State
 
+USUAL_HOLD = 300.0
+"""The seconds of `Pace.late_for` at a broker that doesn't say that it has tombstones."""
+
 LONGEST_NAMED = 3600
 """The most seconds for which the Retry-After of one answer is kept to, which a gateway may have given: an hour."""
 
@@ -17,7 +20,9 @@ class Pace(NamedTuple):
     longest: float
     """What they grow to, doubling each time at which nothing changed."""
     late_for: float
-    """How long after it was sent a Provision may still arrive, where the broker keeps no marks; else 0."""
+    """For how many seconds after a Provision has left the broker may still work for it. 0 if the broker has
+    tombstones.
+    """
 
 
 def wait(pace: Pace, tries: int, named: int | None, share: float) -> float:
@@ -30,9 +35,18 @@ def wait(pace: Pace, tries: int, named: int | None, share: float) -> float:
 
 
 def held_until(pace: Pace, state: State, sent_until: float | None) -> float:
-    """The moment before which no request may be sent, or 0: no Deprovision, while a copy of the Provision may come.
+    """The moment before which no request may be sent, or 0: no Deprovision while the broker may work for the Provision.
     `sent_until`: when the last of the Provision had left at the latest.
     """
     if state != State.CLEANING or pace.late_for == 0.0 or sent_until is None:
         return 0.0
     return sent_until + pace.late_for
+
+
+def last_due(pace: Pace, gone_since: float, sent_until: float | None) -> float | None:
+    """When the last Deprovision of an instance that is gone is due: once the hold has passed again. None if the broker
+    has tombstones, or no Provision was sent.
+    """
+    if pace.late_for == 0.0 or sent_until is None:
+        return None
+    return max(gone_since, sent_until) + pace.late_for

@@ -13,6 +13,8 @@ from osb_program.pg import Sessions
 # of each worker's lock.
 _TABLE_LOCK, _WORKER_LOCK = 0x6F73625F696E7374, 0x6F736270
 
+_CLOCK = "SELECT extract(epoch FROM clock_timestamp())::double precision"
+
 
 class PgDatabase:
     """The database that a URL names."""
@@ -46,10 +48,13 @@ class PgDatabase:
         """As `Database` says."""
         return getattr(error, "pgcode", None) == "23505"  # unique_violation
 
-    def now(self) -> float:
-        """As `Database` says: the server's."""
+    def now(self, execute: Execute | None = None) -> float:
+        """As `Database` says: the server's. A transaction asks on its own session, so that it waits for no other."""
+        if execute is not None:
+            ((now,),) = execute(_CLOCK, [])
+            return float(now)
         with self._sessions.session() as session, session.cursor() as cursor:
-            cursor.execute("SELECT extract(epoch FROM clock_timestamp())::double precision")
+            cursor.execute(_CLOCK)
             ((now,),) = cursor.fetchall()
             return float(now)
 
@@ -81,6 +86,6 @@ class PgReader:
 
             cursor.execute("BEGIN TRANSACTION ISOLATION LEVEL REPEATABLE READ READ ONLY")
             cursor.execute("SET LOCAL statement_timeout = '10s'")
-            ((now,),) = execute("SELECT extract(epoch FROM clock_timestamp())::double precision", [])
+            ((now,),) = execute(_CLOCK, [])
             yield Reading(execute, float(now))
             cursor.execute("ROLLBACK")

@@ -1,4 +1,6 @@
-"""How long instances may be polled: by the plan's `maximum_polling_duration`, or by what the operator says."""
+"""What the platform takes from a broker's catalogue: how long the instances of a plan may be polled, and whether the
+broker has tombstones.
+"""
 from __future__ import annotations
 
 import json
@@ -14,19 +16,29 @@ USUAL = 7 * 86400.0
 Durations = dict[tuple[Id, Id], float]
 
 
-def durations(document: bytes) -> Durations:
-    """The durations that the plans of a catalogue name. Raises ValueError where it is no catalogue. A plan whose ids
-    are no GUIDs is passed over, and so is a duration that is no whole number of seconds, or less than one.
+class Known(NamedTuple):
+    """What a catalogue says."""
+
+    durations: Durations
+    """The durations that its plans name."""
+    has_tombstones: bool
+    """Whether the broker never creates an instance again whose end it has answered: `x-osb-tombstones` is true."""
+
+
+def known(document: bytes) -> Known:
+    """Reads a catalogue. Raises ValueError if the document is none. A plan whose ids are no GUIDs is passed over, and
+    so is a duration that is no whole number of seconds, or less than one.
     """
     read = json.loads(document)
     if not isinstance(read, dict) or not isinstance(read.get("services"), list):
         raise ValueError("it has no list of services")
-    return {
+    durations = {
         (Id.of(service["id"]), Id.of(plan["id"])): float(min(plan["maximum_polling_duration"], _MOST))
         for service in read["services"]
         for plan in _plans(service)
         if _names_one(service, plan)
     }
+    return Known(durations, read.get("x-osb-tombstones") is True)
 
 
 class Longest(NamedTuple):

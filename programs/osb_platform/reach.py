@@ -7,7 +7,7 @@ from __future__ import annotations
 import time
 from typing import Callable, Optional
 
-from osb_platform.plans import Durations, durations
+from osb_platform.plans import Known, known
 
 _FIRST, _LONGEST = 0.1, 5.0
 
@@ -22,9 +22,9 @@ class Unreached(Exception):
 
 def reached(
     ask: Ask, seconds: float | None, rest: Callable[[float], bool], tell: Callable[[str], None]
-) -> Durations | None:
-    """Asks for the catalogue until it comes, for about so many seconds at most where any are named, and gives the
-    durations that its plans name. `ask` is `osb.client.Client.catalogue`. `rest` waits for so many seconds, and says
+) -> Known | None:
+    """Asks for the catalogue until it comes, for about so many seconds at most where any are named, and gives what it
+    says. `ask` is `osb.client.Client.catalogue`. `rest` waits for so many seconds, and says
     whether it is to stop: then there is None. `tell` is told why it hasn't come, once for each reason. Raises
     Unreached.
     """
@@ -44,8 +44,8 @@ def reached(
         wait = min(_LONGEST, wait * 2)
 
 
-def _asked(ask: Ask) -> Durations | str:
-    """The durations, or why there are none yet."""
+def _asked(ask: Ask) -> Known | str:
+    """What the catalogue says, or why it hasn't come."""
     answer = ask()
     if answer is None:
         return "it can't be reached"
@@ -55,6 +55,6 @@ def _asked(ask: Ask) -> Durations | str:
     if status != 200:
         return f"it answers {status}, and gives no catalogue"
     try:
-        return durations(document)
+        return known(document)
     except (ValueError, RecursionError) as error:
         return f"its catalogue can't be read: {error}"

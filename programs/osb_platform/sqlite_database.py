@@ -43,7 +43,7 @@ class SqliteDatabase:
         """As `Database` says."""
         return isinstance(error, sqlite3.IntegrityError)
 
-    def now(self) -> float:
+    def now(self, _: Execute | None = None) -> float:
         """As `Database` says: all are on this machine."""
         return time.time()
 

@@ -125,8 +125,8 @@ def _broker(run: argparse.ArgumentParser) -> None:
         "--catalog",
         type=Path,
         metavar="FILE",
-        help="the broker's catalogue, for the plans' maximum_polling_duration (the broker is asked for it "
-        "before anything is sent)",
+        help="the broker's catalogue, for the plans' maximum_polling_duration and x-osb-tombstones (the broker is "
+        "asked for it before anything is sent)",
     )
 
 
@@ -157,15 +157,19 @@ def _pace(run: argparse.ArgumentParser) -> None:
     )
     run.add_argument(
         "--late-for",
-        type=_seconds,
-        default=0.0,
+        type=_hold,
         metavar="S",
-        help="at a broker that keeps no marks: how long a request may be on its way. Until then no "
-        "Deprovision follows a Provision",
+        help="for how long the broker may work for a Provision after the request has left. Until then no Deprovision "
+        "is sent, and after the end one more (0 if the catalogue has x-osb-tombstones: true, else 300)",
     )
     run.add_argument(
         "--look-seconds", type=_seconds, default=1.0, metavar="S", help="how often it looks for new orders (1)"
     )
+
+
+def _hold(text: str) -> float:
+    """Seconds, or 0."""
+    return 0.0 if text == "0" else _seconds(text)
 
 
 def _host() -> str:

@@ -57,8 +57,8 @@ class Worker:
         """Leases as many as there are free threads for, and has them stepped; how many those are."""
         free = self._threads - len(self._running)
         claimed = [] if free == 0 else parts.instances.claim(parts.worker, free, self._lease)
-        for id in claimed:
-            done = pool.submit(step, parts, id)
+        for lease in claimed:
+            done = pool.submit(step, parts, lease)
             self._running.add(done)
             done.add_done_callback(lambda _: self._wake.set())
         return len(claimed)

@@ -15,11 +15,19 @@ def refusal(program: str, said: str, status: int) -> SystemExit:
 
 
 def id_of(text: str) -> Id:
-    """An id."""
+    """Reads a GUID, in either case."""
     try:
         return Id.of(text)
     except OsbError as error:
-        raise argparse.ArgumentTypeError(f"{text!r} is no id") from error
+        raise argparse.ArgumentTypeError(f"{text!r} is no GUID") from error
+
+
+def any_id_of(text: str) -> Id:
+    """Reads an id as a request has it: any text of 1 to 255 bytes."""
+    try:
+        return Id.of_text(text)
+    except OsbError as error:
+        raise argparse.ArgumentTypeError(f"{text!r} is no id of 1 to 255 bytes of UTF-8") from error
 
 
 def count_up_to(most: int, told: str) -> Callable[[str], int]:

@@ -5,14 +5,16 @@ import contextlib
 import http.client
 import os
 import re
+import ssl
 import subprocess
 import threading
 from http.server import BaseHTTPRequestHandler, ThreadingHTTPServer
 from pathlib import Path
-from typing import Iterator, NamedTuple
+from typing import Callable, ContextManager, Iterator, NamedTuple, TypeVar
 
 from osb.client import Client
-from osb_platform.instances import Instance, Instances
+from osb.records import RecordStore
+from osb_platform.instances import Execute, Instance, Instances
 from osb_platform.pace import Pace
 from osb_platform.plans import Longest
 from osb_platform.sqlite_database import SqliteDatabase
@@ -20,6 +22,8 @@ from osb_platform.steps import Parts
 from program_tests.broker_support import TOP
 
 WORKER = "a-worker"
+
+End = TypeVar("End", bound="FarEnd")
 
 
 class Said(NamedTuple):
@@ -35,7 +39,7 @@ class FarEnd:
 
     def __init__(self, url: str, said: list[Said]) -> None:
         self.url, self.said = url, said
-        self.catalogue = Said(200, b'{"services":[]}')
+        self.catalogue = Said(200, b'{"services":[],"x-osb-tombstones":true}')
         self.came: list[str] = []
         """The method and the target of each request but those for the catalogue."""
 
@@ -47,20 +51,58 @@ class FarEnd:
         return self.said.pop(0) if self.said else Said(503)
 
 
-@contextlib.contextmanager
-def far_end(*said: Said) -> Iterator[FarEnd]:
-    """A far end that says these, in turn."""
+class Foreign(FarEnd):
+    """A broker of somebody else: it has no tombstones, and goes on with a Provision after the platform has hung up."""
 
+    def __init__(self, url: str, said: list[Said]) -> None:
+        super().__init__(url, said)
+        self.catalogue = Said(200, b'{"services":[]}')
+        self.held: set[str] = set()
+        """The instances that it has created."""
+        self.may_end, self.has_ended = threading.Event(), threading.Event()
+
+    def answer(self, method: str, target: str) -> Said:
+        """The work of a Provision ends when the first Deprovision arrives, which has found nothing by then."""
+        if target == "/v2/catalog":
+            return self.catalogue
+        self.came.append(method)
+        id = target[len("/v2/service_instances/") :].partition("?")[0]
+        if method == "PUT":
+            self.may_end.wait(60.0)
+            self.held.add(id)
+            self.has_ended.set()
+            return Said(201)
+        if id in self.held:
+            self.held.discard(id)
+            return Said(200)
+        self.may_end.set()
+        self.has_ended.wait(60.0)
+        return Said(410)
+
+
+def far_end(*said: Said) -> ContextManager[FarEnd]:
+    """A far end that says these, in turn."""
+    return _serving(lambda url: FarEnd(url, list(said)))
+
+
+def foreign() -> ContextManager[Foreign]:
+    """A broker of somebody else."""
+    return _serving(lambda url: Foreign(url, []))
+
+
+@contextlib.contextmanager
+def _serving(made: Callable[[str], End]) -> Iterator[End]:
     class Handler(BaseHTTPRequestHandler):
         def do_GET(self) -> None:
             self.rfile.read(int(self.headers.get("Content-Length", "0")))
             now = end.answer(self.command, self.path)
-            self.send_response(now.status)
-            self.send_header("Content-Length", str(len(now.body)))
-            for name, value in now.headers:
-                self.send_header(name, value)
-            self.end_headers()
-            self.wfile.write(now.body)
+            with contextlib.suppress(OSError):  # the platform may have hung up
+                self.send_response(now.status)
+                self.send_header("Content-Length", str(len(now.body)))
+                for name, value in now.headers:
+                    self.send_header(name, value)
+                self.end_headers()
+                self.wfile.write(now.body)
 
         do_PUT = do_DELETE = do_GET
 
@@ -68,7 +110,7 @@ def far_end(*said: Said) -> Iterator[FarEnd]:
             pass
 
     server = ThreadingHTTPServer(("127.0.0.1", 0), Handler)
-    end = FarEnd(f"http://127.0.0.1:{server.server_address[1]}", list(said))
+    end = made(f"http://127.0.0.1:{server.server_address[1]}")
     serving = threading.Thread(target=server.serve_forever, args=[0.01])
     serving.start()
     try:
@@ -84,7 +126,7 @@ class Clock(SqliteDatabase):
 
     time = 1000.0
 
-    def now(self) -> float:
+    def now(self, _: Execute | None = None) -> float:
         return self.time
 
 
@@ -95,8 +137,12 @@ def parts(
     longest: float = 100.0,
     tell: list[Instance] | None = None,
 ) -> Parts:
-    client = Client(url, "platform", "secret", instances, organization="o", space="s", seconds=5)
+    tls = ssl.create_default_context()
     told: list[Instance] = [] if tell is None else tell
+
+    def client(records: RecordStore) -> Client:
+        return Client(url, "platform", "secret", records, organization="o", space="s", seconds=5, tls=tls)
+
     return Parts(client, instances, WORKER, pace, Longest(longest, {}), told.append)
 
 

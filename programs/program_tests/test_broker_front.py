@@ -6,12 +6,23 @@ import logging
 import re
 from typing import Any, Callable, Iterable
 
-from osb import Id
+from osb import Id, Refusal
+from osb.wire import read_request
 from osb_broker.front import Front
 from osb_broker.logs import Lines
 from program_tests.broker_support import ONE, TOP, InFolder
 
 PATH = f"/v2/service_instances/{ONE}"
+QUERY = f"?service_id={ONE}&plan_id={ONE}"
+BODY = f'{{"service_id":"{ONE}","plan_id":"{ONE}","organization_guid":"o","space_guid":"s"}}'.encode()
+
+
+def asked_of(method: str, path: str) -> list[Id]:
+    """The instance that the library reads in a target, if it reads one."""
+    try:
+        return [read_request(method, (path + QUERY).encode(), BODY, 1000).id]
+    except Refusal:
+        return []
 
 
 class OfFront(InFolder):
@@ -61,9 +72,41 @@ class OfFront(InFolder):
             self.assertEqual(self.touched, [ONE] if is_touched else [], (method, status))
         self.status = "202 Accepted"
         self.touched.clear()
-        for path in ("/v2/catalog", "/v2/service_instances/x", "/v2/service_instances/" + "x" * 36):
+        for path in ("/v2/catalog", "/v2/service_instances/", "/v2/service_instances/" + "x" * 256):
             self.call("PUT", path)
         self.assertEqual(self.touched, [])
+
+    def test_ids(self) -> None:
+        """Each path names the instance that the library reads in it."""
+        self.status, front = "202 Accepted", "/v2/service_instances"
+        for path in (
+            PATH,
+            PATH.upper().replace("/V2/SERVICE_INSTANCES", front),
+            f"{front}/postgres-small",
+            f"{front}/{'x' * 36}",
+            f"{front}/a%2Fb%20%c3%a9",
+            f"{front}/a%zz+b",
+            f"{front}/{'%61' * 255}",
+            f"{front}/{'%61' * 256}",
+            f"{front}/%ff",
+            f"{front}/last_operation",
+            f"{front}//last_operation",
+            f"//{PATH}/",
+            f"{PATH}//",
+            f"{PATH}/a",
+            f"http://broker.example{PATH}",
+            f"HTTPS://broker.example/{PATH}/",
+            f"ftp://broker.example{PATH}",
+        ):
+            self.touched.clear()
+            self.call("PUT", "/elsewhere", REQUEST_URI=path + QUERY)
+            self.assertEqual(self.touched, asked_of("PUT", path), path)
+            self.touched.clear()
+            self.call("DELETE", "/elsewhere", REQUEST_URI=path + QUERY)
+            self.assertEqual(self.touched, asked_of("DELETE", path), path)
+        self.touched.clear()
+        self.call("PUT", f"{front}/a b")  # a server that gives the decoded path alone
+        self.assertEqual(self.touched, [Id.of_text("a b")])
 
     def test_request_ids(self) -> None:
         """The platform's, where it is one; else one that is made up."""

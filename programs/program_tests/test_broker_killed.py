@@ -105,7 +105,7 @@ class Killed(InFolder):
                 self.assertEqual(self.settle(client, id), State.GONE, point)
             self.assertEqual(running.end(), 0)
         self.assertFalse(self.is_there(folder, id), point)
-        self.assertEqual(held(self.store(folder), id), Holding(is_marked=True), point)
+        self.assertEqual(held(self.store(folder), id), Holding(has_tombstone=True), point)
 
     def test_at_once(self) -> None:
         self.all(
@@ -123,13 +123,13 @@ class Killed(InFolder):
                 (point, BY_WORKER, is_deletion)
                 for point in POINTS
                 for is_deletion in (False, True)
-                if not point.startswith(("begin", "mark", "work-done"))
+                if not point.startswith(("begin", "tombstone", "work-done"))
             ]
         )
 
     def test_marks(self) -> None:
-        """Killed at the mark that a Deprovision of nothing leaves."""
-        for point in ("mark-next", "mark-written"):
+        """Killed at the tombstone that a Deprovision of nothing leaves."""
+        for point in ("tombstone-next", "tombstone-written"):
             id = Id.new()
             with self.broker(self.folder, crash_at=point) as running:
                 with self.assertRaises(OSError):

@@ -106,8 +106,9 @@ def head(method: bytes, target: bytes, *lines: str, password: str = PASSWORD, ve
 class Life(InFolder):
     def test_both_plans(self) -> None:
         with broker(self.folder) as running:
-            services = running.ask("GET", "/v2/catalog").body["services"]
-            self.assertEqual([it["id"] for it in services[0]["plans"]], [str(AT_ONCE), str(BY_WORKER)])
+            catalogue = running.ask("GET", "/v2/catalog").body
+            self.assertEqual([it["id"] for it in catalogue["services"][0]["plans"]], [str(AT_ONCE), str(BY_WORKER)])
+            self.assertIs(catalogue["x-osb-tombstones"], True)
             self.assertEqual([running.provision().status, running.provision().status], [201, 200])
             self.assertEqual(running.provision(TWO, BY_WORKER).status, 202)
             until(lambda: bool(running.poll(TWO).body["state"] == "succeeded"))
@@ -180,8 +181,23 @@ class Life(InFolder):
         document = {"services": [{"id": str(SERVICE), "name": "x", "plans": [{"id": str(AT_ONCE), "name": "y"}]}]}
         (self.folder / "catalogue").write_text(json.dumps(document))
         with broker(self.folder, "--catalog", str(self.folder / "catalogue"), "--user", "platform") as running:
-            self.assertEqual(running.ask("GET", "/v2/catalog").body, document)
+            self.assertEqual(running.ask("GET", "/v2/catalog").body, {**document, "x-osb-tombstones": True})
             self.assertEqual(running.provision(TWO, BY_WORKER).status, 400)
+            self.assertNotIn("guid_in_upper_case", running.log.read_text())
+
+    def test_catalogue_in_upper_case(self) -> None:
+        """A GUID in upper case is logged, since a request that has it in lower case names another plan."""
+        service, plan = "00000000-0000-0000-0000-0000000000A0", "00000000-0000-0000-0000-0000000000B1"
+        small = {"id": "SMALL", "name": "small"}
+        document = {"services": [{"id": service, "name": "x", "plans": [{"id": plan, "name": "y"}, small]}]}
+        (self.folder / "catalogue").write_text(json.dumps(document))
+        with broker(self.folder, "--catalog", str(self.folder / "catalogue")) as running:
+            lines = [json.loads(it) for it in running.log.read_text().splitlines()]
+            self.assertEqual(
+                [(it["level"], it["ids"]) for it in lines if it["event"] == "guid_in_upper_case"],
+                [("warning", [service, plan])],
+            )
+            self.assertEqual(running.provision().status, 400)
 
 
 class Hostile(InFolder):
@@ -338,7 +354,7 @@ def wrong(chance: random.Random) -> bytes:
     target = PATH.encode()
     kinds: list[Callable[[], tuple[bytes, bytes, bytes]]] = [
         lambda: (b"GET", b"/" + junk, b""),
-        lambda: (chance.choice([b"PUT", b"DELETE"]), b"/v2/service_instances/" + junk + b"?" + ids, body),
+        lambda: (chance.choice([b"PUT", b"DELETE"]), b"/v2/service_instances/%ff" + junk + b"?" + ids, body),
         lambda: (b"DELETE", target + b"?" + ids + b"&service_id=" + junk, b""),
         lambda: (b"DELETE", target + b"?accepts_incomplete=x" + junk + b"&" + ids, b""),
         lambda: (b"PUT", target, junk),

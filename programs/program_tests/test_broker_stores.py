@@ -49,7 +49,7 @@ class OfSqlite(InFolder):
         for id, holding in (
             (Id(0, 1), MAKING),
             (Id(0, 2), READY),
-            (Id(0, 3), Holding(is_marked=True)),
+            (Id(0, 3), Holding(has_tombstone=True)),
             (Id(0, 4), Holding(work=request(Kind.PROVISION, id=Id(0, 4)))),
             (Id(0, 5), MAKING),
         ):
@@ -165,7 +165,7 @@ class Points(InFolder):
             put(store, holding)
             self.assertEqual(set(said), {f"{step}-next", f"{step}-written"})
         said.clear()
-        put(store, Holding(is_marked=True), TWO)
-        self.assertEqual(set(said), {"mark-next", "mark-written"})
+        put(store, Holding(has_tombstone=True), TWO)
+        self.assertEqual(set(said), {"tombstone-next", "tombstone-written"})
         said.clear()
-        self.assertEqual((held(store, TWO), said), (Holding(is_marked=True), []))
+        self.assertEqual((held(store, TWO), said), (Holding(has_tombstone=True), []))

@@ -48,7 +48,7 @@ class OfUpkeep(InFolder):
         self.assertEqual((held(self.store), self.backend.look(ONE)), (READY, There.WHOLE))
         put(self.store, Holding(READY.row, request(Kind.DEPROVISION)))
         self.tend()
-        self.assertEqual((held(self.store), self.backend.look(ONE)), (Holding(is_marked=True), There.NONE))
+        self.assertEqual((held(self.store), self.backend.look(ONE)), (Holding(has_tombstone=True), There.NONE))
 
     def test_operations(self) -> None:
         """Also the start of one that is recorded alone."""
@@ -65,7 +65,7 @@ class OfUpkeep(InFolder):
             )
         put(self.store, Holding(BrokerRow(SERVICE, BY_WORKER, Phase.DELETING)))
         self.tend()
-        self.assertEqual((held(self.store), self.backend.look(ONE)), (Holding(is_marked=True), There.NONE))
+        self.assertEqual((held(self.store), self.backend.look(ONE)), (Holding(has_tombstone=True), There.NONE))
 
     def test_locked_work_is_passed_over(self) -> None:
         """Until it is touched again."""

@@ -117,7 +117,14 @@ class Words(InFolder):
         self.assertNotEqual(self.run_with("password", two, OSB_BACKEND_KEY="k"), first)
         self.assertNotEqual(self.run_with("password", one, OSB_BACKEND_KEY="l"), first)
         self.assertEqual(self.run_with("password", one)[:2], (2, ""))
-        self.assertEqual(self.run_with("password", "x", OSB_BACKEND_KEY="k")[:2], (2, ""))
+        self.assertEqual(self.run_with("password", "", OSB_BACKEND_KEY="k")[:2], (2, ""))
+
+    def test_password_by_any_id(self) -> None:
+        """The id is taken as a request has it, so a GUID in upper case is another one."""
+        guid = "00000000-0000-0000-0000-00000000000a"
+        told = [self.run_with("password", it, OSB_BACKEND_KEY="k") for it in (guid, guid.upper(), "small")]
+        self.assertEqual([it[0] for it in told], [0, 0, 0])
+        self.assertEqual(len({it[1] for it in told}), 3)
 
     def test_crash_points(self) -> None:
         self.refused("OSB_CRASH_AT", OSB_CRASH_AT="nowhere")

@@ -8,7 +8,7 @@ from concurrent.futures import ThreadPoolExecutor
 import pytest
 from osb import Answer, Body, Id, Record
 from osb.records import IdUsed, Kept, UnknownId
-from osb_platform.instances import Database, Instances
+from osb_platform.instances import Database, Instance, Instances, Lease
 from osb_platform.pg_database import PgDatabase
 from osb_platform.sqlite_database import SqliteDatabase
 from program_tests.broker_support import AT_ONCE, POSTGRESQL, SERVICE, InFolder
@@ -32,7 +32,16 @@ class InstancesTest(InFolder):
         return record
 
     def claimed(self, worker: str, seconds: float = 60.0) -> bool:
-        return self.instance in self.instances.claim(worker, 10**6, seconds)
+        return self.lease(worker, seconds) is not None
+
+    def lease(self, worker: str, seconds: float = 60.0) -> Lease | None:
+        """The lease of the instance, if the worker gets one."""
+        return next((it for it in self.instances.claim(worker, 10**6, seconds) if it.id == self.instance), None)
+
+    def release(self, due: float | None) -> None:
+        lease = self.lease("one")
+        assert lease is not None
+        self.instances.release(lease, lambda row, now: (due, 0))
 
     def test_an_order(self) -> None:
         self.order()
@@ -65,11 +74,12 @@ class InstancesTest(InFolder):
 
     def test_a_lease_that_has_run_out(self) -> None:
         self.order()
-        self.assertTrue(self.claimed("one", -1.0))
-        self.assertTrue(self.claimed("two"))
-        self.instances.release(self.instance, "one", lambda row, now: (None, 9))
-        self.assertEqual(self.instances.row(self.instance).tries, 0)
-        self.instances.release(self.instance, "two", lambda row, now: (None, 9))
+        leases = [it for it in (self.lease("one", -1.0), self.lease("one", -2.0), self.lease("two")) if it is not None]
+        self.assertEqual(len(leases), 3)
+        for lease in leases[:2]:
+            self.instances.release(lease, lambda row, now: (None, 9))
+            self.assertEqual((self.instances.row(self.instance).tries, self.claimed("one")), (0, False))
+        self.instances.release(leases[2], lambda row, now: (None, 9))
         self.assertEqual((self.instances.row(self.instance).tries, self.claimed("two")), (9, False))
 
     def test_workers_at_once(self) -> None:
@@ -97,6 +107,24 @@ class InstancesTest(InFolder):
         self.assertEqual((row.state, row.polled_since, row.kept), ("polling", began, Kept(sent, "making")))
         self.assertIn(self.instance, self.instances.pending())
 
+    def test_a_guard(self) -> None:
+        """It judges the row as it is locked, and what is to be kept. If it raises, nothing is written."""
+        seen: list[tuple[str, Kept]] = []
+
+        def guard(row: Instance, after: Kept, _: float) -> None:
+            seen.append((row.state, after))
+            raise KeyError
+
+        self.order()
+        record, _ = Record.create(self.instance, SERVICE, AT_ONCE, True)
+        self.assertRaises(KeyError, self.instances.insert, self.instance, Kept(record), guard)
+        self.assertEqual(self.instances.row(self.instance).state, "ordered")
+        self.send()
+        ready = Kept(record.answer(1, Answer(201, Body.EMPTY)))
+        self.assertRaises(KeyError, self.instances.update, self.instance, lambda _: (ready, None), guard)
+        self.assertEqual(self.instances.row(self.instance).kept, Kept(record))
+        self.assertEqual(seen, [("ordered", Kept(record)), ("wanted", ready)])
+
     def test_nothing_is_written_where_it_raises(self) -> None:
         self.order()
         record = self.send()
@@ -113,12 +141,10 @@ class InstancesTest(InFolder):
         self.assertEqual(self.instances.ask_removal(self.instance), "ordered")
         record = self.send().answer(1, Answer(201, Body.EMPTY))
         self.instances.update(self.instance, lambda _: (Kept(record), None))
-        self.assertTrue(self.claimed("one"))
-        self.instances.release(self.instance, "one", lambda row, now: (None, 0))
+        self.release(0.0)
         self.assertTrue(self.instances.row(self.instance).removal)
         self.instances.update(self.instance, lambda kept: (Kept(kept.record.remove()), None))
-        self.instances.claim("one", 10**6, 60.0)
-        self.instances.release(self.instance, "one", lambda row, now: (None, 0))
+        self.release(None)
         self.assertEqual(self.instances.row(self.instance).state, "cleaning")
 
     def test_withdrawn(self) -> None:
@@ -159,8 +185,8 @@ class InstancesInPostgresqlTest(InstancesTest):
         """No call wants a second session while it has one."""
         alone = Instances(PgDatabase(POSTGRESQL, 1))
         self.order()
-        alone.claim("one", 10**6, 60.0)
-        alone.release(self.instance, "one", lambda row, now: (now + 9.0, 1))
+        (lease,) = [it for it in alone.claim("one", 10**6, 60.0) if it.id == self.instance]
+        alone.release(lease, lambda row, now: (now + 9.0, 1))
         self.assertEqual(alone.row(self.instance).tries, 1)
 
     def test_one_worker_of_a_name(self) -> None:

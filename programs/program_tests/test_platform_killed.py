@@ -98,6 +98,6 @@ class KilledTest(InFolder):
             holding = held(store, id)
             self.assertEqual(any(str(id) in name for name in names), recorded == "ready", id)
             if recorded == "gone":
-                self.assertEqual(holding, Holding(is_marked=True))
+                self.assertEqual(holding, Holding(has_tombstone=True))
             else:
                 self.assertIsNotNone(holding.row)

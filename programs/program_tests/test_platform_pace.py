@@ -5,8 +5,8 @@ import json
 import unittest
 
 from osb import State
-from osb_platform.pace import Pace, held_until, wait
-from osb_platform.plans import USUAL, Durations, Longest, durations
+from osb_platform.pace import Pace, held_until, last_due, wait
+from osb_platform.plans import USUAL, Known, Longest, known
 from osb_platform.reach import Unreached, reached
 from program_tests.broker_support import AT_ONCE, BY_WORKER, SERVICE
 
@@ -31,7 +31,7 @@ class PaceTest(unittest.TestCase):
         self.assertEqual(wait(PACE, 0, 30, 1.0), 45.0)
 
     def test_late(self) -> None:
-        """A Deprovision alone is held, and only at a broker without marks."""
+        """A Deprovision alone is held, and only at a broker without tombstones."""
         for late_for, state, sent_until, expected in (
             (30.0, State.CLEANING, 100.0, 130.0),
             (0.0, State.CLEANING, 100.0, 0.0),
@@ -41,6 +41,16 @@ class PaceTest(unittest.TestCase):
         ):
             self.assertEqual(held_until(Pace(1.0, 1.0, late_for), state, sent_until), expected)
 
+    def test_the_last_deprovision(self) -> None:
+        """It is due once the hold has passed, after the end and after the Provision has left."""
+        for late_for, gone_since, sent_until, expected in (
+            (30.0, 100.0, 160.0, 190.0),
+            (30.0, 200.0, 160.0, 230.0),
+            (0.0, 200.0, 160.0, None),
+            (30.0, 200.0, None, None),
+        ):
+            self.assertEqual(last_due(Pace(1.0, 1.0, late_for), gone_since, sent_until), expected)
+
 
 def catalogue(named: object) -> bytes:
     plans = [{"id": str(AT_ONCE)}, {"id": str(BY_WORKER), "maximum_polling_duration": named}]
@@ -49,20 +59,26 @@ def catalogue(named: object) -> bytes:
 
 class PlansTest(unittest.TestCase):
     def test_durations(self) -> None:
-        self.assertEqual(durations(catalogue(600)), {(SERVICE, BY_WORKER): 600.0})
-        self.assertEqual(durations(catalogue(10**400)), {(SERVICE, BY_WORKER): 1e9})
+        self.assertEqual(known(catalogue(600)), Known({(SERVICE, BY_WORKER): 600.0}, False))
+        self.assertEqual(known(catalogue(10**400)).durations, {(SERVICE, BY_WORKER): 1e9})
         for named in (0, -1, "600", 1.5, True, None):
-            self.assertEqual(durations(catalogue(named)), {}, named)
+            self.assertEqual(known(catalogue(named)).durations, {}, named)
         no_guids = b'{"services":[1,{"id":"a","plans":[{"id":"b","maximum_polling_duration":1}]}]}'
-        self.assertEqual(durations(no_guids), {})
+        self.assertEqual(known(no_guids).durations, {})
         for document in (b"", b"[]", b"{}", b"<html>"):
-            self.assertRaises(ValueError, durations, document)
+            self.assertRaises(ValueError, known, document)
+
+    def test_tombstones(self) -> None:
+        """Only a catalogue that says so has them."""
+        for said, expected in (("true", True), ("false", False), ('"true"', False), ("1", False), ("null", False)):
+            document = f'{{"services":[],"x-osb-tombstones":{said}}}'.encode()
+            self.assertEqual(known(document).has_tombstones, expected, said)
 
     def test_the_operator_names_one(self) -> None:
-        self.assertEqual(Longest(5.0, durations(catalogue(600))).of(SERVICE, BY_WORKER), 5.0)
+        self.assertEqual(Longest(5.0, known(catalogue(600)).durations).of(SERVICE, BY_WORKER), 5.0)
 
     def test_the_plan_names_one(self) -> None:
-        longest = Longest(None, durations(catalogue(600)))
+        longest = Longest(None, known(catalogue(600)).durations)
         self.assertEqual(longest.of(SERVICE, BY_WORKER), 600.0)
         self.assertEqual(longest.of(SERVICE, AT_ONCE), USUAL)
 
@@ -70,8 +86,8 @@ class PlansTest(unittest.TestCase):
 class ReachTest(unittest.TestCase):
     def reached(
         self, *answers: tuple[int, bytes] | None, seconds: float | None = None, stops: int = 9
-    ) -> tuple[Durations | None, list[str], list[float]]:
-        """What comes of these answers, the last again and again: the durations, what was told, and the rests."""
+    ) -> tuple[Known | None, list[str], list[float]]:
+        """What comes of these answers, the last again and again: what is known, what was told, and the rests."""
         left, told, rests = list(answers), [], []  # type: list[tuple[int, bytes] | None], list[str], list[float]
 
         def rest(wanted: float) -> bool:
@@ -84,7 +100,7 @@ class ReachTest(unittest.TestCase):
     def test_it_waits_until_the_catalogue_comes(self) -> None:
         """Longer each time; each reason is told once. What isn't surely the broker's catalogue is waited over."""
         found, told, rests = self.reached(None, None, (503, b"{}"), (404, b""), (200, b"<html>"), (200, catalogue(600)))
-        self.assertEqual(found, {(SERVICE, BY_WORKER): 600.0})
+        self.assertEqual(found, Known({(SERVICE, BY_WORKER): 600.0}, False))
         self.assertEqual(rests, [0.1, 0.2, 0.4, 0.8, 1.6])
         self.assertEqual(
             told[:3],

@@ -7,9 +7,11 @@ import time
 
 import pytest
 from osb import Id
+from osb_platform.instances import Instances
+from osb_platform.sqlite_database import SqliteDatabase
 from osb_platform.tell import COLUMNS
 from program_tests.broker_support import AT_ONCE, ONE, SERVICE, TWO, InFolder
-from program_tests.platform_support import Said, far_end, platform, ran
+from program_tests.platform_support import Said, far_end, foreign, platform, ran
 
 pytestmark = pytest.mark.slow
 
@@ -108,6 +110,40 @@ class ProgramTest(InFolder):
             end.catalogue = Said(200, b'{"services":[]}')
             self.assertIn(f"{id}\tready\n", ran(self.folder, "run", "--once", "--broker", end.url)[1])
 
+    def test_a_broker_without_tombstones(self) -> None:
+        """The Deprovision is held for 300 seconds, counted from when the Provision had left, or for those given."""
+        id = ran(self.folder, "create", *ORDER)[1].strip()
+        with far_end(Said(503), Said(503), Said(410)) as end:
+            end.catalogue = Said(200, b'{"services":[]}')
+            run = ("run", "--once", "--broker", end.url, "--seconds", "2", "--pace", "0.01")
+            before = time.time()
+            self.assertEqual(ran(self.folder, *run)[0], 0)
+            due = Instances(SqliteDatabase(self.folder / "instances.sqlite")).row(Id.of(id)).due
+            assert due is not None
+            self.assertTrue(before + 302.0 <= due <= time.time() + 302.0, due)
+            self.assertEqual((ran(self.folder, *run)[0], len(end.came)), (0, 1))
+            other = ran(self.folder, "create", *ORDER)[1].strip()
+            # On a slow machine the Deprovision is due before the first of the two has ended.
+            told = ran(self.folder, *run, "--late-for", "0")[1]
+            time.sleep(0.02)
+            told += ran(self.folder, *run, "--late-for", "0")[1]
+            self.assertIn(f"{other}\tgone\n", told)
+
+    def test_a_broker_that_works_on(self) -> None:
+        """The hold is too short for it: what it creates after the end is deleted by the last Deprovision."""
+        id = ran(self.folder, "create", *ORDER)[1].strip()
+        said = ""
+        with foreign() as end:
+            run = ("run", "--once", "--broker", end.url, "--seconds", "1", "--late-for", "0.1", "--pace", "0.01")
+            for _ in range(60):
+                said += ran(self.folder, *run)[2]
+                if "\ndue\t" not in ran(self.folder, "show", id)[1]:
+                    break
+                time.sleep(0.2)
+            self.assertEqual((end.held, end.came), (set(), ["PUT", "DELETE", "DELETE"]))
+        self.assertEqual(listed(ran(self.folder, "list")[1])["state"], "gone")
+        self.assertEqual(said.count(f"orphan_found id={id} status=200"), 1)
+
     def test_words_that_it_cannot_use(self) -> None:
         text = self.folder / "text"
         text.write_text("[1]")
@@ -127,6 +163,7 @@ class ProgramTest(InFolder):
             (*run, "--password-file", "/nowhere"),
             (*run, "--worker", "a b"),
             (*run, "--seconds", "0"),
+            (*run, "--late-for", "-1"),
             (*run, "--catalog", str(text)),
             ("list", "--store", str(text / "a" / "b")),
             ("go",),

@@ -1,12 +1,14 @@
 """One step after another, over a far end that says what it is told to, by a clock that the test sets."""
 from __future__ import annotations
 
+import contextlib
 import logging
+from typing import Callable, Iterator
 from unittest import mock
 
 from osb import Id, Record
 from osb.records import Kept
-from osb_platform.instances import Instance, Instances
+from osb_platform.instances import Execute, Instance, Instances, Lease
 from osb_platform.pace import Pace
 from osb_platform.steps import Parts, step
 from program_tests.broker_support import BY_WORKER, ONE, SERVICE, InFolder
@@ -20,6 +22,28 @@ DELETE = f"DELETE /v2/service_instances/{ONE}?service_id={SERVICE}&plan_id={BY_W
 PUT = f"PUT /v2/service_instances/{ONE}?accepts_incomplete=true"
 IN_PROGRESS = Said(200, b'{"state":"in progress"}')
 SUCCEEDED = Said(200, b'{"state":"succeeded"}')
+
+
+FAILED = Said(200, b'{"state":"failed"}')
+
+
+class Pausing(Clock):
+    """A table before one of whose transactions a test does something else, as while a worker is paused."""
+
+    left: int | None = None
+    """How many transactions there are until then."""
+    meanwhile: Callable[[], object]
+
+    @contextlib.contextmanager
+    def transaction(self) -> Iterator[Execute]:
+        """As `Database` says."""
+        if self.left is not None:
+            self.left -= 1
+            if self.left < 0:
+                self.left = None
+                self.meanwhile()
+        with super().transaction() as execute:
+            yield execute
 
 
 class StepsTest(InFolder):
@@ -38,8 +62,8 @@ class StepsTest(InFolder):
         due = self.instances.row(ONE).due
         assert at is not None or due is not None
         self.clock.time = at if at is not None else max(self.clock.time, due or 0.0)
-        self.assertEqual(self.instances.claim(WORKER, 16, 60.0), [ONE])
-        step(with_parts, ONE)
+        (lease,) = self.instances.claim(WORKER, 16, 60.0)
+        step(with_parts, lease)
         return self.instances.row(ONE).state
 
     def test_made_and_removed(self) -> None:
@@ -131,7 +155,7 @@ class StepsTest(InFolder):
             self.assertEqual(end.came, [DELETE])
 
     def test_late(self) -> None:
-        """At a broker without marks no Deprovision is sent while a copy of the Provision may come; then it is."""
+        """At a broker without tombstones no Deprovision is sent while it may work for the Provision; then it is."""
         with far_end(Said(503), Said(410)) as end:
             go = self.parts(end, Pace(1.0, 8.0, 30.0))
             began = self.clock.time
@@ -150,6 +174,112 @@ class StepsTest(InFolder):
             self.instances.ask_removal(ONE)
             self.assertEqual((self.stepped(go), end.came), ("cleaning", [PUT]))
             self.assertEqual(self.stepped(go, at=began + 35.0), "gone")
+
+    def test_a_worker_that_is_paused(self) -> None:
+        """Its lease runs out between any two of its transactions, and another one polls and finds that the making has
+        failed. Then the Deprovision is held, whoever sends it.
+        """
+        for transactions in range(4):
+            for other in (WORKER, "another"):
+                with self.subTest(transactions=transactions, other=other):
+                    self.paused(transactions, other)
+
+    def paused(self, transactions: int, other: str) -> None:
+        clock = Pausing(self.folder / f"{transactions}-{other}.sqlite")
+        self.instances = Instances(clock, 5.0)
+        self.instances.order(ONE, SERVICE, BY_WORKER, "{}")
+
+        def goes_on() -> None:
+            clock.time += 61.0
+            (taken_over,) = self.instances.claim(other, 16, 60.0)
+            step(go._replace(worker=other), taken_over)
+
+        with far_end(Said(202), FAILED, FAILED, FAILED) as end:
+            go = self.parts(end, Pace(1.0, 8.0, 300.0), 1000.0)
+            (lease,) = self.instances.claim(WORKER, 16, 60.0)
+            step(go, lease)
+            clock.time += 2.0
+            (lease,) = self.instances.claim(WORKER, 16, 60.0)
+            clock.meanwhile, clock.left = goes_on, transactions
+            step(go, lease)
+            row = self.instances.row(ONE)
+            self.assertEqual((row.state, row.due, row.lease), ("cleaning", 1305.0, None))
+            self.assertNotIn(DELETE, end.came)
+            clock.time, end.said = 1305.0, [Said(410)]
+            (lease,) = self.instances.claim(WORKER, 16, 60.0)
+            step(go, lease)
+            self.assertEqual((self.instances.row(ONE).state, end.came[-1]), ("gone", DELETE))
+
+    def test_a_lease_that_has_run_out(self) -> None:
+        """Nothing is sent, though nobody has taken the instance over."""
+        with far_end(Said(201)) as end:
+            (lease,) = self.instances.claim(WORKER, 16, 60.0)
+            self.clock.time += 61.0
+            step(self.parts(end), lease)
+            self.assertEqual((self.instances.row(ONE).state, end.came), ("ordered", []))
+            self.assertEqual(self.stepped(self.parts(end), self.clock.time), "ready")
+
+    def test_a_lease_that_runs_out_before_the_lock(self) -> None:
+        """Nothing is sent: the time is read once the row is locked. Each step reads the row, and then writes it."""
+        table: list[tuple[list[Said], str]] = [([], "ordered"), ([Said(202)], "polling")]
+        for said, state in table:
+            with self.subTest(state):
+                clock = Pausing(self.folder / f"{state}.sqlite")
+                self.clock, self.instances = clock, Instances(clock, 5.0)
+                self.instances.order(ONE, SERVICE, BY_WORKER, "{}")
+                with far_end(*said) as end:
+                    for _ in said:
+                        self.stepped(self.parts(end))
+                    clock.time += 2.0
+                    (lease,) = self.instances.claim(WORKER, 16, 60.0)
+
+                    def paused() -> None:
+                        clock.time += 61.0
+
+                    clock.meanwhile, clock.left = paused, 1
+                    step(self.parts(end), lease)
+                    self.assertEqual((self.instances.row(ONE).state, end.came), (state, [PUT] * len(said)))
+
+    def test_the_last_deprovision(self) -> None:
+        """At a broker without tombstones one more is sent when the hold has passed, until nothing is left there."""
+        busy, no, html = Said(422, b'{"error":"ConcurrencyError"}'), b'{"description":"no"}', b"<html>"
+        table: list[tuple[list[Said], list[str]]] = [
+            ([Said(503), busy, Said(410)], []),
+            ([Said(200)], ["orphan_found"]),
+            ([Said(400, no)], ["orphan_unknown"]),
+            ([Said(202), busy, Said(202), Said(410)], ["orphan_found"] * 2),
+            ([Said(202), Said(200)], ["orphan_found"] * 2),
+            ([Said(status, no) for status in (401, 403, 404, 408, 429)] + [Said(410)], ["orphan_unknown"] * 5),
+            ([Said(200, html), Said(302, html), Said(204, b""), Said(410, html)], []),
+        ]
+        for said, events in table:
+            with self.subTest(said):
+                self.clock = Clock(self.folder / f"{[it.status for it in said]}.sqlite")
+                self.instances = Instances(self.clock, 5.0)
+                self.instances.order(ONE, SERVICE, BY_WORKER, "{}")
+                self.ends(said, events)
+
+    def ends(self, said: list[Said], events: list[str]) -> None:
+        with far_end(Said(400, b'{"description":"no"}'), *said) as end:
+            go = self.parts(end, Pace(1.0, 8.0, 30.0))
+            self.assertEqual((self.stepped(go), self.instances.row(ONE).due), ("gone", 1035.0))
+            with mock.patch("osb_platform.last._log") as log:
+                self.assertEqual([self.stepped(go) for _ in said], ["gone"] * len(said))
+            self.assertEqual(end.came, [PUT, *[DELETE] * len(said)])
+        self.assertEqual([it.args[0].split()[0] for it in log.warning.mock_calls], events)
+        row = self.instances.row(ONE)
+        self.assertEqual((row.due, row.removal, row.lease), (None, False, None))
+        self.assertEqual([it.state for it in self.told].count("gone"), len(self.told))
+
+    def test_the_last_deprovision_after_a_removal(self) -> None:
+        """The hold is counted from the end of the instance."""
+        with far_end(Said(201), Said(200), Said(410)) as end:
+            go = self.parts(end, Pace(1.0, 8.0, 30.0))
+            self.assertEqual(self.stepped(go), "ready")
+            self.instances.ask_removal(ONE)
+            self.assertEqual((self.stepped(go, 1100.0), self.instances.row(ONE).due), ("gone", 1130.0))
+            self.assertEqual((self.stepped(go), self.instances.row(ONE).due), ("gone", None))
+            self.assertEqual(end.came, [PUT, DELETE, DELETE])
 
     def test_withdrawn_by_one_that_crashed(self) -> None:
         """There is nothing more to do with it, and nothing to log."""
@@ -171,7 +301,7 @@ class StepsTest(InFolder):
         with far_end(Said(201), Said(200)) as end:
             go = self.parts(end)
             self.instances.claim(WORKER, 16, 60.0)
-            go.client.create(ONE, SERVICE, BY_WORKER)
+            go.client(self.instances).create(ONE, SERVICE, BY_WORKER)
             self.instances.ask_removal(ONE)
             self.instances.free(WORKER)
             self.assertEqual(self.stepped(go), "gone")
@@ -179,4 +309,4 @@ class StepsTest(InFolder):
     def test_of_nobody(self) -> None:
         """What can't be done is told, and ends nothing."""
         with far_end() as end:
-            step(self.parts(end), Id.of("00000000-0000-0000-0000-00000000000f"))
+            step(self.parts(end), Lease(Id.of("00000000-0000-0000-0000-00000000000f"), WORKER, 2000.0))

@@ -11,6 +11,7 @@ import unittest
 import warnings
 from contextlib import closing, redirect_stderr
 from io import StringIO
+from itertools import islice
 from pathlib import Path
 from typing import Iterator
 
@@ -65,7 +66,10 @@ class EngineCases:
             with case.assertRaises(Unreplayed) as raised:
                 list(engine.each(fail, given()))
             case.assertEqual((raised.exception.status, raised.exception.said), (3, "number 3"))
-            case.assertLess(len(begun), 20)
+            case.assertLess(len(begun), 200)  # how soon the failure is seen depends on the machine
+            begun.clear()
+            for taken, _ in enumerate(engine.each(double, islice(given(), 100))):
+                case.assertLess(len(begun) - taken, 20)
             with tempfile.TemporaryDirectory() as folder:
                 found = engine.each(die, [(folder, number, 1) for number in range(10)])
                 case.assertEqual(sorted(found), list(range(10)))

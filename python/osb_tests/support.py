@@ -14,7 +14,7 @@ from socketserver import ThreadingMixIn
 from typing import Any, Callable, Iterator, NamedTuple
 from wsgiref.simple_server import WSGIRequestHandler, WSGIServer, make_server
 
-from osb import Id, Kind, Outcome, Request, Work
+from osb import Answer, Holding, Id, Kind, Mode, OsbError, Outcome, Request, Status, Work
 from osb.service import Task
 from osb.wsgi import BrokerApplication
 
@@ -33,6 +33,12 @@ CATALOGUE = json.dumps(
 
 def request(kind: Kind, plan: Id = SYNC, accepts: bool = True, id: Id = ONE) -> Request:
     return Request(kind, accepts, id, SERVICE, plan)
+
+
+def handled(held: Holding, mode: Mode | None, asked: Request, outcome: Outcome) -> tuple[Holding, Answer]:
+    """What becomes of a holding by a request whose work, if there is any, ends like this, and the answer."""
+    begun, due = held.begin(mode, asked)
+    return begun.end(mode, outcome) if isinstance(due, Work) else (begun, due)
 
 
 class InFolder(unittest.TestCase):
@@ -73,6 +79,15 @@ class Reply(NamedTuple):
     @property
     def error(self) -> str:
         return str(json.loads(self.body)["error"])
+
+
+def status_of(call: Callable[[], object]) -> Status | None:
+    """Why the library doesn't do the call, or None if it does."""
+    try:
+        call()
+    except OsbError as error:
+        return error.status
+    return None
 
 
 def authorization(user: str = USER, password: str = PASSWORD) -> str:

@@ -14,6 +14,7 @@ import pytest
 from osb import Answer, Body, Id, Kind, OsbError, Record, State, Status
 from osb.client import Client, Exchanged
 from osb.records import IdUsed, Kept, MemoryRecords, UnknownId
+from osb.wire import Details
 from osb_tests.support import ONE, PASSWORD, SERVICE, SYNC, TWO, USER, InFolder, authorization
 
 
@@ -84,8 +85,10 @@ def kept_as(state: State, operation: str | None = None, out: Kind | None = None)
     return records
 
 
-def exchanged(state: State, answer: Answer | None, attempt: int = 1, retry: int | None = None) -> Exchanged:
-    return Exchanged(Record(SERVICE, SYNC, attempt, state, None), answer, retry)
+def exchanged(
+    state: State, answer: Answer | None, attempt: int = 1, retry: int | None = None, details: Details = Details()
+) -> Exchanged:
+    return Exchanged(Record(SERVICE, SYNC, attempt, state, None), answer, retry, None if answer is None else details)
 
 
 class Sent(InFolder):
@@ -126,7 +129,8 @@ class Sent(InFolder):
         ]
         with far_end(came, *map(saying, said)) as url:
             made = client(url)
-            self.assertEqual(made.create(ONE, SERVICE, SYNC), exchanged(State.POLLING, Answer(202, Body.EMPTY)))
+            accepted = exchanged(State.POLLING, Answer(202, Body.EMPTY), details=Details(operation="making 1"))
+            self.assertEqual(made.create(ONE, SERVICE, SYNC), accepted)
             self.assertEqual(made.step(ONE), exchanged(State.POLLING, Answer(200, Body.IN_PROGRESS), 2, 7))
             self.assertEqual(made.step(ONE), exchanged(State.READY, Answer(200, Body.SUCCEEDED), 3))
             made.remove(ONE)
@@ -141,6 +145,19 @@ class Sent(InFolder):
             + [f"DELETE /v2/service_instances/{ONE}?{ids} HTTP/1.1", f"{polled} HTTP/1.1"],
         )
         self.assertNotIn(b"content-length", came[3].lower())
+
+    def test_reason(self) -> None:
+        """What the broker says of a rejection reaches the caller."""
+        said = response(400, b'{"error":"QuotaExceeded","description":"No space is left."}')
+        with far_end([], saying(said)) as url:
+            self.assertEqual(
+                client(url).create(ONE, SERVICE, SYNC),
+                exchanged(
+                    State.GONE,
+                    Answer(400, Body.OTHER_ERROR),
+                    details=Details(description="No space is left.", error="QuotaExceeded"),
+                ),
+            )
 
     def test_recorded_before_it_is_sent(self) -> None:
         records, seen = MemoryRecords(), []
@@ -240,6 +257,27 @@ class NoAnswer(InFolder):
         came: list[bytes] = []
         with far_end(came, saying(response(201))) as url:
             late = client(url, Slow(), seconds=0.2).create(ONE, SERVICE, SYNC)
+            self.assertEqual(late, exchanged(State.CLEANING, None))
+            self.assertEqual(came, [])
+            client(url).create(ONE, SERVICE, SYNC)
+
+    def test_a_machine_that_was_suspended(self) -> None:
+        """What was recorded before isn't sent after it, though `time.monotonic` stood still."""
+        boot_time = getattr(time, "CLOCK_BOOTTIME", None)
+        if boot_time is None:
+            pytest.skip("this system has no CLOCK_BOOTTIME")
+        suspended, clock = [0.0], time.clock_gettime
+
+        class Suspended(MemoryRecords):
+            def insert(self, id: Id, kept: Kept) -> None:
+                super().insert(id, kept)
+                suspended[0] = 60.0
+
+        came: list[bytes] = []
+        with far_end(came, saying(response(201))) as url, mock.patch(
+            "time.clock_gettime", lambda of: clock(of) + (suspended[0] if of == boot_time else 0.0)
+        ):
+            late = client(url, Suspended(), seconds=30.0).create(ONE, SERVICE, SYNC)
             self.assertEqual(late, exchanged(State.CLEANING, None))
             self.assertEqual(came, [])
             client(url).create(ONE, SERVICE, SYNC)

@@ -12,7 +12,6 @@ from osb.records import Kept, SqliteRecords
 from osb.stores import SqliteStore
 from osb.wsgi import BrokerApplication
 from osb_tests.support import (
-    ASYNC,
     CATALOGUE,
     ONE,
     PASSWORD,
@@ -80,7 +79,7 @@ class BothSides(InFolder):
             said = made.step(ONE)
             self.assertEqual((said.answer and said.answer.status, said.record.state), (410, State.GONE))
             self.assertEqual(self.late_provision(url), (409, "Conflict"))
-        self.assertEqual((self.worker.things, self.held()), (set(), Holding(is_marked=True)))
+        self.assertEqual((self.worker.things, self.held()), (set(), Holding(has_tombstone=True)))
 
     def test_provision_that_never_came(self) -> None:
         """The Provision is given up before it arrives, and the deletion finds nothing: the late copy is refused too."""
@@ -90,38 +89,7 @@ class BothSides(InFolder):
             self.assertEqual(nowhere.create(ONE, SERVICE, SYNC).record.state, State.CLEANING)
             self.assertEqual(self.client(url).step(ONE).record, Record(SERVICE, SYNC, 2, State.GONE, None))
             self.assertEqual(self.late_provision(url), (409, "Conflict"))
-        self.assertEqual((self.worker.done, self.held()), ([], Holding(is_marked=True)))
-
-    def test_asynchronous_plan(self) -> None:
-        with served(self.network) as url:
-            made = self.client(url)
-            self.assertEqual(made.create(ONE, SERVICE, ASYNC).record.state, State.POLLING)
-            self.assertEqual(made.step(ONE).record.state, State.POLLING)
-            self.broker.finish(ONE, True)
-            self.assertEqual(made.step(ONE).record.state, State.READY)
-            made.remove(ONE)
-            self.assertEqual(made.step(ONE).record.state, State.CLEANING_POLLING)
-            self.broker.finish(ONE, False)
-            self.assertEqual(made.step(ONE).record.state, State.CLEANING)
-            self.assertEqual(made.step(ONE).record.state, State.CLEANING_POLLING)
-            self.broker.finish(ONE, True)
-            self.assertEqual(made.step(ONE).record.state, State.GONE)
-
-    def test_broker_that_was_killed(self) -> None:
-        """The worker's process ends in the middle of its work; the next one takes the work up, and so it is deleted."""
-
-        def killed(*_: object) -> None:
-            raise SystemError("killed")
-
-        self.worker.before = killed
-        with served(self.network) as url:
-            made = self.client(url)
-            self.assertEqual(made.create(ONE, SERVICE, SYNC).record.state, State.CLEANING)
-            self.assertEqual(made.step(ONE).record.state, State.CLEANING)
-            self.worker.before = None
-            again = BrokerApplication(CATALOGUE, SqliteStore(self.folder / "holdings"), self.worker, USER, PASSWORD)
-            self.assertEqual((again.resume(), self.worker.things), ([], {ONE}))
-            self.assertEqual((made.step(ONE).record.state, self.worker.things), (State.GONE, set()))
+        self.assertEqual((self.worker.done, self.held()), ([], Holding(has_tombstone=True)))
 
     def test_platform_that_was_killed(self) -> None:
         with served(self.network) as url:

@@ -8,7 +8,7 @@ from __future__ import annotations
 import pytest
 from osb import Answer, Body, BrokerRow, Holding, Kind, Mode, Outcome, Phase, State
 from osb.tables import decide_deprovision, decide_poll, decide_provision, mitigates
-from osb_tests.support import ASYNC, SERVICE, SYNC, UNSOLD, request
+from osb_tests.support import ASYNC, SERVICE, SYNC, UNSOLD, handled, request
 
 BODIES = {str(body): body for body in Body} | {
     "error": Body.OTHER_ERROR,
@@ -105,8 +105,10 @@ async:delete-failed provision async accepts done 500 error delete-failed
 - deprovision sync accepts done 410 error -
 - deprovision sync - done 410 error -
 - deprovision async - before 410 error -
-# deprovision 2: another plan
+- deprovision async - after 410 error -
+# deprovision 2: another plan, also where an asynchronous operation isn't accepted
 sync:ready deprovision async accepts done 400 error ready
+sync:ready deprovision async - done 400 error ready
 # deprovision 3: asynchronous, and that isn't accepted, also while it is made
 async:ready deprovision async - done 422 AsyncRequired ready
 async:making deprovision async - done 422 AsyncRequired making
@@ -183,6 +185,7 @@ def test_a_rule_of_the_broker(rule: list[str]) -> None:
     row_plan, _, before = held.partition(":")
     row = BrokerRow(SERVICE, PLANS[row_plan], PHASES[before]) if before else None
     asked = request(KINDS[kind], plan, accepts == "accepts")
-    after, given = Holding(row).handle(MODES[plan], asked, Outcome[outcome.upper()])
+    after, given = handled(Holding(row), MODES[plan], asked, Outcome[outcome.upper()])
     assert given == answer(status, body)
     assert (str(after.row.phase) if after.row else "-") == phase
+    assert after.has_tombstone == (asked.kind == Kind.DEPROVISION and after.row is None)

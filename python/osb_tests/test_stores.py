@@ -48,7 +48,7 @@ class Stores(InFolder):
             store.update(ONE, lambda _: (MAKING, None))
             self.assertRaises(KeyError, store.update, ONE, broken)
             self.assertRaises(KeyError, store.update, TWO, broken)
-            bad = Holding(READY.row, is_marked=True)
+            bad = Holding(READY.row, has_tombstone=True)
             if isinstance(store, SqliteStore):
                 self.assertRaises(OsbError, store.update, ONE, lambda _: (bad, None))
             self.assertEqual((held(store), held(store, TWO)), (MAKING, Holding.NONE))
@@ -59,7 +59,7 @@ class Stores(InFolder):
                 (ONE, MAKING),
                 (TWO, READY),
                 (Id(0, 3), Holding(work=request(Kind.PROVISION))),
-                (Id(0, 4), Holding(is_marked=True)),
+                (Id(0, 4), Holding(has_tombstone=True)),
             ):
                 store.update(id, lambda _, it=holding: (it, None))  # type: ignore[misc]
             self.assertEqual(sorted(store.unfinished()), [ONE, Id(0, 3)])

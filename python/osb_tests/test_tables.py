@@ -1,4 +1,4 @@
-"""The platform's tables, the library's version, and libraries that can't be loaded."""
+"""What test_rules.py leaves of the platform's tables, the library's version, and libraries that can't be loaded."""
 from __future__ import annotations
 
 import os
@@ -7,26 +7,13 @@ import sys
 import unittest
 
 from osb import Answer, Body, Kind, State, __version__, version
-from osb.tables import (
-    decide_deprovision,
-    decide_poll,
-    decide_provision,
-    decide_restart,
-    decide_timeout,
-    mitigates,
-    well_formed,
-)
+from osb.tables import decide_restart, decide_timeout, well_formed
 
 
 class Tables(unittest.TestCase):
     def test_tables(self) -> None:
         self.assertTrue(well_formed(Kind.POLL, Answer(200, Body.SUCCEEDED)))
         self.assertFalse(well_formed(Kind.PROVISION, Answer(200, Body.SUCCEEDED)))
-        self.assertTrue(mitigates(Answer(201, Body.MALFORMED)))
-        self.assertFalse(mitigates(Answer(200, Body.MALFORMED)))
-        self.assertEqual(decide_provision(Answer(422, Body.ASYNC_REQUIRED)), State.GONE)
-        self.assertEqual(decide_deprovision(Answer(202, Body.EMPTY)), State.CLEANING_POLLING)
-        self.assertEqual(decide_poll(State.CLEANING_POLLING, Answer(200, Body.SUCCEEDED)), State.GONE)
         self.assertEqual(
             (decide_timeout(State.WANTED), decide_restart(State.UNSETTLED)), (State.CLEANING, State.UNSETTLED)
         )

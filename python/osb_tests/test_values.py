@@ -2,7 +2,6 @@
 from __future__ import annotations
 
 import unittest
-from typing import Callable
 
 import osb.holding
 import osb.record
@@ -10,11 +9,11 @@ from osb import (
     Answer,
     Body,
     BrokerRow,
+    Endpoints,
     Holding,
     Id,
     Kind,
     Mode,
-    OsbError,
     Outcome,
     Phase,
     PlatformRow,
@@ -25,17 +24,9 @@ from osb import (
     _crossing,
     work_of,
 )
-from osb_tests.support import ASYNC, ONE, SERVICE, SYNC, TWO, UNSOLD, request
+from osb_tests.support import ASYNC, ONE, SERVICE, SYNC, TWO, request, status_of
 
 PROVISION, POLL, DEPROVISION = Kind.PROVISION, Kind.POLL, Kind.DEPROVISION
-
-
-def status_of(call: Callable[[], object]) -> Status | None:
-    try:
-        call()
-    except OsbError as error:
-        return error.status
-    return None
 
 
 def record(state: State, out: Kind | None = None, attempt: int = 1) -> Record:
@@ -96,8 +87,9 @@ class Structs(unittest.TestCase):
             _crossing.answer_to(Answer(201, Body.EMPTY)),
             _crossing.platform_row_to(PlatformRow(SERVICE, SYNC, State.POLLING, POLL)),
             _crossing.broker_row_to(held),
+            _crossing.endpoints_to(Endpoints(True, True, True, True)),
             osb.record._to(record(State.POLLING, POLL)),
-            osb.holding._to(Holding(held, asked, True)),
+            osb.holding._to(Holding(held, asked, True, b"\1" * 32)),
         ):
             for name, _ in made._fields_:
                 place = getattr(type(made), name)
@@ -125,9 +117,15 @@ class Records(unittest.TestCase):
             (record(State.READY).expire, Status.NOT_POLLING),
             (busy.remove, Status.BUSY),
             (record(State.GONE).remove, Status.NOT_REMOVABLE),
+            (record(State.CLEANING_POLLING, POLL).retry, Status.BUSY),
+            (record(State.POLLING).retry, Status.NOT_POLLING),
         ):
             self.assertEqual(status_of(call), status)
         self.assertRaises(ValueError, busy.timeout, 2**64 + 2)
+
+    def test_retry(self) -> None:
+        """A deletion is sent again."""
+        self.assertEqual(record(State.CLEANING_POLLING).retry(), record(State.CLEANING))
 
     def test_from_platform_row(self) -> None:
         for before, after in ((State.WANTED, State.CLEANING), (State.READY, State.READY)):
@@ -145,20 +143,26 @@ RECORD = (
     '{"attempt":1,"out":"provision","plan":"00000000-0000-0000-0000-0000000000b1",'
     '"service":"00000000-0000-0000-0000-0000000000a0","state":"wanted","version":1}'
 )
+FRONT = f'{{"attributes":"{"0" * 64}","row":'
 HOLDINGS = [
     (
-        '{"marked":false,"row":null,"version":1,"work":{"accepts_incomplete":true,'
+        f'{FRONT}null,"tombstone":false,"version":2,"work":{{"accepts_incomplete":true,'
         '"id":"00000000-0000-0000-0000-000000000001","kind":"provision","plan":"00000000-0000-0000-0000-0000000000b1",'
         '"service":"00000000-0000-0000-0000-0000000000a0"}}',
         Holding(work=request(PROVISION)),
     ),
     (
-        '{"marked":false,"row":{"phase":"ready","plan":"00000000-0000-0000-0000-0000000000b1",'
-        '"service":"00000000-0000-0000-0000-0000000000a0"},"version":1,"work":null}',
+        f'{FRONT}{{"phase":"ready","plan":"00000000-0000-0000-0000-0000000000b1",'
+        '"service":"00000000-0000-0000-0000-0000000000a0"},"tombstone":false,"version":2,"work":null}',
         Holding(row(Phase.READY, SYNC)),
     ),
-    ('{"marked":true,"row":null,"version":1,"work":null}', Holding(is_marked=True)),
-    ('{"marked":false,"row":null,"version":1,"work":null}', Holding.NONE),
+    (f'{FRONT}null,"tombstone":true,"version":2,"work":null}}', Holding(has_tombstone=True)),
+    (f'{FRONT}null,"tombstone":false,"version":2,"work":null}}', Holding.NONE),
+    (
+        FRONT.replace("0", "a") + '{"phase":"waiting","plan":"00000000-0000-0000-0000-0000000000b2",'
+        '"service":"00000000-0000-0000-0000-0000000000a0"},"tombstone":false,"version":2,"work":null}',
+        Holding(row(Phase.WAITING), attributes=b"\xaa" * 32),
+    ),
 ]
 
 
@@ -173,23 +177,28 @@ class Texts(unittest.TestCase):
             self.assertEqual(holding.to_text(), text)
             self.assertEqual(Holding.from_text(text), holding)
 
+    def test_first_format(self) -> None:
+        """It had no attributes."""
+        for text, holding in (
+            ('{"marked":true,"row":null,"version":1,"work":null}', Holding(has_tombstone=True)),
+            ('{"marked":false,"row":null,"version":1,"work":null}', Holding.NONE),
+        ):
+            self.assertEqual(Holding.from_text(text), holding)
+
     def test_faults(self) -> None:
-        marked = HOLDINGS[2][0]
+        """crates/library_cases has all of them."""
+        ended, first = HOLDINGS[2][0], '{"marked":true,"row":null,"version":1,"work":null}'
         for text, fault in (
             ("", Status.NOT_JSON),
-            ("[]", Status.NOT_AN_OBJECT),
-            ("{}", Status.BAD_VERSION),
-            (RECORD.replace(":1}", ":1.0}"), Status.BAD_VERSION),
-            (marked, Status.BAD_OUTER),
+            (first, Status.BAD_OUTER),
+            (ended, Status.BAD_VERSION),
             (RECORD.replace("wanted", "done"), Status.BAD_MEMBER),
-            (RECORD.replace(":1,", ":-1,"), Status.BAD_MEMBER),
-            (RECORD.replace(":1,", ":2,"), Status.IMPOSSIBLE),
             (RECORD.replace('"provision"', "null"), Status.IMPOSSIBLE),
             ("\ud800", Status.NOT_UTF8),
         ):
             self.assertEqual(status_of(lambda: Record.from_text(text)), fault, text)
         both = HOLDINGS[1][0].replace("false", "true")
-        for text, fault in ((both, Status.IMPOSSIBLE), (RECORD, Status.BAD_OUTER), (marked[:-1], Status.NOT_JSON)):
+        for text, fault in ((both, Status.IMPOSSIBLE), (RECORD, Status.BAD_OUTER), (ended[:-1], Status.NOT_JSON)):
             self.assertEqual(status_of(lambda: Holding.from_text(text)), fault, text)
 
 
@@ -202,8 +211,30 @@ class Holdings(unittest.TestCase):
     def test_statuses(self) -> None:
         """checks/network compares what each call gives; here is why one is refused."""
         self.assertEqual(status_of(lambda: Holding.NONE.end(Mode.SYNC, Outcome.DONE)), Status.NOTHING_BEGUN)
-        for held in (Holding.NONE, Holding(is_marked=True), Holding(row(Phase.READY)), holding_with_work(PROVISION)):
+        for held in (
+            Holding.NONE,
+            Holding(has_tombstone=True),
+            Holding(row(Phase.READY)),
+            holding_with_work(PROVISION),
+        ):
             self.assertEqual(status_of(lambda: held.finish(True)), Status.NOTHING_RUNNING, held)
+
+    def test_refused_work(self) -> None:
+        """A backend refuses a Provision, and nothing else."""
+        for outcome, status in ((Outcome.REFUSED_400, 400), (Outcome.REFUSED_422, 422)):
+            ended = holding_with_work(PROVISION).end(Mode.SYNC, outcome)
+            self.assertEqual(ended, (Holding(has_tombstone=True), Answer(status, Body.OTHER_ERROR)))
+            deleting = holding_with_work(DEPROVISION)
+            self.assertEqual(status_of(lambda: deleting.end(Mode.SYNC, outcome)), Status.NOT_A_PROVISION)
+
+    def test_first_poll(self) -> None:
+        """With the rule of the first Poll, an instance is made only once it was polled."""
+        waiting, answer = Holding.NONE.begin(Mode.ASYNC, request(PROVISION, ASYNC), first_poll=True)
+        self.assertEqual((waiting, answer), (Holding(row(Phase.WAITING)), Answer(202, Body.EMPTY)))
+        making, answer = waiting.begin(Mode.ASYNC, request(POLL, ASYNC), first_poll=True)
+        self.assertEqual((making, answer), (Holding(row(Phase.MAKING)), Answer(200, Body.IN_PROGRESS)))
+        self.assertEqual(waiting.give_up_waiting(), Holding(row(Phase.FAILED)))
+        self.assertEqual(status_of(making.give_up_waiting), Status.NOT_WAITING)
 
     def test_work_of(self) -> None:
         for kind, works in (
@@ -212,32 +243,6 @@ class Holdings(unittest.TestCase):
             (POLL, [None, None, None]),
         ):
             self.assertEqual([work_of(kind, mode) for mode in (Mode.SYNC, Mode.ASYNC, None)], works)
-
-    def test_handle(self) -> None:
-        """Where several rules of docs/broker.md fit, the first counts. test_rules.py has each rule by itself."""
-        making, ready, deleting = (
-            Holding(row(Phase.MAKING)),
-            Holding(row(Phase.READY, SYNC)),
-            Holding(row(Phase.DELETING)),
-        )
-        marked, done, after = Holding(is_marked=True), Outcome.DONE, Outcome.AFTER
-        for held, kind, plan, accepts, outcome, status, body, left in (
-            (Holding.NONE, PROVISION, SYNC, False, done, 201, Body.EMPTY, ready),
-            (ready, PROVISION, UNSOLD, True, done, 400, Body.OTHER_ERROR, ready),
-            (ready, PROVISION, ASYNC, False, done, 422, Body.ASYNC_REQUIRED, ready),
-            (making, PROVISION, SYNC, False, done, 409, Body.OTHER_ERROR, making),
-            (making, PROVISION, ASYNC, True, after, 202, Body.EMPTY, making),
-            (Holding.NONE, DEPROVISION, ASYNC, False, after, 410, Body.OTHER_ERROR, marked),
-            (ready, DEPROVISION, ASYNC, False, done, 400, Body.OTHER_ERROR, ready),
-            (making, DEPROVISION, ASYNC, False, done, 422, Body.ASYNC_REQUIRED, making),
-            (making, DEPROVISION, ASYNC, True, after, 422, Body.CONCURRENCY_ERROR, making),
-            (deleting, DEPROVISION, ASYNC, True, Outcome.BEFORE, 202, Body.EMPTY, deleting),
-            (making, POLL, SYNC, False, done, 400, Body.OTHER_ERROR, making),
-            (making, POLL, ASYNC, False, done, 200, Body.IN_PROGRESS, making),
-        ):
-            mode = {SYNC: Mode.SYNC, ASYNC: Mode.ASYNC, UNSOLD: None}[plan]
-            said = held.handle(mode, request(kind, plan, accepts), outcome)
-            self.assertEqual(said, (left, Answer(status, body)), (held, kind, plan))
 
     def test_fits(self) -> None:
         for held, sync, asynchronous, none in (
@@ -250,7 +255,7 @@ class Holdings(unittest.TestCase):
             self.assertEqual(fits, [sync, asynchronous, none], held)
 
     def test_values_that_no_call_gives(self) -> None:
-        for held in (Holding(row(Phase.READY), is_marked=True), Holding(work=request(POLL))):
+        for held in (Holding(row(Phase.READY), has_tombstone=True), Holding(work=request(POLL))):
             for call in (held.to_text, lambda: held.finish(True), lambda: held.begin(Mode.SYNC, request(POLL))):
                 self.assertEqual(status_of(call), Status.BAD_HOLDING, held)
             self.assertFalse(held.fits(Mode.ASYNC), held)

@@ -36,6 +36,11 @@ from osb_tests.support import (
 )
 
 READY = Holding(BrokerRow(SERVICE, SYNC, Phase.READY))
+CHUNKED: dict[str, Any] = {
+    "CONTENT_LENGTH": None,
+    "HTTP_TRANSFER_ENCODING": "chunked",
+    "wsgi.input_terminated": True,
+}
 
 
 def held(store: MemoryStore, id: Id = ONE) -> Holding:
@@ -71,7 +76,7 @@ class Requests(InFolder):
             self.assertEqual(reply.headers["Content-Length"], str(len(reply.body)))
         self.assertEqual(provision(made).status, 409)
         self.assertEqual((worker.done, worker.things), ([Work.MAKE, Work.DELETE], set()))
-        self.assertEqual(held(store), Holding(is_marked=True))
+        self.assertEqual(held(store), Holding(has_tombstone=True))
 
     def test_life_of_an_asynchronous_plan(self) -> None:
         store, worker = MemoryStore(), Things()
@@ -84,12 +89,15 @@ class Requests(InFolder):
         self.assertEqual(json.loads(poll(made, plan=None).body), {"state": "succeeded"})
         self.assertEqual((made.running(), deprovision(made, plan=ASYNC).status), ({}, 202))
         self.assertEqual(deprovision(made, plan=ASYNC).status, 202)
+        made.finish(ONE, False)
+        self.assertEqual(json.loads(poll(made, plan=ASYNC).body), {"state": "failed"})
+        self.assertEqual(deprovision(made, plan=ASYNC).status, 202)
         made.finish(ONE, True)
-        self.assertEqual((poll(made, plan=ASYNC).status, held(store)), (410, Holding(is_marked=True)))
+        self.assertEqual((poll(made, plan=ASYNC).status, held(store)), (410, Holding(has_tombstone=True)))
         with self.assertRaises(OsbError) as raised:
             made.finish(ONE, True)
         self.assertEqual(raised.exception.status, Status.NOTHING_RUNNING)
-        self.assertEqual(worker.done, [Work.START_MAKING, Work.START_DELETING])
+        self.assertEqual(worker.done, [Work.START_MAKING, Work.START_DELETING, Work.START_DELETING])
 
     def test_outcomes(self) -> None:
         for outcome, left in ((Outcome.BEFORE, Holding.NONE), (Outcome.AFTER, READY)):
@@ -100,7 +108,10 @@ class Requests(InFolder):
     def test_catalogue(self) -> None:
         made = application(prefix="/a")
         self.assertEqual(call(made, "GET", "/a/v2/catalog?b=1")[::2], (200, CATALOGUE))
-        self.assertEqual(call(made, "PUT", "/a/v2/catalog").headers["Allow"], "GET")
+        for way in ("/a/v2/catalog", "//a/v2/catalog", "/a/v2/catalog/", "http://broker.example/a/v2/catalog"):
+            for uri in (None, way + "?b=1"):
+                self.assertEqual(call(made, "GET", way, REQUEST_URI=uri)[::2], (200, CATALOGUE), way)
+                self.assertEqual(call(made, "PUT", way, REQUEST_URI=uri).headers["Allow"], "GET", way)
         self.assertEqual(call(made, "GET", "/v2/catalog").status, 404)
 
     def test_work_is_recorded_first(self) -> None:
@@ -145,14 +156,9 @@ class Requests(InFolder):
 
     def test_tasks_in_chunks(self) -> None:
         given: list[Task] = []
-        chunked: dict[str, Any] = {
-            "CONTENT_LENGTH": None,
-            "HTTP_TRANSFER_ENCODING": "chunked",
-            "wsgi.input_terminated": True,
-        }
         made = application(worker=Things(before=given.append))
-        self.assertEqual(call(made, "PUT", target(plan=None), provision_body(ASYNC), **chunked).error, "AsyncRequired")
-        self.assertEqual(call(made, "PUT", target(plan=None), provision_body(), **chunked).status, 201)
+        self.assertEqual(call(made, "PUT", target(plan=None), provision_body(ASYNC), **CHUNKED).error, "AsyncRequired")
+        self.assertEqual(call(made, "PUT", target(plan=None), provision_body(), **CHUNKED).status, 201)
         self.assertEqual([it.body for it in given], [provision_body()])
 
     def test_operation_that_ends_before_its_start_is_written(self) -> None:
@@ -175,30 +181,6 @@ class Requests(InFolder):
                 made.finish(id, True)
             self.assertEqual(refused.exception.status, Status.NOTHING_RUNNING)
 
-    def test_operations_by_what_is_running(self) -> None:
-        """As docs/python.md has it: the work is nothing, and what the rows say is made and deleted by another hand."""
-
-        class Slow:
-            def work(self, task: Task) -> Outcome:
-                return Outcome.DONE
-
-        made = BrokerApplication(CATALOGUE, MemoryStore(), Slow(), USER, PASSWORD)
-        hand = Things()
-
-        def turn() -> None:
-            for id, row in made.running().items():
-                work, kind = (
-                    (Work.MAKE, Kind.PROVISION) if row.phase == Phase.MAKING else (Work.DELETE, Kind.DEPROVISION)
-                )
-                made.finish(id, hand.work(Task(work, request(kind, ASYNC, id=id), None, False)) == Outcome.DONE)
-
-        self.assertEqual(provision(made, plan=ASYNC).status, 202)
-        turn()
-        self.assertEqual((json.loads(poll(made, plan=ASYNC).body), hand.things), ({"state": "succeeded"}, {ONE}))
-        self.assertEqual(deprovision(made, plan=ASYNC).status, 202)
-        turn()
-        self.assertEqual((poll(made, plan=ASYNC).status, made.running(), hand.things), (410, {}, set()))
-
     def test_plan_that_is_not_on_sale(self) -> None:
         store = MemoryStore()
         self.assertEqual(provision(application(store), plan=UNSOLD).error, "BadRequest")
@@ -218,7 +200,7 @@ class Refused(InFolder):
         for method, way, status, error in (
             ("GET", "/nowhere", 404, "NotFound"),
             ("PUT", target(end="/a"), 404, "NotFound"),
-            ("PUT", "/v2/service_instances/1", 400, "BadRequest"),
+            ("PUT", "/v2/service_instances/.", 400, "BadRequest"),
         ):
             reply = call(made, method, way, provision_body())
             self.assertEqual((reply.status, reply.error), (status, error), way)
@@ -232,6 +214,13 @@ class Refused(InFolder):
             (f"{front}/{ONE}/last_operation", "GET"),
             (f"{front}/last_operation", "PUT, DELETE"),
             (f"{front}//last_operation", "GET"),
+            (f"/{front}/i", "PUT, DELETE"),
+            (f"{front}/i/", "PUT, DELETE"),
+            (f"{front}/i?a=/last_operation", "PUT, DELETE"),
+            (f"http://broker.example{front}/i", "PUT, DELETE"),
+            (f"//{front}/i/last_operation", "GET"),
+            (f"{front}/i/last_operation/", "GET"),
+            (f"http://broker.example{front}/i/last_operation", "GET"),
         ):
             reply = call(made, "PATCH", way)
             self.assertEqual((reply.status, reply.headers["Allow"]), (405, allowed), way)
@@ -269,12 +258,7 @@ class Refused(InFolder):
             reply = call(made, "PUT", target(plan=None), whole, **given)
             self.assertEqual((reply.status, reply.error), (408, "Refused"), given)
         self.assertEqual(worker.done, [])
-        chunked: dict[str, Any] = {
-            "CONTENT_LENGTH": None,
-            "HTTP_TRANSFER_ENCODING": "chunked",
-            "wsgi.input_terminated": True,
-        }
-        self.assertEqual(call(made, "PUT", target(plan=None), whole, **chunked).status, 201)
+        self.assertEqual(call(made, "PUT", target(plan=None), whole, **CHUNKED).status, 201)
 
     def test_pieces(self) -> None:
         class Slow(io.BytesIO):
@@ -287,10 +271,13 @@ class Refused(InFolder):
 
     def test_undecoded_target(self) -> None:
         """Where the server has the target as it came, that one counts."""
-        given = f"/v2/service_instances/%30{str(ONE)[1:]}"
         for name in ("REQUEST_URI", "RAW_URI"):
-            reply = call(application(), "PUT", target(plan=None), provision_body(), **{name: given})
-            self.assertEqual(reply.status, 400, name)
+            for given, status in (
+                (f"/v2/service_instances/%30{str(ONE)[1:]}", 201),
+                ("/v2/service_instances/%2E", 400),
+            ):
+                reply = call(application(), "PUT", target(plan=None), provision_body(), **{name: given})
+                self.assertEqual(reply.status, status, (name, given))
         front, rest = "/a/v2", f"/service_instances/{ONE}"
         reply = call(application(prefix="/a"), "PUT", rest, provision_body(), SCRIPT_NAME=front)
         self.assertEqual(reply.status, 201)
@@ -383,7 +370,7 @@ class Faults(InFolder):
         put(store, making, Id(0, 3))
         self.assertEqual(application(store, worker).resume(), [])
         self.assertEqual(
-            (held(store), held(store, TWO), held(store, Id(0, 3))), (READY, Holding(is_marked=True), making)
+            (held(store), held(store, TWO), held(store, Id(0, 3))), (READY, Holding(has_tombstone=True), making)
         )
         self.assertEqual(worker.done, [Work.MAKE, Work.DELETE])
 

@@ -4,8 +4,7 @@
 #![tactic(auto)]
 
 use anyhow::{Context, Result, ensure};
-use osb_broker::Outcome;
-use osb_instance::{Begun, Holding, Record, Sent, Work};
+use osb_instance::{Begun, Digest, Holding, Record, Sent, Work, WorkOutcome};
 use osb_message::{Answer, InstanceId, Mode, PlanId, Request, ServiceId};
 use std::alloc::Global;
 
@@ -61,25 +60,30 @@ fn take(
     Ok(())
 }
 
-// A request arrives at the broker. What is recorded is written before the work begins, or the answer is sent.
+// A request arrives at the broker. What is pending is written before the work begins, or the answer is sent.
 fn arrive(rt: &impl Print, alloc: Global, column: &mut String, request: &Request) -> Result<Begun> {
-    let (holding, begun) = Holding::from_text(alloc, column.as_str())?.begin(MODE, request);
+    let (holding, begun) = Holding::from_text(alloc, column.as_str())?.begin(
+        MODE,
+        false,
+        request,
+        Digest::NONE,
+    );
     *column = write_holding(rt, alloc, holding)?;
     Ok(begun)
 }
 
-// The broker does the recorded work, and ends it. Whoever begins anew looks first what there is of it.
+// The broker does the pending work, and ends it. A broker that begins anew looks first what exists of it.
 fn work(rt: &impl Print, alloc: Global, column: &mut String) -> Result<Answer> {
     let holding = Holding::from_text(alloc, column.as_str())?;
     ensure!(holding.fits(MODE), "the holding doesn't fit its plan");
-    let request = holding.work().context("no work is recorded")?;
+    let request = holding.work().context("no work is pending")?;
     let done = match Work::of(request.kind, MODE) {
         Some(Work::Make | Work::StartMaking) => "made",
         Some(Work::Delete | Work::StartDeleting) => "deleted",
         None => anyhow::bail!("the plan isn't on sale"),
     };
     println!(rt; "backend  {done}")?;
-    let (holding, answer) = holding.end(MODE, Outcome::Done)?;
+    let (holding, answer) = holding.end(MODE, WorkOutcome::Done)?;
     *column = write_holding(rt, alloc, holding)?;
     Ok(answer)
 }
@@ -102,18 +106,18 @@ fn main(rt: HostRuntime) -> Result<()> {
     let mut platform = write_record(&rt, alloc, record)?;
     println!(rt; "request  provision ({})", provision.attempt)?;
 
-    println!(rt; "-- the broker records the work, begins it, and is killed")?;
+    println!(rt; "-- the broker writes the pending work, begins it, and is killed")?;
     let mut broker = Holding::NONE.to_text(alloc)?;
     arrive(&rt, alloc, &mut broker, &provision.request)?;
 
-    println!(rt; "-- the platform gives the request up, and has the instance deleted")?;
+    println!(rt; "-- the request times out, and the platform has the instance deleted")?;
     let given_up = Record::from_text(alloc, platform.as_str())?.timeout(provision.attempt)?;
     platform = write_record(&rt, alloc, given_up)?;
     let early = send(&rt, alloc, &mut platform)?;
     let busy = answered(arrive(&rt, alloc, &mut broker, &early.request)?)?;
     take(&rt, alloc, &mut platform, early.attempt, busy)?;
 
-    println!(rt; "-- the broker starts again, and does the recorded work")?;
+    println!(rt; "-- the broker starts again, and does the pending work")?;
     let created = work(&rt, alloc, &mut broker)?;
     take(&rt, alloc, &mut platform, provision.attempt, created)?;
 

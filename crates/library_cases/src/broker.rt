@@ -1,5 +1,5 @@
-//! The cases of `osb_broker`: a line with the name of a call and its arguments, and behind it what the call returned. What
-//! isn't here is in `python/osb_tests/test_rules.py`.
+//! The cases of `osb_broker`: a line with the name of a call and its arguments, and behind it what the call returned.
+//! What isn't here is in `python/osb_tests/test_rules.py`.
 use crate::words::{body_word, first, kind, outcome};
 use anyhow::{Context, Result};
 use osb_broker::{Broker, Phase};

@@ -1,10 +1,14 @@
 //! The cases of `osb_instance`: a line with the name of a call and its arguments, and behind it what the call returned.
-//! What isn't here can be seen from C: `checks/network` compares it with a model, and `go/values_test.go` with the tables.
+//! What isn't here can be seen from C: `checks/network` compares it with a model, and `go/values_test.go` with the
+//! tables.
+
+mod lives;
 
 use crate::words::{first, given};
 use anyhow::{Context, Result};
 use osb_instance::{
-    ExpireRefused, Holding, NotOut, NothingBegun, Record, RemoveRefused, SendRefused, TextFault,
+    EndRefused, ExpireRefused, Holding, HoldingPhase, NotOut, NotWaiting, Record, RemoveRefused,
+    RetryRefused, SendRefused, TextFault,
 };
 use osb_message::{Kind, PlanId, ServiceId};
 use osb_platform::{PlatformRow, State};
@@ -17,6 +21,9 @@ pub(crate) fn tell(rt: &impl Print, alloc: Global, line: &str) -> Result<()> {
         "holding" => holding(rt, alloc, rest),
         "none" => none(rt, alloc),
         "record" => record(rt, alloc, rest),
+        "retry" => retry(rt, alloc, rest),
+        "phase" => phase(rt, rest),
+        "life" => lives::tell(rt, rest),
         "moved" => moved(rt, alloc, rest),
         "faults" => faults(rt),
         "refusals" => refusals(rt),
@@ -52,6 +59,25 @@ fn record(rt: &impl Print, alloc: Global, rest: &str) -> Result<()> {
     }
 }
 
+// `retry TEXT`: the record after the deletion is to be sent again
+fn retry(rt: &impl Print, alloc: Global, rest: &str) -> Result<()> {
+    match Record::from_text(alloc, rest)?.retry() {
+        Ok(record) => {
+            let text = record.to_text(alloc)?;
+            Ok(println!(rt; "  {}", text.as_str())?)
+        }
+        Err(refused) => Ok(println!(rt; "  {refused}")?),
+    }
+}
+
+// `phase WORD`: the phase's word, and `-` if the word names none
+fn phase(rt: &impl Print, word: &str) -> Result<()> {
+    match HoldingPhase::from_word(word) {
+        Some(phase) => Ok(println!(rt; "  {}", phase.word())?),
+        None => Ok(println!(rt; "  -")?),
+    }
+}
+
 // `moved STATE OUT`, of the service a0 and its plan b1; `-` stands for no request that is out
 fn moved(rt: &impl Print, alloc: Global, rest: &str) -> Result<()> {
     let (state, out) = first(rest);
@@ -81,7 +107,8 @@ fn faults(rt: &impl Print) -> Result<()> {
     Ok(())
 }
 
-// `refusals`: why no request is sent, none is answered, polling isn't given up, nothing is removed and no work ends
+// `refusals`: why no request is sent, none is answered, polling isn't given up, no deletion is sent again, nothing is
+// removed, no work ends, and no row stops waiting
 fn refusals(rt: &impl Print) -> Result<()> {
     for refused in &[
         SendRefused::Busy,
@@ -94,8 +121,14 @@ fn refusals(rt: &impl Print) -> Result<()> {
     for refused in &[ExpireRefused::Busy, ExpireRefused::NotPolling] {
         println!(rt; "  {refused}")?;
     }
+    for refused in &[RetryRefused::Busy, RetryRefused::NotPolling] {
+        println!(rt; "  {refused}")?;
+    }
     for refused in &[RemoveRefused::Busy, RemoveRefused::NotRemovable] {
         println!(rt; "  {refused}")?;
     }
-    Ok(println!(rt; "  {}", NothingBegun)?)
+    for refused in &[EndRefused::NothingBegun, EndRefused::NotAProvision] {
+        println!(rt; "  {refused}")?;
+    }
+    Ok(println!(rt; "  {}", NotWaiting)?)
 }

@@ -1,7 +1,7 @@
 //! Tells what the libraries make of each case on standard input. A line `of LIBRARY` says whose cases follow, and each
-//! line is then a case of that library. It is written again, and behind it, after two blanks, what came of it: what takes
-//! further lines stands below. Empty lines, comments, which begin with `#`, and the lines that name a library are written
-//! as they are.
+//! line is then a case of that library. It is written again, and behind it, after two blanks, what came of it: what
+//! takes further lines stands below. Empty lines, comments, which begin with `#`, and the lines that name a library are
+//! written as they are.
 #![tactic(auto)]
 
 mod broker;
@@ -44,7 +44,7 @@ fn named(name: &str) -> Result<Library> {
 
 fn main(rt: HostRuntime) -> Result<()> {
     let mut of = Library::Wire;
-    let mut stepped = None;
+    let mut begun = network::Begun::Nothing;
     let mut platform = Platform::new(rt.alloc());
     for line in rt.lines(rt.alloc()) {
         let line = line?;
@@ -61,7 +61,7 @@ fn main(rt: HostRuntime) -> Result<()> {
                 Library::Instance => instance::tell(&rt, rt.alloc(), text)?,
                 Library::Language => language::tell(&rt, text)?,
                 Library::Message => message::tell(&rt, rt.alloc(), text)?,
-                Library::Network => stepped = network::tell(&rt, rt.alloc(), stepped, text)?,
+                Library::Network => begun = network::tell(&rt, rt.alloc(), begun, text)?,
                 Library::Platform => platform::tell(&rt, rt.alloc(), &mut platform, text)?,
                 Library::Wire => wire::tell(&rt, rt.alloc(), text)?,
             }

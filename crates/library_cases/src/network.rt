@@ -1,23 +1,33 @@
-//! The cases of `osb_network`. A line `order MODE accepts|refuses` begins a new instance, with the mode `sync`, `async`,
-//! or `-` for a plan that isn't on sale, and each further line is an event that happens to it, or `settle`. A line `many
-//! MODE accepts|refuses: ID EVENT, ..` has three instances, with the ids 1 to 3, and lets a list of events happen to
-//! them; a line `instances COUNT` has as many, and asks how many are there. Behind each line stands what has become of the
-//! event, and all that there is then.
+//! The cases of `osb_network`. A line `order MODE accepts|refuses first-poll|-` begins a new instance, with the mode
+//! `sync`, `async`, or `-` for a plan that isn't on sale, and with the rule of the first Poll or without. Each further
+//! line is an event that happens to it, or `settle`. A line `many MODE accepts|refuses first-poll|-: ID EVENT, ..` has
+//! three instances, with the ids 1 to 3, and lets a list of events happen to them. A line `instances COUNT` has as
+//! many, and asks how many exist. A line `alone MODE MODE first-poll|-` begins an instance at a broker alone
+//! (`network/alone.rt`). Behind each line stands what has become of the event, and all that exists then.
 //!
-//! What there is: the platform's record, as its state, the kind of the request that is out, and the number of the
-//! latest request; the broker's holding, as its row's phase, the kind of the recorded work, and its mark; the thing;
+//! What exists: the platform's record, as its state, the kind of the request that is out, and the number of the latest
+//! request; the broker's holding, as its row's phase, the kind of the pending work, and its tombstone; the resource;
 //! how many requests were sent and answers given; and each answer that the event gave, as the number of its request,
 //! its status and its body. `-` stands for none.
 
+mod alone;
 mod events;
 mod many;
 mod orders;
 mod sides;
 mod words;
 
-use anyhow::{Context, Result};
-use osb_network::{Instance, Step};
+use anyhow::Result;
+use osb_network::{AnyPlatform, Instance, Step};
 use std::alloc::Global;
+
+// What the latest line of its kind has begun.
+#[derive(Drop)]
+pub(crate) enum Begun {
+    Nothing,
+    Ordered(Instance),
+    Alone(AnyPlatform),
+}
 
 fn step_word(step: Step) -> &'static str {
     match step {
@@ -37,36 +47,55 @@ fn happen(alloc: Global, instance: &mut Instance, line: &str) -> Result<&'static
     Ok(step_word(step))
 }
 
-// What a line makes of the instance before it, if there is one, and the instance after it.
-fn step(rt: &impl Print, alloc: Global, before: Option<Instance>, line: &str) -> Result<Instance> {
-    if let Some(words) = line.strip_prefix("order ") {
-        let instance = Instance::new(alloc, orders::order(words)?);
-        print!(rt; "  new: ")?;
-        sides::tell(rt, &instance, 0)?;
-        return Ok(instance);
-    }
-    let mut instance = before.context("nothing is ordered")?;
-    let given = instance.given().len();
-    let word = happen(alloc, &mut instance, line)?;
-    print!(rt; "  {word}: ")?;
-    sides::tell(rt, &instance, given)?;
-    Ok(instance)
+fn order(rt: &impl Print, alloc: Global, words: &str) -> Result<Begun> {
+    let instance = Instance::new(alloc, orders::order(words)?);
+    print!(rt; "  new: ")?;
+    sides::tell(rt, &instance, 0)?;
+    Ok(Begun::Ordered(instance))
 }
 
-// What a line makes of the instance before it, if there is one, and the instance after it; of many, nothing.
-pub(crate) fn tell(
-    rt: &impl Print,
-    alloc: Global,
-    before: Option<Instance>,
-    line: &str,
-) -> Result<Option<Instance>> {
+fn begin_alone(rt: &impl Print, alloc: Global, words: &str) -> Result<Begun> {
+    let any = alone::begin(alloc, words)?;
+    print!(rt; "  new: ")?;
+    alone::tell(rt, &any)?;
+    Ok(Begun::Alone(any))
+}
+
+// Lets an event happen to what was begun.
+fn step(rt: &impl Print, alloc: Global, begun: Begun, line: &str) -> Result<Begun> {
+    match begun {
+        Begun::Nothing => anyhow::bail!("nothing is ordered"),
+        Begun::Ordered(mut instance) => {
+            let given = instance.given().len();
+            let word = happen(alloc, &mut instance, line)?;
+            print!(rt; "  {word}: ")?;
+            sides::tell(rt, &instance, given)?;
+            Ok(Begun::Ordered(instance))
+        }
+        Begun::Alone(mut any) => {
+            let word = step_word(any.step(alloc, alone::event(line)?)?);
+            print!(rt; "  {word}: ")?;
+            alone::tell(rt, &any)?;
+            Ok(Begun::Alone(any))
+        }
+    }
+}
+
+// What a line makes of what was begun before it.
+pub(crate) fn tell(rt: &impl Print, alloc: Global, begun: Begun, line: &str) -> Result<Begun> {
     if let Some(words) = line.strip_prefix("many ") {
         many::tell(rt, alloc, words)?;
-        return Ok(before);
+        return Ok(begun);
     }
     if let Some(count) = line.strip_prefix("instances ") {
         many::large(rt, alloc, count)?;
-        return Ok(before);
+        return Ok(begun);
     }
-    Ok(Some(step(rt, alloc, before, line)?))
+    if let Some(words) = line.strip_prefix("order ") {
+        return order(rt, alloc, words);
+    }
+    if let Some(words) = line.strip_prefix("alone ") {
+        return begin_alone(rt, alloc, words);
+    }
+    step(rt, alloc, begun, line)
 }

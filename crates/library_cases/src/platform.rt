@@ -6,11 +6,11 @@
 //!
 //! `create`, `send`, `answer`, `timeout`, `expire` and `remove` are calls of the platform that the lines before have
 //! left, and so is `save`; each but the last is told with what is recorded of the instance then. `new` begins another,
-//! and `load` one from a text. `python/osb_tests/test_rules.py` has what becomes of each answer.
+//! and `load` one from a text. `python/osb_tests/test_rules.py` has what becomes of each answer,
+//! and `checks/replay/test_many.py` has many instances.
 
 mod calls;
 mod faults;
-mod many;
 mod rows;
 mod texts;
 
@@ -38,9 +38,6 @@ pub(crate) fn tell(
         "repeated" => texts::repeated(rt, alloc, rest)?,
         "padded" => padded(rt, rest)?,
         "numbers" => faults::numbers(rt)?,
-        "created" => many::created(rt, alloc, rest)?,
-        "saved" => many::saved(rt, alloc, rest)?,
-        "loaded" => many::loaded(rt, alloc, rest)?,
         _ => calls::tell(rt, alloc, platform, call, rest)?,
     }
     Ok(())

@@ -1,6 +1,7 @@
 //! The words of a case.
 use anyhow::{Context, Result};
 use osb_broker::Outcome;
+use osb_instance::{Rejection, WorkOutcome};
 use osb_message::{Answer, Body, ErrorCode, Kind, LastState, Mode};
 use std::alloc::Global;
 
@@ -12,6 +13,24 @@ pub(crate) fn first(text: &str) -> (&str, &str) {
 // A word, or none for `-`.
 pub(crate) fn given(word: &str) -> Option<&str> {
     if word == "-" { None } else { Some(word) }
+}
+
+// The bytes that a text stands for: those that the digits behind `hex:` write, or its own.
+pub(crate) fn bytes(alloc: Global, text: &str) -> Result<Vec<u8>> {
+    match text.strip_prefix("hex:") {
+        Some(digits) => Ok(
+            hex::decode(alloc, digits.as_bytes())
+                .ok()
+                .context("no hexadecimal digits")?,
+        ),
+        None => Ok(Vec::from_slice(alloc, text.as_bytes())?),
+    }
+}
+
+// The text that a text stands for, as its bytes.
+pub(crate) fn utf8(alloc: Global, text: &str) -> Result<String> {
+    let bytes = bytes(alloc, text)?;
+    String::from_utf8(bytes).ok().context("no UTF-8")
 }
 
 // The text so many times, one after another.
@@ -55,6 +74,18 @@ pub(crate) fn outcome(word: &str) -> Result<Outcome> {
     }
 }
 
+// How pending work ends: as the table of a broker has it, or refused.
+pub(crate) fn work_outcome(words: &str) -> Result<WorkOutcome> {
+    match words {
+        "done" => Ok(WorkOutcome::Done),
+        "before" => Ok(WorkOutcome::Before),
+        "after" => Ok(WorkOutcome::After),
+        "refused 400" => Ok(WorkOutcome::Refused(Rejection::BadRequest)),
+        "refused 422" => Ok(WorkOutcome::Refused(Rejection::UnprocessableEntity)),
+        _ => anyhow::bail!("no such outcome: {words}"),
+    }
+}
+
 // What a body says.
 pub(crate) fn body_word(body: Body) -> &'static str {
     match body {
@@ -69,7 +100,7 @@ pub(crate) fn body_word(body: Body) -> &'static str {
     }
 }
 
-fn body(word: &str) -> Result<Body> {
+pub(crate) fn body(word: &str) -> Result<Body> {
     match word {
         "malformed" => Ok(Body::Malformed),
         "empty" => Ok(Body::Empty),

@@ -10,10 +10,11 @@ ghost use Rattle.osb_c_types.specs.Status.{code, is_one_of};
 use osb_c_types::{OsbId, Status, id_from, id_out};
 use osb_message::InstanceId;
 
-/// Reads the text form of an id, in either case: 36 bytes, which may be anything. It takes no memory.
+/// Reads the text form of an id that is a GUID, in either case: 36 bytes, which may be anything. `osb_id_of_text` reads
+/// every text that an id may have. It takes no memory.
 ///
 /// It returns `Done`, or `NotAnId` exactly where the bytes aren't 8, 4, 4, 4 and 12 hexadecimal digits that
-/// are joined by hyphens; the id is then as before. That ids are GUIDs is this project's choice.
+/// are joined by hyphens; the id is then as before. This form is this project's choice.
 #[unsafe(no_mangle)]
 pub extern "C" fn osb_id_from_text(text: &[u8], id: &mut OsbId) -> u32
     ensures reads { result ≡ code Status.Done → id_of text.now ≡ Some (number_of id.new) }

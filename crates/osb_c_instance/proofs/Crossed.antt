@@ -1,18 +1,14 @@
 -- What holds of the values that crossed.
-use Rattle.std.proofs.Common.{◌≡◌, ℕ, Bool, true, sym, ◌∙◌}
+use Rattle.std.proofs.Common.{◌≡◌, ℕ, Bool, true, refl, ◌∙◌}
 use Rattle.std.specs.Prelude.{Option, Some, None, is_some, IsSome, IfSome, IsSomeAnd}
 use Rattle.osb_message.specs.declared.catalogue.Mode.{Mode}
-use Rattle.osb_message.specs.declared.messages.Answer.{Answer}
 use Rattle.osb_message.specs.declared.messages.Request.{Request}
-use Rattle.osb_broker.specs.Answers.{Handled}
-use Rattle.osb_broker.specs.declared.outcome.Outcome.{Outcome}
+use Rattle.osb_instance.specs.declared.outcome.WorkOutcome.{WorkOutcome}
 use Rattle.osb_broker.specs.declared.row.BrokerRow.{BrokerRow}
 use Rattle.osb_instance.specs.Held.{Held}
-use Rattle.osb_c_types.specs.Answers.{answer_of}
 use Rattle.osb_c_types.specs.Modes.{mode_of}
-use Rattle.osb_c_types.specs.Outcomes.{outcome_of}
+use Rattle.osb_c_instance.specs.Outcomes.{outcome_of}
 use Rattle.osb_c_types.specs.Requests.{request_of}
-use Rattle.osb_c_types.specs.declared.answers.OsbAnswer.{OsbAnswer}
 use Rattle.osb_c_types.specs.declared.requests.OsbRequest.{OsbRequest}
 use Rattle.osb_c_instance.specs.Holdings.{IsAsked, IsWorking, held_of}
 use Rattle.osb_c_instance.specs.declared.holdings.OsbHolding.{OsbHolding}
@@ -25,6 +21,11 @@ some_and o x P e p = rw (← e) p
 pub some_if : {T : Type 0} (o : Option T) (P : T → Type 0) → IsSome o → IfSome o P → IsSomeAnd o P
 some_if None P there p = cc
 some_if (Some x) P there p = p
+
+-- what holds of a value is of one that is there
+pub there : {T : Type 0} (o : Option T) (P : T → Type 0) → IsSomeAnd o P → IsSome o
+there None P p = absurd p
+there (Some x) P p = refl
 
 -- what holds of none holds of the value too
 pub if_any : {T : Type 0} (o : Option T) (Q : Type 0) → Q → IfSome o (λ x. Q)
@@ -45,8 +46,8 @@ asked h mode r P held m q e f g p =
     (some_and (mode_of mode) m (λ y. IsSomeAnd (request_of r) (λ z. P held y z)) f
     (some_and (request_of r) q (λ z. P held m z) g p))
 
-pub working : (h : OsbHolding) (mode outcome : ℕ) (P : Held → Option Mode → Outcome → Request → Type 0) (held : Held)
-    (m : Option Mode) (o : Outcome) → Some held ≡ held_of h → Some m ≡ mode_of mode → Some o ≡ outcome_of outcome
+pub working : (h : OsbHolding) (mode outcome : ℕ) (P : Held → Option Mode → WorkOutcome → Request → Type 0) (held : Held)
+    (m : Option Mode) (o : WorkOutcome) → Some held ≡ held_of h → Some m ≡ mode_of mode → Some o ≡ outcome_of outcome
     → IsSome held.work → IfSome held.work (λ q. P held m o q) → IsWorking h mode outcome P
 working h mode outcome P held m o e f g there p =
     some_and (held_of h) held
@@ -54,15 +55,3 @@ working h mode outcome P held m o e f g there p =
     (some_and (mode_of mode) m (λ y. IsSomeAnd (outcome_of outcome) (λ z. IsSomeAnd held.work (λ w. P held y z w))) f
     (some_and (outcome_of outcome) o (λ z. IsSomeAnd held.work (λ w. P held m z w)) g
     (some_if held.work (λ w. P held m o w) there p)))
-
--- the row and the answer that go out are those of a table
-abbrev pub Gives : Handled → OsbHolding → OsbAnswer → Type 0
-Gives table out answer = IsSomeAnd (held_of out) (λ after. after.row ≡ table.row) × (answer_of answer ≡ table.answer)
-
-pub gives : (table : Handled) (out : OsbHolding) (answer : OsbAnswer) (after : Held) (given : Answer)
-    → held_of out ≡ Some after → answer_of answer ≡ given → (after.row ≡ table.row) × (given ≡ table.answer)
-    → Gives table out answer
-gives table out answer after given e f both = (
-  some_and (held_of out) after (λ x. x.row ≡ table.row) (sym e) both.0,
-  f ∙ both.1,
-)

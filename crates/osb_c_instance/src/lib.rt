@@ -9,8 +9,10 @@
 //! this project's choice; what the calls mean, and where the standard says so, is told of the calls beneath.
 #![tactic(auto)]
 
+mod broker_rows;
 mod holding_calls;
 mod holdings;
+mod outcomes;
 mod record_calls;
 mod records;
 mod texts;

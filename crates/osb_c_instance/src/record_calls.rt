@@ -3,7 +3,7 @@ ghost use Rattle.std.specs.Prelude.{◌≡◌, ◌≢◌, ◌↔◌, ◌&&◌, n
 ghost use Rattle.std.specs.Prelude.{IsTrue, IsSome, IsNone, IsSomeAnd};
 ghost use Rattle.osb_platform.specs.PlatformRow.{IsSoundRow, wanted_row, first_request, restarted_row};
 ghost use Rattle.osb_platform.specs.PlatformRow.{can_send, can_expire, can_remove, is_idle};
-ghost use Rattle.osb_instance.specs.Recorded.{IsSentAfter, IsAnsweredAfter, IsGivenUpAfter, IsCleanedUpAfter};
+ghost use Rattle.osb_instance.specs.Recorded.{IsSentAfter, IsAnsweredAfter, IsGivenUpAfter, IsCleanedUpAfter, can_retry};
 ghost use Rattle.osb_c_types.specs.Answers.{answer_of};
 ghost use Rattle.osb_c_types.specs.Ids.{number_of};
 ghost use Rattle.osb_c_types.specs.Requests.{request_of};
@@ -15,7 +15,7 @@ use crate::records::{OsbRecord, platform_row_from, recorded_from, recorded_out};
 use osb_c_types::{
     OsbAnswer, OsbId, OsbPlatformRow, OsbRequest, Status, answer_from, id_from, request_out,
 };
-use osb_instance::{ExpireRefused, NotOut, Record, RemoveRefused, SendRefused};
+use osb_instance::{ExpireRefused, NotOut, Record, RemoveRefused, RetryRefused, SendRefused};
 
 /// A new instance, `wanted`, and its Provision, which is then out with the number 1 (section Provisioning).
 /// `accepts_incomplete` says whether the platform takes an asynchronous operation. The record is written to the
@@ -202,6 +202,40 @@ pub extern "C" fn osb_record_expire(kept: &mut OsbRecord) -> u32
         }
         Err(ExpireRefused::Busy) => Status::Busy.code(),
         Err(ExpireRefused::NotPolling) => Status::NotPolling.code(),
+    }
+}
+
+/// Sends a deletion again: `cleaning-polling` becomes `cleaning`. For a deletion whose maximum polling duration has passed,
+/// and for a broker that never ends one (section Polling Last Operation for Service Instances; that it is sent again is
+/// this project's choice). It takes no memory.
+///
+/// It returns `Done`, or the first of these that fits, with the record as before: `BadRecord` if it is none that a call
+/// gives, `Busy` if a request is out, `NotPolling` in every state but `cleaning-polling`.
+#[unsafe(no_mangle)]
+pub extern "C" fn osb_record_retry(kept: &mut OsbRecord) -> u32
+    ensures cleaned_up { result ≡ code Status.Done → IsSomeAnd (recorded_of kept.old) (λ before.
+        IsSomeAnd (recorded_of kept.new) (IsCleanedUpAfter before)) }
+
+    ensures done { (result ≡ code Status.Done) ↔ IsSomeAnd (recorded_of kept.old) (λ r.
+        IsTrue (can_retry (Some r.row))) }
+    ensures bad_record { (result ≡ code Status.BadRecord) ↔ IsNone (recorded_of kept.old) }
+    ensures busy { (result ≡ code Status.Busy) ↔ IsSomeAnd (recorded_of kept.old) (λ r. IsSome r.row.out) }
+    ensures not_polling { (result ≡ code Status.NotPolling) ↔ IsSomeAnd (recorded_of kept.old) (λ r.
+        IsTrue (is_idle (Some r.row) && not (can_retry (Some r.row)))) }
+    ensures statuses { IsTrue (is_one_of (Status.Done ∷ Status.BadRecord ∷ Status.Busy ∷ Status.NotPolling
+        ∷ []) result) }
+    ensures unwritten { result ≢ code Status.Done → kept.new ≡ kept.old }
+{
+    let Some(recorded) = recorded_from(kept) else {
+        return Status::BadRecord.code();
+    };
+    match recorded.retry() {
+        Ok(after) => {
+            *kept = recorded_out(after);
+            Status::Done.code()
+        }
+        Err(RetryRefused::Busy) => Status::Busy.code(),
+        Err(RetryRefused::NotPolling) => Status::NotPolling.code(),
     }
 }
 

@@ -2,7 +2,6 @@ pub mod Answers
 pub mod Ids
 pub mod Kinds
 pub mod Modes
-pub mod Outcomes
 pub mod Plans
 pub mod Requests
 pub mod Rows

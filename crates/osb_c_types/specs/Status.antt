@@ -14,6 +14,12 @@ use Rattle.osb_c_types.specs.declared.status.Status.TheVariants.{RefusedRepeated
 use Rattle.osb_c_types.specs.declared.status.Status.TheVariants.{RefusedAcceptsIncomplete, RefusedBody}
 use Rattle.osb_c_types.specs.declared.status.Status.TheVariants.{RefusedOrganization, RefusedSpace, NoServices}
 use Rattle.osb_c_types.specs.declared.status.Status.TheVariants.{BadService, NoPlans, BadPlan, BadPlanMode}
+use Rattle.osb_c_types.specs.declared.status.Status.TheVariants.{NotAProvision, NotWaiting, NotInstanceText}
+use Rattle.osb_c_types.specs.declared.status.Status.TheVariants.{NotServiceText, NotPlanText, NoMember, NoIdentity}
+use Rattle.osb_c_types.specs.declared.status.Status.TheVariants.{NoPlanVersion, RefusedMaintenance, NoName, NameTwice}
+use Rattle.osb_c_types.specs.declared.status.Status.TheVariants.{NoDescription, NotABoolean, NoBindable, NoPlan}
+use Rattle.osb_c_types.specs.declared.status.Status.TheVariants.{BindableUnserved, UpdateUnserved, InstancesUnserved}
+use Rattle.osb_c_types.specs.declared.status.Status.TheVariants.{BindingsUnserved, SameNumber}
 
 abbrev pub code : Status → ℕ
 code Done = 0
@@ -65,6 +71,26 @@ code BadService = 52
 code NoPlans = 53
 code BadPlan = 54
 code BadPlanMode = 55
+code NotAProvision = 56
+code NotWaiting = 57
+code NotInstanceText = 58
+code NotServiceText = 59
+code NotPlanText = 60
+code NoMember = 61
+code NoIdentity = 62
+code NoPlanVersion = 63
+code RefusedMaintenance = 64
+code NoName = 65
+code NameTwice = 66
+code NoDescription = 67
+code NotABoolean = 68
+code NoBindable = 69
+code NoPlan = 70
+code BindableUnserved = 71
+code UpdateUnserved = 72
+code InstancesUnserved = 73
+code BindingsUnserved = 74
+code SameNumber = 75
 
 -- whether a number is one of those of the statuses
 abbrev pub is_one_of : List Status → ℕ → Bool

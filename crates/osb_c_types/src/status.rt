@@ -14,7 +14,8 @@ pub enum Status {
     Busy,
     /// No request is in flight, and none is due: the state is `ready`, `gone` or `unsettled`.
     NothingDue,
-    /// No request is in flight, and the state isn't `polling`.
+    /// No request is in flight, and the operation of the call isn't polled: the state isn't `polling`, or, to send a
+    /// deletion again, `cleaning-polling`.
     NotPolling,
     /// No request is in flight, and the state is none of `polling`, `ready` and `unsettled`.
     NotRemovable,
@@ -56,7 +57,7 @@ pub enum Status {
     AttemptsUsedUp,
     /// No request is in flight, or one of another number.
     NotInFlight,
-    /// No work is recorded.
+    /// No work is pending.
     NothingBegun,
     /// Each member is one of its kind, and together they can't come about.
     Impossible,
@@ -78,13 +79,13 @@ pub enum Status {
     RefusedVersion,
     /// Refused with 413: the body is too long.
     RefusedLength,
-    /// Refused with 400: the id of the instance is no GUID.
+    /// Refused with 400: the id of the instance isn't UTF-8 of 1 to 255 bytes, or is `.` or `..`.
     RefusedInstance,
     /// Refused with 400: a parameter of the query stands twice.
     RefusedRepeated,
-    /// Refused with 400: `service_id` is missing or no GUID.
+    /// Refused with 400: `service_id` is missing, or isn't a string of 1 to 255 bytes.
     RefusedService,
-    /// Refused with 400: `plan_id` is missing or no GUID.
+    /// Refused with 400: `plan_id` is missing, or isn't a string of 1 to 255 bytes.
     RefusedPlan,
     /// Refused with 400: `accepts_incomplete` is neither `true` nor `false`.
     RefusedAcceptsIncomplete,
@@ -96,14 +97,54 @@ pub enum Status {
     RefusedSpace,
     /// The document has no list `services`.
     NoServices,
-    /// The `id` of a service is missing or no GUID.
+    /// The `id` of a service is missing, or isn't a string of 1 to 255 bytes.
     BadService,
     /// A service has no list `plans`.
     NoPlans,
-    /// The `id` of a plan is missing or no GUID.
+    /// The `id` of a plan is missing, or isn't a string of 1 to 255 bytes.
     BadPlan,
-    /// `asynchronous` of a plan is neither `true` nor `false`.
+    /// `x-osb-asynchronous` of a plan, or `asynchronous` where it lacks that, is neither `true` nor `false`.
     BadPlanMode,
+    /// Only the pending work of a Provision can be refused.
+    NotAProvision,
+    /// The row doesn't wait for its first Poll.
+    NotWaiting,
+    /// The text isn't that of the request's instance, or no path can carry it.
+    NotInstanceText,
+    /// The text isn't that of the request's service.
+    NotServiceText,
+    /// The text isn't that of the request's plan.
+    NotPlanText,
+    /// The text is no object of JSON, or the object has no such member.
+    NoMember,
+    /// The value of the header names nobody.
+    NoIdentity,
+    /// The document has no `maintenance_info.version` of the plan.
+    NoPlanVersion,
+    /// Refused with 422: the request names another `maintenance_info.version`.
+    RefusedMaintenance,
+    /// The `name` of a service or of a plan is missing, no string, or empty.
+    NoName,
+    /// Two services, or two plans of a service, have one name.
+    NameTwice,
+    /// The `description` of a service or of a plan is missing, no string, or empty.
+    NoDescription,
+    /// A flag of the catalogue is neither `true` nor `false`.
+    NotABoolean,
+    /// A service doesn't say whether it is `bindable`.
+    NoBindable,
+    /// A service has no plan.
+    NoPlan,
+    /// `bindable` is `true`, and bindings aren't served.
+    BindableUnserved,
+    /// `plan_updateable` is `true`, and updating isn't served.
+    UpdateUnserved,
+    /// `instances_retrievable` is `true`, and fetching an instance isn't served.
+    InstancesUnserved,
+    /// `bindings_retrievable` is `true`, and fetching a binding isn't served.
+    BindingsUnserved,
+    /// Two ids of the document have one number.
+    SameNumber,
 }
 
 impl Status {
@@ -161,6 +202,26 @@ impl Status {
             Status::NoPlans => 53,
             Status::BadPlan => 54,
             Status::BadPlanMode => 55,
+            Status::NotAProvision => 56,
+            Status::NotWaiting => 57,
+            Status::NotInstanceText => 58,
+            Status::NotServiceText => 59,
+            Status::NotPlanText => 60,
+            Status::NoMember => 61,
+            Status::NoIdentity => 62,
+            Status::NoPlanVersion => 63,
+            Status::RefusedMaintenance => 64,
+            Status::NoName => 65,
+            Status::NameTwice => 66,
+            Status::NoDescription => 67,
+            Status::NotABoolean => 68,
+            Status::NoBindable => 69,
+            Status::NoPlan => 70,
+            Status::BindableUnserved => 71,
+            Status::UpdateUnserved => 72,
+            Status::InstancesUnserved => 73,
+            Status::BindingsUnserved => 74,
+            Status::SameNumber => 75,
         }
     }
 }

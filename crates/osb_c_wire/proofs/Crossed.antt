@@ -1,7 +1,8 @@
 -- What is known of a request and of the texts of Rust is known of what crossed and of what was written.
-use Rattle.std.proofs.Common.{◌≡◌, ℕ, ◌≤◌, List, length, Option, Some, Ok, IsSomeAnd, option_and_then, sym, subst}
+use Rattle.std.proofs.Common.{◌≡◌, ℕ, ◌≤◌, List, length, Option, Some, Ok, IsSomeAnd, option_and_then, unwrap_or, ap, sym, subst, ◌∙◌}
 use Rattle.serde_json.specs.Find.{get}
 use Rattle.serde_json.specs.Read.{read}
+use Rattle.osb_message.specs.declared.messages.Kind.{Kind}
 use Rattle.osb_message.specs.declared.messages.Kind.TheVariants.{Provision}
 use Rattle.osb_message.specs.declared.messages.Request.{Request}
 use Rattle.osb_wire.specs.Asking.{asked_of}
@@ -27,3 +28,14 @@ abbrev pub IsKept : List ℕ → List ℕ → Request → Type 0
 IsKept further body r =
     r.kind ≡ Provision → (name : List ℕ) → IsFurther name
     → option_and_then (get name) (read body) ≡ option_and_then (get name) (read further)
+
+-- and where the kind alone crosses
+pub kept_in : (kind : Kind) (crossed : Option Kind) (text given made written : List ℕ) → text ≡ given → written ≡ made
+    → Some kind ≡ crossed
+    → (kind ≡ Provision → (name : List ℕ) → IsFurther name
+    → option_and_then (get name) (read made) ≡ option_and_then (get name) (read text))
+    → crossed ≡ Some Provision → (name : List ℕ) → IsFurther name
+    → option_and_then (get name) (read written) ≡ option_and_then (get name) (read given)
+kept_in kind crossed text given made written same done is known provision name further =
+    let found = known (ap (λ o. unwrap_or o kind) (is ∙ provision)) name further in
+    ap (λ t. option_and_then (get name) (read t)) done ∙ found ∙ ap (λ t. option_and_then (get name) (read t)) same

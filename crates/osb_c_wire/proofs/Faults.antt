@@ -4,10 +4,11 @@ use Rattle.std.proofs.Common.{Option, Some, None, Result, Ok, Err, option_map, o
 use Rattle.std.specs.Prelude.{nat_lt}
 use Rattle.std.specs.Option.{ok_or}
 use Rattle.form_urlencoded.specs.Form.{split_once}
-use Rattle.osb_message.specs.IdText.{id_of}
 use Rattle.osb_message.specs.declared.messages.Kind.{Kind}
 use Rattle.osb_message.specs.declared.messages.Kind.TheVariants.{Provision, Poll, Deprovision}
 use Rattle.osb_wire.specs.Bodies.{and_then, object_in}
+use Rattle.osb_wire.specs.IdTexts.{number_of}
+use Rattle.osb_wire.specs.Paths.{segment_number}
 use Rattle.osb_wire.specs.Provisions.{id_member, has_text, named_in, named_if, provision_in}
 use Rattle.osb_wire.specs.Requests.{provision_asked, poll_asked, deprovision_asked, asked_at, asked_within, instance_asked, request_in}
 use Rattle.osb_wire.specs.Targets.{Parameter, Place, kind_at, instance_named, instance_at, place_in, values_of, at_most_one, value_in}
@@ -37,7 +38,7 @@ either false x y h k = k
 
 named : (text : List ℕ) (kind : Option Kind) → IsFor (instance_named text kind)
 named text None = λ e. cc
-named text (Some kind) = found (option_map (λ id. (kind, id)) (id_of text)) BadInstance (λ e. cc)
+named text (Some kind) = found (option_map (λ id. (kind, id)) (segment_number text)) BadInstance (λ e. cc)
 
 placed : (method : List ℕ) (place : Option Place) → IsFor (instance_at method place)
 placed method None = λ e. cc
@@ -50,7 +51,7 @@ one (v ∷ w ∷ more) = λ e. cc
 
 given : (fault : Refusal) (text : Option (List ℕ)) → fault ≢ BadVersion → IsFor (id_given fault text)
 given fault None h = tt
-given fault (Some text) h = found (option_map Some (id_of text)) fault h
+given fault (Some text) h = found (option_map Some (number_of text)) fault h
 
 flag : (text : Option (List ℕ)) → IsFor (flag_given text)
 flag None = tt
@@ -67,7 +68,7 @@ module _ (ps : List Parameter) where
 
   needed : (fault : Refusal) (name : List ℕ) → fault ≢ BadVersion → IsFor (needed_id_in fault name ps)
   needed fault name h =
-      next (id_needed fault) (value_in name ps) (value name) (λ text. found (option_and_then id_of text) fault h)
+      next (id_needed fault) (value_in name ps) (value name) (λ text. found (option_and_then number_of text) fault h)
 
   a_flag : IsFor (flag_in ps)
   a_flag = next flag_given (value_in (codes "accepts_incomplete") ps) (value (codes "accepts_incomplete")) flag

@@ -1,3 +1,4 @@
+pub mod Conflicts
 pub mod Crossed
 pub mod Faults
 pub mod HeaderTexts

@@ -34,6 +34,29 @@ status_of_reading BadOrganization h = refl
 status_of_reading BadSpace h = refl
 status_of_reading Refusal.Memory h = refl
 
+-- and one of those with which its texts are written too
+abbrev pub IsOfReceiving : ℕ → Type 0
+IsOfReceiving n =
+    IsTrue (is_one_of
+    (Done ∷ NotUtf8 ∷ RefusedTarget ∷ RefusedMethod ∷ RefusedInstance ∷ RefusedLength ∷ RefusedRepeated ∷ RefusedService
+    ∷ RefusedPlan ∷ RefusedAcceptsIncomplete ∷ RefusedBody ∷ RefusedOrganization ∷ RefusedSpace ∷ TooSmall
+    ∷ Status.Memory ∷ []) n)
+
+pub status_of_receiving : (fault : Refusal) → fault ≢ BadVersion → IsOfReceiving (code (refusal_status fault))
+status_of_receiving NoSuchTarget h = refl
+status_of_receiving NoSuchMethod h = refl
+status_of_receiving BadVersion h = absurd (h refl)
+status_of_receiving TooLong h = refl
+status_of_receiving BadInstance h = refl
+status_of_receiving Repeated h = refl
+status_of_receiving BadService h = refl
+status_of_receiving BadPlan h = refl
+status_of_receiving BadAcceptsIncomplete h = refl
+status_of_receiving NotAnObject h = refl
+status_of_receiving BadOrganization h = refl
+status_of_receiving BadSpace h = refl
+status_of_receiving Refusal.Memory h = refl
+
 -- a text that was written, by the number of the status
 pub was_done : (status : Status) (n : ℕ) → (status ≡ Done) ⊎ (status ≡ TooSmall) → n ≡ code status → n ≡ 0 → status ≡ Done
 was_done status n which is done =

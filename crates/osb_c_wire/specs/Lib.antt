@@ -1,5 +1,9 @@
 pub mod Asked
 pub mod Bodies
 pub mod Catalogues
+pub mod Details
+pub mod Named
+pub mod Received
 pub mod Refusals
+pub mod Rules
 pub mod Texts

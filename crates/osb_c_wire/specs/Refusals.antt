@@ -1,6 +1,12 @@
 -- Why a request is refused, as a status. That each has one is this project's choice.
-use Rattle.std.specs.Prelude.{ℕ, ◌==◌, if◌then◌else◌, Option, Some, None}
-use Rattle.osb_wire.specs.Refusals.{status_of}
+use Rattle.std.specs.Prelude.{ℕ, ◌==◌, if◌then◌else◌, Option, Some, None, option_map, option_and_then}
+use Rattle.serde_json.specs.Data.{Data}
+use Rattle.osb_message.specs.declared.messages.Answer.{Answer}
+use Rattle.osb_message.specs.declared.messages.Body.TheVariants.{Error}
+use Rattle.osb_message.specs.declared.messages.ErrorCode.TheVariants.{Other}
+use Rattle.osb_message.specs.declared.messages.Kind.{Kind}
+use Rattle.osb_wire.specs.Maintenance.{conflict_value}
+use Rattle.osb_wire.specs.Refusals.{object_of, status_of, taken_for}
 use Rattle.osb_wire.specs.declared.refusal.Refusal.{Refusal}
 use Rattle.osb_wire.specs.declared.refusal.Refusal.TheVariants.{NoSuchTarget, NoSuchMethod, BadVersion, TooLong}
 use Rattle.osb_wire.specs.declared.refusal.Refusal.TheVariants.{BadInstance, Repeated, BadService, BadPlan}
@@ -49,3 +55,20 @@ refusal_of code =
 abbrev pub http_status : Option Refusal → ℕ
 http_status None = 0
 http_status (Some refusal) = status_of refusal
+
+-- HTTP's status under a number: of a refusal its own, 422 of another version (section Maintenance Info), else 0
+abbrev pub status_under : ℕ → ℕ
+status_under number = if number == 64 then 422 else http_status (refusal_of number)
+
+-- and the object of its body
+abbrev pub object_under : ℕ → Option Data
+object_under number = if number == 64 then Some conflict_value else option_map object_of (refusal_of number)
+
+-- the answer that a platform takes another version for
+abbrev pub conflict_told : Answer
+conflict_told = record { status = 422; body = Error Other }
+
+-- and the answer that it takes any of them for
+abbrev pub taken_under : Kind → ℕ → Option Answer
+taken_under kind number =
+    if number == 64 then Some conflict_told else option_and_then (taken_for kind) (refusal_of number)

@@ -1,5 +1,5 @@
 -- Texts as they cross: what is passed in, which may be missing, and what is written into a buffer.
-use Rattle.std.specs.Prelude.{◌≡◌, ◌<◌, ℕ, Bool, true, false, List, length, take, Option, Some, None}
+use Rattle.std.specs.Prelude.{◌≡◌, ◌<◌, ℕ, Bool, true, false, List, [], length, take, Option, Some, None, is_some}
 use Rattle.std.specs.Str.{IsUtf8}
 
 -- a text, which counts where a flag says so
@@ -19,3 +19,12 @@ IsWritten text needed buffer = (needed ≡ length text) × (take needed buffer �
 -- a buffer is too short for a text, and its length is told
 abbrev pub IsTooLong : List ℕ → ℕ → List ℕ → Type 0
 IsTooLong text needed buffer = (needed ≡ length text) × (length buffer < needed)
+
+-- a text, or nothing where it is missing
+abbrev pub or_nothing : Option (List ℕ) → List ℕ
+or_nothing None = []
+or_nothing (Some text) = text
+
+-- whether a text is there, and its length: 0 where it isn't
+abbrev pub IsMeasured : Bool → ℕ → Option (List ℕ) → Type 0
+IsMeasured has n text = (has ≡ is_some text) × (n ≡ length (or_nothing text))

@@ -107,9 +107,9 @@ pub extern "C" fn osb_write_answer(
     needed: &mut usize,
 ) -> u32
     ensures text { result ≡ code Status.Done → texts.IsWritten
-        (written.answer_text (answer_of answer) (texts.text_if has_operation operation.now)) needed.new buffer.new }
+        (written.answer_text (answer_of answer) (texts.text_if has_operation operation.now) None) needed.new buffer.new }
     ensures object { result ≡ code Status.Done → object_in (take needed.new buffer.new)
-        ≡ written.body_value answer.status (texts.text_if has_operation operation.now) (body_of answer.body) }
+        ≡ written.body_value answer.status (texts.text_if has_operation operation.now) None (body_of answer.body) }
     ensures reads { result ≡ code Status.Done → (kind : Kind) → written.is_carried kind (answer_of answer) ≡ true
         → answer_in kind answer.status (take needed.new buffer.new) ≡ Some (answer_of answer) }
     ensures given { result ≡ code Status.Done → (kind : Kind) → written.is_given kind (answer_of answer) ≡ true
@@ -121,7 +121,7 @@ pub extern "C" fn osb_write_answer(
 
     ensures not_utf8 { (result ≡ code Status.NotUtf8) ↔ ¬ (texts.IsUtf8If has_operation operation.now) }
     ensures too_small { result ≡ code Status.TooSmall → texts.IsTooLong
-        (written.answer_text (answer_of answer) (texts.text_if has_operation operation.now)) needed.new buffer.old }
+        (written.answer_text (answer_of answer) (texts.text_if has_operation operation.now) None) needed.new buffer.old }
     ensures statuses { IsTrue (is_one_of
         (Status.Done ∷ Status.NotUtf8 ∷ Status.TooSmall ∷ Status.Memory ∷ []) result) }
     ensures unwritten { result ≢ code Status.Done → buffer.new ≡ buffer.old }
@@ -130,7 +130,65 @@ pub extern "C" fn osb_write_answer(
     let Some(operation) = text_if(has_operation, operation) else {
         return Status::NotUtf8.code();
     };
-    let Ok(text) = osb_wire::write_answer(alloc, answer_from(answer), operation) else {
+    let Ok(text) = osb_wire::write_answer(alloc, answer_from(answer), operation, None) else {
+        return Status::Memory.code();
+    };
+    write_text(text.as_str(), buffer, needed).code()
+}
+
+/// Writes the body of an answer as [`osb_write_answer`] does, with a description for a person, which counts where
+/// `has_description` is true. It stands in the body of an error in place of the usual sentence, and beside the state
+/// `failed`; of one with more than 1,000 characters the first 1,000 do (sections Provisioning, Polling Last Operation
+/// for Service Instances, Deprovisioning and Service Broker Errors; that length, and the word of an error other than the
+/// standard's two, by the status, are this project's choice).
+///
+/// It returns `Done`; `NotUtf8` exactly where the operation or the description counts and isn't UTF-8; `TooSmall` where
+/// the buffer is shorter than `needed` bytes, a number that is written all the same; or, in place of `Done` and of
+/// `TooSmall`, `Memory` where an allocation failed. Where it isn't `Done`, the buffer is as before, and where it is
+/// neither that nor `TooSmall`, `needed` too.
+#[unsafe(no_mangle)]
+pub extern "C" fn osb_write_told_answer(
+    alloc: Global,
+    answer: OsbAnswer,
+    has_operation: bool,
+    operation: &[u8],
+    has_description: bool,
+    description: &[u8],
+    buffer: &mut [u8],
+    needed: &mut usize,
+) -> u32
+    ensures text { result ≡ code Status.Done → texts.IsWritten (written.answer_text (answer_of answer)
+        (texts.text_if has_operation operation.now) (texts.text_if has_description description.now))
+        needed.new buffer.new }
+    ensures object { result ≡ code Status.Done → object_in (take needed.new buffer.new)
+        ≡ written.body_value answer.status (texts.text_if has_operation operation.now)
+        (texts.text_if has_description description.now) (body_of answer.body) }
+    ensures reads { result ≡ code Status.Done → (kind : Kind) → written.is_carried kind (answer_of answer) ≡ true
+        → answer_in kind answer.status (take needed.new buffer.new) ≡ Some (answer_of answer) }
+    ensures given { result ≡ code Status.Done → (kind : Kind) → written.is_given kind (answer_of answer) ≡ true
+        → answer_in kind answer.status (take needed.new buffer.new) ≡ Some (answer_of answer) }
+    ensures operation { result ≡ code Status.Done → answer.status ≡ 202 → body_of answer.body ≡ Body.Empty
+        → operation_in (take needed.new buffer.new)
+        ≡ option_and_then if_short (texts.text_if has_operation operation.now) }
+    ensures rest { result ≡ code Status.Done → drop needed.new buffer.new ≡ drop needed.new buffer.old }
+
+    ensures not_utf8 { (result ≡ code Status.NotUtf8) ↔ ¬ (texts.IsUtf8If has_operation operation.now
+        × texts.IsUtf8If has_description description.now) }
+    ensures too_small { result ≡ code Status.TooSmall → texts.IsTooLong (written.answer_text (answer_of answer)
+        (texts.text_if has_operation operation.now) (texts.text_if has_description description.now))
+        needed.new buffer.old }
+    ensures statuses { IsTrue (is_one_of
+        (Status.Done ∷ Status.NotUtf8 ∷ Status.TooSmall ∷ Status.Memory ∷ []) result) }
+    ensures unwritten { result ≢ code Status.Done → buffer.new ≡ buffer.old }
+    ensures unmeasured { result ≢ code Status.Done → result ≢ code Status.TooSmall → needed.new ≡ needed.old }
+{
+    let Some(operation) = text_if(has_operation, operation) else {
+        return Status::NotUtf8.code();
+    };
+    let Some(description) = text_if(has_description, description) else {
+        return Status::NotUtf8.code();
+    };
+    let Ok(text) = osb_wire::write_answer(alloc, answer_from(answer), operation, description) else {
         return Status::Memory.code();
     };
     write_text(text.as_str(), buffer, needed).code()

@@ -52,7 +52,7 @@ fn id_or_zeroes<K>(id: Option<Id<K>>) -> OsbId
 }
 
 // What is asked, as it crosses.
-fn asked_out(it: Asked) -> OsbAsked
+pub(crate) fn asked_out(it: Asked) -> OsbAsked
     ensures asked { crossed.asked_of result ≡ Some it }
     ensures plain { crossed.IsPlainAsked result }
 {
@@ -185,7 +185,7 @@ pub extern "C" fn osb_read_request(
     };
     match osb_wire::read_request(alloc, prefix, longest_body, method, target, body) {
         Ok(it) => {
-            *asked = asked_out(it);
+            *asked = asked_out(it.asked);
             Status::Done.code()
         }
         Err(fault) => status_from(fault).code(),

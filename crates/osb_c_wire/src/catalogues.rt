@@ -11,11 +11,11 @@ ghost use Rattle.osb_c_wire.specs.Catalogues.{document_status};
 
 use osb_c_types::{OsbPlan, Status, plan_out};
 use osb_message::{Catalogue, Memory};
-use osb_wire::{CatalogueFault, catalogue_document};
+use osb_wire::{CatalogueFault, catalogue_plans};
 use std::alloc::Global;
 
 // Why a document names no catalogue, as a status.
-fn status_of(fault: CatalogueFault) -> Status
+pub(crate) fn status_of(fault: CatalogueFault) -> Status
     ensures status { result ≡ document_status fault }
 {
     match fault {
@@ -90,7 +90,7 @@ pub extern "C" fn osb_catalogue_plans(
     ensures unwritten { result ≢ code Status.Done → plans.new ≡ plans.old }
     ensures unmeasured { result ≢ code Status.Done → result ≢ code Status.TooSmall → needed.new ≡ needed.old }
 {
-    let catalogue = match catalogue_document(alloc, document) {
+    let catalogue = match catalogue_plans(alloc, document) {
         Ok(catalogue) => catalogue,
         Err(fault) => return status_of(fault).code(),
     };

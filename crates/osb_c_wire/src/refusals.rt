@@ -1,12 +1,13 @@
 //! Why a broker refuses a request before it looks at any instance.
-ghost use Rattle.std.specs.Prelude.{◌≡◌, ◌≢◌, ◌↔◌, [], ◌∷◌, Some, take, drop, IsTrue, IsNone, IsSomeAnd};
+ghost use Rattle.std.specs.Prelude.{◌≡◌, ◌≢◌, ◌↔◌, [], ◌∷◌, Some, take, drop, IsTrue, IsNone, IfSome, IsSomeAnd};
+ghost use Rattle.std.specs.Prelude.{option_map};
 ghost use Rattle.serde_json.specs.Written.{compact_text};
 ghost use Rattle.osb_message.specs.declared.messages.Kind.{Kind};
 ghost use Rattle.osb_wire.specs.Answers.{answer_in};
 ghost use Rattle.osb_wire.specs.Bodies.{object_in};
-ghost use Rattle.osb_wire.specs.Refusals.{object_of, status_of, taken_for};
+ghost use Rattle.osb_wire.specs.Refusals.{status_of};
 ghost use Rattle.osb_c_types.specs.Status.{code, is_one_of};
-ghost use Rattle.osb_c_wire.specs.Refusals.{http_status, refusal_of, refusal_status};
+ghost use Rattle.osb_c_wire.specs.Refusals.{object_under, refusal_of, refusal_status, status_under, taken_under};
 ghost use Rattle.osb_c_wire.specs.Texts as texts;
 
 use osb_c_types::{Status, write_text};
@@ -56,14 +57,35 @@ fn refusal_from(code: u32) -> Option<Refusal>
     }
 }
 
-/// The HTTP status of a refusal, which is the number of a status from `RefusedTarget` to `RefusedSpace`, and 503 of
-/// `Memory`; 0 of every other number (section Service Broker Errors; which status each has is this project's choice
-/// where the standard names none). It takes no memory.
+// The body of what a number stands for.
+#[tactic(auto, using(crate::proofs::Conflicts::conflict_taken))]
+fn body_under(number: u32) -> Option<&'static str>
+    ensures text { option_map (λ text. text.now) result ≡ option_map compact_text (object_under number) }
+    ensures reads { IfSome result (λ text. object_in text.now ≡ object_under number) }
+    ensures taken { (kind : Kind) → IfSome result (λ text.
+        answer_in kind (status_under number) text.now ≡ taken_under kind number) }
+{
+    if number == Status::RefusedMaintenance.code() {
+        return Some(osb_wire::maintenance_conflict_body());
+    }
+    match refusal_from(number) {
+        Some(refusal) => Some(refusal.body()),
+        None => None,
+    }
+}
+
+/// The HTTP status of a refusal, which is the number of a status from `RefusedTarget` to `RefusedSpace`, 422 of
+/// `RefusedMaintenance` and 503 of `Memory`; 0 of every other number (section Service Broker Errors; which status each
+/// has is this project's choice where the standard names none). It takes no memory.
 #[unsafe(no_mangle)]
 pub extern "C" fn osb_refusal_status(refusal: u32) -> u16
-    ensures status { result ≡ http_status (refusal_of refusal) }
+    ensures status { result ≡ status_under refusal }
     ensures each { (fault : Refusal) → refusal ≡ code (refusal_status fault) → result ≡ status_of fault }
+    ensures maintenance { refusal ≡ code Status.RefusedMaintenance → result ≡ 422 }
 {
+    if refusal == Status::RefusedMaintenance.code() {
+        return osb_wire::MAINTENANCE_CONFLICT_STATUS;
+    }
     match refusal_from(refusal) {
         Some(refusal) => refusal.status(),
         None => 0,
@@ -74,28 +96,28 @@ pub extern "C" fn osb_refusal_status(refusal: u32) -> u16
 /// before. It is an object with `error` and a `description` for a person (section Service Broker Errors). It takes no
 /// memory, so that want of it can be told.
 ///
-/// It returns `Done`; `NotRefused` exactly where the number is none from `RefusedTarget` to `RefusedSpace`, and not
-/// `Memory` either; or `TooSmall` exactly where it is one and the buffer is shorter than `needed` bytes, a number that
-/// is written all the same. Where it isn't `Done`, the buffer is as before, and where it is `NotRefused`, `needed` too.
+/// It returns `Done`; `NotRefused` exactly where the number is none from `RefusedTarget` to `RefusedSpace`, and neither
+/// `RefusedMaintenance` nor `Memory`; or `TooSmall` exactly where it is one and the buffer is shorter than `needed`
+/// bytes, a number that is written all the same. Where it isn't `Done`, the buffer is as before, and where it is
+/// `NotRefused`, `needed` too.
 #[unsafe(no_mangle)]
 pub extern "C" fn osb_refusal_body(refusal: u32, buffer: &mut [u8], needed: &mut usize) -> u32
-    ensures text { result ≡ code Status.Done → IsSomeAnd (refusal_of refusal) (λ fault.
-        texts.IsWritten (compact_text (object_of fault)) needed.new buffer.new) }
-    ensures reads { result ≡ code Status.Done → IsSomeAnd (refusal_of refusal) (λ fault.
-        object_in (take needed.new buffer.new) ≡ Some (object_of fault)) }
-    ensures taken { result ≡ code Status.Done → (kind : Kind) → IsSomeAnd (refusal_of refusal) (λ fault.
-        answer_in kind (status_of fault) (take needed.new buffer.new) ≡ taken_for kind fault) }
+    ensures text { result ≡ code Status.Done → IsSomeAnd (object_under refusal) (λ object.
+        texts.IsWritten (compact_text object) needed.new buffer.new) }
+    ensures reads { result ≡ code Status.Done → object_in (take needed.new buffer.new) ≡ object_under refusal }
+    ensures taken { result ≡ code Status.Done → (kind : Kind)
+        → answer_in kind (status_under refusal) (take needed.new buffer.new) ≡ taken_under kind refusal }
     ensures rest { result ≡ code Status.Done → drop needed.new buffer.new ≡ drop needed.new buffer.old }
 
-    ensures not_refused { (result ≡ code Status.NotRefused) ↔ IsNone (refusal_of refusal) }
-    ensures too_small { (result ≡ code Status.TooSmall) ↔ IsSomeAnd (refusal_of refusal) (λ fault.
-        texts.IsTooLong (compact_text (object_of fault)) needed.new buffer.old) }
+    ensures not_refused { (result ≡ code Status.NotRefused) ↔ IsNone (object_under refusal) }
+    ensures too_small { (result ≡ code Status.TooSmall) ↔ IsSomeAnd (object_under refusal) (λ object.
+        texts.IsTooLong (compact_text object) needed.new buffer.old) }
     ensures statuses { IsTrue (is_one_of (Status.Done ∷ Status.NotRefused ∷ Status.TooSmall ∷ []) result) }
     ensures unwritten { result ≢ code Status.Done → buffer.new ≡ buffer.old }
     ensures unmeasured { result ≡ code Status.NotRefused → needed.new ≡ needed.old }
 {
-    match refusal_from(refusal) {
-        Some(refusal) => write_text(refusal.body(), buffer, needed).code(),
+    match body_under(refusal) {
+        Some(body) => write_text(body, buffer, needed).code(),
         None => Status::NotRefused.code(),
     }
 }

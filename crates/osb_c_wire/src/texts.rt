@@ -1,6 +1,8 @@
-//! Texts that cross from C.
-ghost use Rattle.std.specs.Prelude.{◌≡◌, ◌↔◌, IsSome, IfSome, option_map};
+//! Texts that cross from C and to it.
+ghost use Rattle.std.specs.Prelude.{◌≡◌, ◌↔◌, ◌++◌, IsSome, IfSome, OnOk, length, option_map, string_bytes};
 ghost use Rattle.osb_c_wire.specs.Texts as texts;
+
+use std::alloc::AllocError;
 
 // A text that counts where a flag says so: none where it is no UTF-8.
 pub(crate) fn text_if(is_there: bool, text: &[u8]) -> Option<Option<&str>>
@@ -13,5 +15,26 @@ pub(crate) fn text_if(is_there: bool, text: &[u8]) -> Option<Option<&str>>
     match std::str::from_utf8(text) {
         Ok(text) => Some(Some(text)),
         Err(_) => None,
+    }
+}
+
+// Adds a text, if it is there.
+pub(crate) fn push_if(all: &mut String, text: &Option<String>) -> Result<(), AllocError>
+    ensures all { OnOk result (string_bytes all.new
+        ≡ string_bytes all.old ++ texts.or_nothing (option_map string_bytes text.now)) }
+{
+    match text {
+        Some(text) => all.push_str(text.as_str()),
+        None => Ok(()),
+    }
+}
+
+// The length of a text: 0 if it isn't there.
+pub(crate) fn length_if(text: &Option<String>) -> usize
+    ensures length { result ≡ length (texts.or_nothing (option_map string_bytes text.now)) }
+{
+    match text {
+        Some(text) => text.len(),
+        None => 0,
     }
 }

@@ -1,5 +1,5 @@
 -- What fits its plan goes on fitting it.
-use Rattle.std.proofs.Common.{◌≡◌, ◌≢◌, ℕ, Bool, true, false, refl, sym, ap}
+use Rattle.std.proofs.Common.{◌≡◌, ◌≢◌, ℕ, Bool, true, false, refl, sym, ap, subst}
 use Rattle.std.specs.Prelude.{Option, Some, None, is_some, ◌&&◌, ◌||◌, ◌==◌, not, if◌then◌else◌}
 use Rattle.osb_message.specs.declared.catalogue.Mode.{Mode}
 use Rattle.osb_message.specs.declared.catalogue.Mode.TheVariants.{Sync, Async}
@@ -15,13 +15,13 @@ use Rattle.osb_broker.specs.Decided.{decided, decided_as}
 use Rattle.osb_broker.specs.Deprovision.{deprovision_at, own_deprovision, accepted_deprovision, first_deprovision}
 use Rattle.osb_broker.specs.Provision.{provision_at, accepted_provision}
 use Rattle.osb_broker.specs.Finished.{finished_in}
-use Rattle.osb_instance.specs.Begin.{begun, begun_by, ends, is_provision, too_late}
 use Rattle.osb_instance.specs.Due.{work_due, work_of}
 use Rattle.osb_message.specs.declared.messages.Answer.{Answer}
 use Rattle.osb_message.specs.declared.messages.ErrorCode.TheVariants.{AsyncRequired}
 use Rattle.osb_instance.specs.declared.work.Begun.TheVariants.{Answered}
 use Rattle.osb_instance.specs.declared.work.Work.{Work}
-use Rattle.osb_instance.specs.Fits.{fits, row_fits}
+use Rattle.osb_instance.specs.Fits.{fits, row_fits, work_fits}
+use Rattle.osb_instance.specs.declared.digest.Digest.{Digest}
 use Rattle.osb_instance.specs.Held.{Held}
 
 fits_if : (x : Bool) (m : Option Mode) (f g : Handled) → row_fits m f.row ≡ true → row_fits m g.row ≡ true
@@ -91,36 +91,26 @@ both true true p q = refl
 both true false p q = q
 both false y p q = p
 
-without_work : (m : Option Mode) (b : Option BrokerRow) (x : Bool) → row_fits m b ≡ true
-    → fits m (record { row = b; work = None; marked = x }) ≡ true
-without_work m b x h = both (row_fits m b) true h refl
+without_work : (m : Option Mode) (b : Option BrokerRow) (x v : Bool) (a : Digest) → row_fits m b ≡ true
+    → fits m (record { row = b; work = None; tombstone = x; waiting = v; attributes = a }) ≡ true
+without_work m b x v a h = both (row_fits m b) true h refl
 
-pub worked_fits : (m : Option Mode) (b : Option BrokerRow) (w : Option Request) (r : Request) (o : Outcome) (x y : Bool)
-    → fits m (record { row = b; work = w; marked = x }) ≡ true
-    → fits m (record { row = (decided m b r o).row; work = None; marked = y }) ≡ true
-worked_fits m b w r o x y h = without_work m _ y (decided_fits_as r.kind m b r o (left _ _ h))
+pub row_of_fits : (m : Option Mode) (held : Held) → fits m held ≡ true → row_fits m held.row ≡ true
+row_of_fits m held h = left _ _ h
+
+pub worked_fits : (m : Option Mode) (held : Held) (r : Request) (o : Outcome) (x v : Bool) (a : Digest)
+    → fits m held ≡ true → fits m (record { row = (decided m held.row r o).row; work = None; tombstone = x; waiting = v; attributes = a }) ≡ true
+worked_fits m held r o x v a h = without_work m _ x v a (decided_fits_as r.kind m held.row r o (left _ _ h))
 
 -- ---- what a request begins fits
 
-begun_by_fits : (w : Option Work) (m : Option Mode) (b : Option BrokerRow) (r : Request) (x : Bool) → w ≡ work_due m b r
-    → row_fits m b ≡ true → fits m (begun_by w m (record { row = b; work = None; marked = x }) r).0 ≡ true
-begun_by_fits (Some w) m b r x e h = both (row_fits m b) (is_some (work_due m b r)) h (ap is_some (sym e))
-begun_by_fits None m b r x e h = without_work m b (x || ends r.kind b) h
+pub put_off_fits : (m : Option Mode) (held : Held) (r : Request) (x v : Bool) (a : Digest) → fits m held ≡ true
+    → fits m (record { row = (decided m held.row r Done).row; work = None; tombstone = x; waiting = v; attributes = a }) ≡ true
+put_off_fits m held r x v a h = worked_fits m held r Done x v a h
 
-begun_test_fits : (late : Bool) (m : Option Mode) (b : Option BrokerRow) (r : Request) (x : Bool) → row_fits m b ≡ true
-    → fits m (if late then (record { row = b; work = None; marked = x }, Answered too_late)
-    else begun_by (work_due m b r) m (record { row = b; work = None; marked = x }) r).0 ≡ true
-begun_test_fits true m b r x h = without_work m b x h
-begun_test_fits false m b r x h = begun_by_fits (work_due m b r) m b r x refl h
-
-begun_parts_fit : (w : Option Request) (m : Option Mode) (b : Option BrokerRow) (r : Request) (x : Bool)
-    → fits m (record { row = b; work = w; marked = x }) ≡ true
-    → fits m (begun m (record { row = b; work = w; marked = x }) r).0 ≡ true
-begun_parts_fit (Some w) m b r x h = h
-begun_parts_fit None m b r x h = begun_test_fits (x && is_provision r.kind) m b r x (left (row_fits m b) true h)
-
-pub begun_fits : (m : Option Mode) (held : Held) (r : Request) → fits m held ≡ true → fits m (begun m held r).0 ≡ true
-begun_fits m held r h = begun_parts_fit held.work m held.row r held.marked h
+pub pending_fits : (m : Option Mode) (held : Held) (r : Request) (w : Work) (x v : Bool) (a : Digest)
+    → fits m held ≡ true → Some w ≡ work_due m held.row r → fits m (record { row = held.row; work = Some r; tombstone = x; waiting = v; attributes = a }) ≡ true
+pending_fits m held r w x v a h e = both (row_fits m held.row) (is_some (work_due m held.row r)) (left _ _ h) (ap is_some (sym e))
 
 -- ---- what is left of an operation fits
 
@@ -136,11 +126,10 @@ finished_row_fits (Some Sync) s v Phase.Ready ok h = refl
 finished_row_fits (Some Sync) s v p ok h = cc
 finished_row_fits None s v p ok h = cc
 
-pub finished_fits : (m : Option Mode) (b : BrokerRow) (w : Option Request) (ok x y : Bool)
-    → fits m (record { row = Some b; work = w; marked = x }) ≡ true
-    → fits m (record { row = finished_in b.phase b ok; work = None; marked = y }) ≡ true
-finished_fits m b w ok x y h =
-    without_work m _ y (finished_row_fits m b.service b.plan b.phase ok (left (row_fits m (Some b)) _ h))
+pub finished_fits : (m : Option Mode) (held : Held) (b : BrokerRow) (ok x v : Bool) (a : Digest) → held.row ≡ Some b
+    → fits m held ≡ true → fits m (record { row = finished_in b.phase b ok; work = None; tombstone = x; waiting = v; attributes = a }) ≡ true
+finished_fits m held b ok x v a e h =
+    without_work m _ x v a (finished_row_fits m b.service b.plan b.phase ok (subst (λ q. row_fits m q ≡ true) e (left (row_fits m held.row) _ h)))
 
 -- ---- what was made is held, where the plan fits
 
@@ -186,7 +175,7 @@ right : (x y : Bool) → (x && y) ≡ true → y ≡ true
 right true y h = h
 right false y h = cc
 
-pub made_held : (m : Option Mode) (b : Option BrokerRow) (r : Request) (o : Outcome) (x : Bool)
-    → fits m (record { row = b; work = Some r; marked = x }) ≡ true → o ≢ Before → r.kind ≡ Provision
-    → is_some (decided m b r o).row ≡ true
-made_held m b r o x h n e = made_kind r.kind m b r o e n (right (row_fits m b) (is_some (work_due m b r)) h)
+pub made_held : (m : Option Mode) (held : Held) (r : Request) (o : Outcome) → held.work ≡ Some r
+    → fits m held ≡ true → o ≢ Before → r.kind ≡ Provision → is_some (decided m held.row r o).row ≡ true
+made_held m held r o w h n e =
+    made_kind r.kind m held.row r o e n (subst (λ q. work_fits m held.row q ≡ true) w (right (row_fits m held.row) _ h))

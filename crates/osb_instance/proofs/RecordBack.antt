@@ -11,8 +11,8 @@ use Rattle.osb_platform.specs.PlatformRow.{IsSoundRow}
 use Rattle.osb_platform.specs.declared.state.State.{State}
 use Rattle.osb_platform.specs.declared.state.State.TheVariants.{Wanted, Polling, Cleaning, CleaningPolling}
 use Rattle.osb_instance.specs.Recorded.{Recorded, IsRecordedSound}
-use Rattle.osb_instance.specs.Frame.{and_then, unframed}
-use Rattle.osb_instance.specs.RecordText.{record_value, record_named, record_of, record_in, out_value, out_in}
+use Rattle.osb_instance.specs.Frame.{and_then, as_an_object, of_version}
+use Rattle.osb_instance.specs.RecordText.{version, record_value, record_named, record_of, record_in, out_value, out_in}
 use Rattle.osb_instance.specs.RecordText.{can_be, can_be_with, can_be_out, can_have, is_wanted}
 use Rattle.serde_json.specs.Data.{Data, depth}
 use Rattle.serde_json.specs.Read.{read, max_depth}
@@ -138,5 +138,5 @@ pub record_back : (text : List ℕ) (d : Data) (r : Recorded) → d ≡ record_v
     → (depth d ≤ max_depth → read text ≡ Some d) → record_named (record_value r) ≡ Some r → IsRecordedSound r
     → record_in text ≡ Ok r
 record_back text d r is reads named sound =
-    ap (λ found. and_then record_of (unframed found)) (record_value_read text d r is reads)
+    ap (λ found. and_then record_of (and_then (of_version version) (as_an_object found))) (record_value_read text d r is reads)
     ∙ rw (named, sound_can_be r sound) refl

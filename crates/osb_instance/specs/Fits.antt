@@ -20,7 +20,7 @@ row_fits (Some Async) (Some row) = true
 row_fits (Some Sync) (Some row) = is_ready row.phase
 row_fits None (Some row) = false
 
--- recorded work fits where it is due
+-- pending work fits where it is due
 abbrev pub work_fits : Option Mode → Option BrokerRow → Option Request → Bool
 work_fits mode row None = true
 work_fits mode row (Some request) = is_some (work_due mode row request)

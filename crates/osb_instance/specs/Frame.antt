@@ -8,24 +8,26 @@ use Rattle.osb_json.specs.Members.{number_at}
 use Rattle.osb_instance.specs.declared.faults.TextFault.{TextFault}
 use Rattle.osb_instance.specs.declared.faults.TextFault.TheVariants.{NotJson, NotAnObject, BadVersion}
 
--- the number of the format
-abbrev pub version : ℕ
-version = 1
+-- whether this number of a format stands in a value; no format has the number 0
+abbrev pub has_version : ℕ → Data → Bool
+has_version version d = unwrap_or (number_at (codes "version") d) 0 == version
 
--- whether the number of the format stands in a value
-abbrev pub has_version : Data → Bool
-has_version d = unwrap_or (number_at (codes "version") d) 0 == version
+abbrev pub as_an_object : Option Data → Result Data TextFault
+as_an_object None = Err NotJson
+as_an_object (Some d) = if is_some (as_object d) then Ok d else Err NotAnObject
 
-abbrev pub unframed : Option Data → Result Data TextFault
-unframed None = Err NotJson
-unframed (Some d) =
-    if is_some (as_object d) then (if has_version d then Ok d else Err BadVersion) else Err NotAnObject
-
--- the object that a text is, where it has the number of the format
-abbrev pub framed : List ℕ → Result Data TextFault
-framed text = unframed (read text)
+-- the object that a text is
+abbrev pub object_in : List ℕ → Result Data TextFault
+object_in text = as_an_object (read text)
 
 -- where a reading succeeds, what a further step makes of it
 abbrev pub and_then : {A B : Type 0} → (A → Result B TextFault) → Result A TextFault → Result B TextFault
 and_then step (Ok a) = step a
 and_then step (Err fault) = Err fault
+
+abbrev pub of_version : ℕ → Data → Result Data TextFault
+of_version version d = if has_version version d then Ok d else Err BadVersion
+
+-- the object that a text is, if it has the number of the format
+abbrev pub framed : ℕ → List ℕ → Result Data TextFault
+framed version text = and_then (of_version version) (object_in text)

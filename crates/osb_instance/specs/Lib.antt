@@ -6,3 +6,4 @@ pub mod Held
 pub mod HoldingText
 pub mod RecordText
 pub mod Recorded
+pub mod Rows

@@ -14,10 +14,14 @@ use Rattle.serde_json.specs.Data.{Data, null, number, unsigned, string, object, 
 use Rattle.serde_json.specs.Find as json
 use Rattle.serde_json.specs.Find.{as_null}
 use Rattle.serde_json.specs.Written.{compact_text}
-use Rattle.osb_instance.specs.Frame.{version, framed, and_then}
+use Rattle.osb_instance.specs.Frame.{framed, and_then}
 use Rattle.osb_instance.specs.Recorded.{Recorded}
 use Rattle.osb_instance.specs.declared.faults.TextFault.{TextFault}
 use Rattle.osb_instance.specs.declared.faults.TextFault.TheVariants.{BadOuter, BadMember, Impossible}
+
+-- the number of the format
+abbrev pub version : ℕ
+version = 1
 
 -- ---- what is written
 
@@ -120,4 +124,4 @@ record_of d = if has_names d then record_or (record_named d) else Err BadOuter
 
 -- the record that a text names, or the first fault
 abbrev pub record_in : List ℕ → Result Recorded TextFault
-record_in text = and_then record_of (framed text)
+record_in text = and_then record_of (framed version text)

@@ -1,10 +1,11 @@
 -- What a platform records of one instance. That requests are numbered is this project's choice.
-use Rattle.std.specs.Prelude.{◌≡◌, ◌≤◌, ℕ, ◌+◌, Some, IsSome, IfSome}
+use Rattle.std.specs.Prelude.{◌≡◌, ◌≤◌, ℕ, ◌+◌, Bool, true, false, Option, Some, IsSome, IfSome}
 use Rattle.osb_message.specs.declared.messages.Answer.{Answer}
 use Rattle.osb_message.specs.declared.messages.Request.{Request}
 use Rattle.osb_platform.specs.declared.row.PlatformRow.{PlatformRow}
-use Rattle.osb_platform.specs.declared.state.State.TheVariants.{Wanted}
-use Rattle.osb_platform.specs.PlatformRow.{IsSoundRow, sent, answered, timed_out, cleaned_up, next_request}
+use Rattle.osb_platform.specs.declared.state.State.{State}
+use Rattle.osb_platform.specs.declared.state.State.TheVariants.{Wanted, CleaningPolling}
+use Rattle.osb_platform.specs.PlatformRow.{IsSoundRow, sent, answered, timed_out, cleaned_up, next_request, is_idle_in}
 
 -- the row, and the number of the latest request, 0 before the first
 pub record Recorded : Type 0 where
@@ -41,3 +42,12 @@ IsGivenUpAfter before after =
 abbrev pub IsCleanedUpAfter : Recorded → Recorded → Type 0
 IsCleanedUpAfter before after =
     (Some after.row ≡ cleaned_up (Some before.row)) × (after.attempt ≡ before.attempt)
+
+-- the state in which a deletion is polled
+abbrev pub is_deleting : State → Bool
+is_deleting CleaningPolling = true
+is_deleting state = false
+
+-- whether a deletion can be sent again
+abbrev pub can_retry : Option PlatformRow → Bool
+can_retry row = is_idle_in is_deleting row

@@ -42,10 +42,32 @@ pub enum RemoveRefused {
     NotRemovable,
 }
 
-/// No work is recorded, so none can end (this project's choice). The holding is as before.
+/// Why a deletion isn't sent again (this project's choice). The record is as before.
 #[derive(Clone, Copy, Debug, PartialEq, Eq, Hash, Error)]
-#[error("no work is recorded")]
-pub struct NothingBegun;
+pub enum RetryRefused {
+    /// A request is out.
+    #[error("a request is out")]
+    Busy,
+    /// The state isn't `cleaning-polling`.
+    #[error("the deletion isn't polled")]
+    NotPolling,
+}
+
+/// Why work can't end (this project's choice). The holding is as before.
+#[derive(Clone, Copy, Debug, PartialEq, Eq, Hash, Error)]
+pub enum EndRefused {
+    /// No work is pending.
+    #[error("no work is pending")]
+    NothingBegun,
+    /// The outcome is [`WorkOutcome::Refused`](crate::WorkOutcome::Refused), and the pending work is no Provision's.
+    #[error("only a Provision can be refused")]
+    NotAProvision,
+}
+
+/// The instance doesn't wait for its first Poll (this project's choice). The holding is as before.
+#[derive(Clone, Copy, Debug, PartialEq, Eq, Hash, Error)]
+#[error("the instance doesn't wait for its first Poll")]
+pub struct NotWaiting;
 
 /// Why a text names no record, or no holding (this project's choice). Nothing is made then.
 ///
@@ -58,8 +80,8 @@ pub enum TextFault {
     /// The value isn't an object.
     #[error("the text is not a JSON object")]
     NotAnObject,
-    /// The member `version` isn't 1, written as an integer, or there is none.
-    #[error("the version of the text is not 1")]
+    /// The member `version` isn't one that the format has, written as an integer, or there is none.
+    #[error("the version of the text is unknown")]
     BadVersion,
     /// The members aren't exactly those of a record, or of a holding.
     #[error("the members are not those of the format")]

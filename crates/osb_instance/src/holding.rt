@@ -1,42 +1,48 @@
 //! What a broker holds of one instance.
 ghost use Rattle.std.specs.Prelude.{◌≡◌, ◌≢◌, ◌↔◌, ◌⊎◌, ◌&&◌, Option, Some, None, Ok, Err, true, false};
-ghost use Rattle.std.specs.Prelude.{IsTrue, IsSome, IsOk, IfOk, IfErr, IfSome, List, string_bytes};
-ghost use Rattle.osb_instance.specs.Begin.{at_once, begun, busy, is_provision, worked, finished_held};
+ghost use Rattle.std.specs.Prelude.{IsTrue, IsSome, IsOk, IfOk, IfErr, IfSome, IsSomeAnd, List, string_bytes};
+ghost use Rattle.osb_instance.specs.Begin.{begun, begun_by, begun_waiting, busy, can_end, conflict};
+ghost use Rattle.osb_instance.specs.Begin.{conflicts, finished_held, given_up, is_held_outcome, is_operating};
+ghost use Rattle.osb_instance.specs.Begin.{is_provision, waits_for_poll, worked, worked_as};
 ghost use Rattle.osb_instance.specs.Begin.{IsWork, IsAnsweredBy};
-ghost use Rattle.osb_instance.specs.Due.{IsDue};
+ghost use Rattle.osb_instance.specs.Due.{IsDue, work_due};
 ghost use Rattle.osb_instance.specs.Fits.{fits};
 ghost use Rattle.osb_instance.specs.Held.{Held, IsHeldSound};
-ghost use Rattle.osb_instance.specs.HoldingText.{holding_text, holding_in, possible};
-ghost use Rattle.osb_broker.specs.Finished.{is_running};
-ghost use Rattle.osb_broker.specs.Answers.{mode_of};
-ghost use Rattle.osb_message.specs.Plans.{Catalogue};
-ghost use Rattle.osb_broker.specs.Decided.{decided};
-ghost use Rattle.osb_broker.specs.Handled.{handled};
+ghost use Rattle.osb_instance.specs.HoldingText.{held_of, holding_text, holding_in, possible};
+ghost use Rattle.osb_instance.specs.Rows.{held_of_parts, held_row};
 ghost use Rattle.osb_message.specs.declared.catalogue.Mode.{Mode};
-ghost use Rattle.osb_message.specs.declared.messages.Kind.TheVariants.{Provision, Poll};
+ghost use Rattle.osb_message.specs.declared.messages.Kind.TheVariants.{Provision, Deprovision};
 
-use crate::holding_text::{can_be, read_holding, write_holding};
-use crate::work::{busy, ends, is_provision, too_late, work_due};
-use crate::{Begun, NothingBegun, TextFault};
+use crate::holding_text::{Parts, can_be, read_holding, write_holding};
+use crate::work::{
+    busy, conflict, deleted, ends, failed_row, is_provision, kept_attributes, names_held, too_late,
+    waits_for_poll, work_due,
+};
+use crate::{Begun, Digest, EndRefused, HoldingRow, NotWaiting, TextFault, Work, WorkOutcome};
 use osb_broker::{BrokerRow, NothingRunning, Outcome, Phase, decide, finished};
-use osb_message::{Answer, Memory, Mode, Request};
+use osb_message::{Answer, Body, ErrorCode, Kind, Memory, Mode, Request};
 use std::alloc::Global;
 use std::marker::Model;
 
-/// What a broker holds of one instance: its row, or none; the request whose work is recorded, or none; and the mark of
-/// an instance that has ended (this project's choice; the standard leaves to the broker what it keeps).
+/// What a broker holds of one instance: its row, or none; the request whose work is pending, or none; the tombstone of
+/// an instance that has ended; and the digest of the attributes of row and work (this project's choice; the standard
+/// leaves to the broker what it keeps).
 ///
-/// Beside a mark there is neither a row nor recorded work. The recorded request is one whose work the broker's tables
-/// have: a Provision of an instance without a row, or a Deprovision of one that is there and that no operation runs on,
-/// with its own service and plan.
+/// Beside a tombstone there is neither a row nor pending work. The pending request is one whose work the broker's
+/// tables have: a Provision of an instance without a row, or a Deprovision of one that exists and that no operation
+/// runs on, with its own service and plan. Beside a row in the phase `waiting` no work is pending. Without a row and
+/// pending work there are no attributes.
 ///
 /// A holding doesn't know how its plan works. The calls that need that take the mode of the request's plan, and none
-/// where the plan isn't on sale; [`Holding::fits`] tells whether what was read fits the plan.
+/// if the plan isn't on sale. [`Holding::fits`] returns whether what was read fits the plan.
 #[derive(Clone, Copy, Debug, PartialEq, Eq)]
 pub struct Holding {
     row: Option<BrokerRow>,
     work: Option<Request>,
-    marked: bool,
+    tombstone: bool,
+    // Whether the row waits for its first Poll. Its phase is `Making` then, and its operation hasn't begun.
+    waiting: bool,
+    attributes: Digest,
 }
 
 impl Model for Holding {
@@ -44,11 +50,11 @@ impl Model for Holding {
 
     ghost Value = { Held };
 
-    ghost view = { λ h. record { row = h.row; work = h.work; marked = h.marked } };
+    ghost view = { λ h. record { row = h.row; work = h.work; tombstone = h.tombstone; waiting = h.waiting; attributes = h.attributes } };
 
-    ghost invariant = { λ h. IsHeldSound (record { row = h.row; work = h.work; marked = h.marked }) };
+    ghost invariant = { λ h. IsHeldSound (record { row = h.row; work = h.work; tombstone = h.tombstone; waiting = h.waiting; attributes = h.attributes }) };
 
-    ghost inverse = { λ h. record { row = h.row; work = h.work; marked = h.marked } };
+    ghost inverse = { λ h. record { row = h.row; work = h.work; tombstone = h.tombstone; waiting = h.waiting; attributes = h.attributes } };
 }
 
 impl Holding {
@@ -56,62 +62,103 @@ impl Holding {
     pub const NONE: Holding = Holding {
         row: None,
         work: None,
-        marked: false,
+        tombstone: false,
+        waiting: false,
+        attributes: Digest::NONE,
     };
 
-    /// The holding of these parts, as [`Holding::row`], [`Holding::work`] and [`Holding::is_marked`] give them, if it
-    /// can come about: for who keeps them in columns of their own, or takes them from another language. None exactly
-    /// where a row or work stands beside a mark, or a request whose work no plan's table has (this project's choice).
-    /// It takes no memory.
+    // What is left of an instance that has ended.
+    const ENDED: Holding = Holding {
+        tombstone: true,
+        ..Holding::NONE
+    };
+
+    /// The holding of these parts, as [`Holding::row`], [`Holding::work`], [`Holding::has_tombstone`] and
+    /// [`Holding::attributes`] return them, if it can come about. For programs that keep the parts in columns of their
+    /// own, or take them from another language. None exactly if a row or work stands beside a tombstone, work beside a
+    /// row in `waiting`, attributes without row and work, or a request whose work no plan's table has (this project's
+    /// choice). It takes no memory.
     #[tactic(auto, using(crate::proofs::HoldingBack::can_be_sound, crate::proofs::HoldingBack::sound_can_be))]
     pub fn from_parts(
-        row: Option<BrokerRow>,
+        row: Option<HoldingRow>,
         work: Option<Request>,
-        marked: bool,
+        tombstone: bool,
+        attributes: Digest,
     ) -> Option<Holding>
-        ensures parts { result ≡ possible (record { row = row; work = work; marked = marked }) }
-        ensures sound { IsSome result ↔ IsHeldSound (record { row = row; work = work; marked = marked }) }
+        ensures parts { result ≡ possible (held_of_parts row work tombstone attributes) }
+        ensures sound { IsSome result ↔ IsHeldSound (held_of_parts row work tombstone attributes) }
     {
-        let parts = (row, work, marked);
+        let parts = Parts::of(row, work, tombstone, attributes);
         if !can_be(&parts) {
             return None;
         }
-        let (row, work, marked) = parts;
-        Some(Holding { row, work, marked })
+        Some(Holding::of(&parts))
     }
 
     /// The instance's row, or none. It takes no memory.
-    pub fn row(self) -> Option<BrokerRow>
-        ensures row { result ≡ self.row }
+    pub fn row(self) -> Option<HoldingRow>
+        ensures row { result ≡ held_row self.row self.waiting }
     {
-        self.row
+        let Holding { row, waiting, .. } = self;
+        match row {
+            None => None,
+            Some(row) => Some(HoldingRow::of(row, waiting)),
+        }
     }
 
-    /// The request whose work is recorded and hasn't ended, or none. Who needs more of a request than this to do its
-    /// work again writes it beside the holding, in the same transaction. It takes no memory.
+    /// The request whose work is pending, or none. A broker that needs more of a request than this to do its work again
+    /// writes it beside the holding, in the same transaction. It takes no memory.
     pub fn work(self) -> Option<Request>
         ensures work { result ≡ self.work }
     {
         self.work
     }
 
-    /// Whether the instance has ended: a Deprovision was answered with 410, or a deletion has ended well. A mark never
-    /// goes, and an instance that is marked is never made again: so a holding that is marked is never deleted from the
-    /// database. It takes no memory.
-    pub fn is_marked(self) -> bool
-        ensures marked { result ≡ self.marked }
+    /// Whether the instance has ended: a Deprovision was answered with 410, a deletion has succeeded, or the backend
+    /// refused the Provision. A tombstone never goes, and an instance that has one is never made again. So never delete
+    /// a holding that has one from the database. It takes no memory.
+    pub fn has_tombstone(self) -> bool
+        ensures tombstone { result ≡ self.tombstone }
     {
-        self.marked
+        self.tombstone
     }
 
-    /// Whether this can come about where the plan works so (none: not on sale). The plan is the row's, or the recorded
-    /// request's where there is no row. It has to be on sale, a row of a synchronous plan has to be ready, and the
-    /// recorded request has to be one whose work is due at it. Where there is neither a row nor work, it is true for
-    /// each mode.
+    /// The digest of the attributes of row and pending work, and [`Digest::NONE`] if there are neither. It takes no
+    /// memory.
+    pub fn attributes(self) -> Digest
+        ensures attributes { result ≡ self.attributes }
+    {
+        self.attributes
+    }
+
+    // The holding of parts that can come about.
+    fn of(parts: &Parts) -> Holding
+        requires sound { IsHeldSound (held_of parts.now) }
+        ensures parts { result ≡ held_of parts.now }
+    {
+        let Parts {
+            row,
+            work,
+            tombstone,
+            waiting,
+            attributes,
+        } = *parts;
+        Holding {
+            row,
+            work,
+            tombstone,
+            waiting,
+            attributes,
+        }
+    }
+
+    /// Whether this can come about at a plan of the mode (none: not on sale). The plan is the row's, or the pending
+    /// request's if there is no row. It has to be on sale, a row of a synchronous plan has to be `ready`, and the
+    /// pending request has to be one whose work is due at it. Without a row and work, it is true for each mode.
     ///
-    /// Ask this of what comes from a database. What fits goes on fitting, through requests of that
-    /// plan, as the clauses `fits` of [`Holding::begin`], [`Holding::end`] and [`Holding::finish`] say, and requests of
-    /// another plan change nothing. It takes no memory.
+    /// Ask this of what comes from a database. What fits goes on fitting, through requests of that plan, as the clauses
+    /// `fits` of [`Holding::begin`], [`Holding::end`], [`Holding::finish`] and [`Holding::give_up_waiting`] say.
+    /// Requests of another plan change nothing. It takes no memory.
     pub fn fits(self, mode: Option<Mode>) -> bool
         ensures fits { result ≡ fits mode self }
     {
@@ -129,197 +176,379 @@ impl Holding {
         row_fits && work_fits
     }
 
-    /// A request comes. It is answered at once, or its work is due, which is recorded then. The mode is that of the
-    /// request's plan. The first line that fits:
+    /// Whether an operation runs on the instance: its row is in `making` or `deleting`. It takes no memory.
+    pub fn is_operating(self) -> bool
+        ensures operating { result ≡ is_operating self }
+    {
+        let Holding { row, waiting, .. } = self;
+        match row {
+            None => false,
+            Some(row) => matches!(row.phase, Phase::Making | Phase::Deleting) && !waiting,
+        }
+    }
+
+    // Whether the request is a Provision of what is held, by service and plan, with other attributes.
+    fn conflicts(self, request: &Request, attributes: Digest) -> bool
+        ensures conflicts { result ≡ conflicts self request.now attributes }
+    {
+        is_provision(request.kind)
+            && names_held(self.row, self.work, request)
+            && !self.attributes.is_same(attributes)
+    }
+
+    /// A request comes. It is answered at once, or its work is due, which is pending then. The mode is that of the
+    /// request's plan. `attributes` is the digest of what a Provision asks for; for other requests it doesn't count.
+    /// The first line that fits:
     ///
-    /// 1. Work is recorded. A Provision is answered with 503, a Deprovision with 422 `ConcurrencyError`, a Poll with
+    /// 1. The request is a Provision of the service and plan of the row, or of the pending work, with other attributes:
+    ///    409, and nothing changes.
+    /// 2. Work is pending. A Provision is answered with 503, a Deprovision with 422 `ConcurrencyError`, a Poll with
     ///    200, in progress, and nothing changes.
-    /// 2. The instance is marked, and the request is a Provision: 409, and nothing changes.
-    /// 3. The request is no Poll, and the broker's table gives another answer or another row by the outcome of the
-    ///    work: the work is due, and the request is recorded.
-    /// 4. The answer is that of the broker's table ([`Broker::handle`](osb_broker::Broker::handle)) with the outcome
-    ///    `Done`. No row changes. A Deprovision that finds no row, which is answered with 410, leaves the mark.
+    /// 3. The instance has a tombstone, and the request is a Provision: 409, and nothing changes.
+    /// 4. The row is in `waiting`. A Poll of its service and plan makes it `making`, so its operation begins: 200, in
+    ///    progress. A Deprovision that would begin a deletion removes the row and leaves the tombstone: 200. Every other
+    ///    request is answered by the broker's table, as of a row in `making` (a Deprovision: of one in `failed`), and
+    ///    nothing changes.
+    /// 5. The request is no Poll, and the broker's table has another answer or another row by the outcome of the work.
+    ///    If it is the Provision of an asynchronous plan, and `first_poll` is true, the instance gets a row in
+    ///    `waiting`, and the answer is 202. Else the work is due, and the request is pending.
+    /// 6. The answer is that of the broker's table ([`Broker::handle`](osb_broker::Broker::handle)) with the outcome
+    ///    `Done`. No row changes. A Deprovision that finds no row, which is answered with 410, leaves the tombstone.
     ///
-    /// What comes back is written to the database where it differs, before the work begins or the answer is sent. The
-    /// statuses are the standard's (sections Provisioning, Polling Last Operation for Service Instances,
-    /// Deprovisioning and Service Broker Errors); lines 1 to 3 and the mark are this project's choice. It takes no
-    /// memory.
-    #[tactic(auto, using(crate::proofs::Dues::due_is_work, crate::proofs::Dues::work_is_due, crate::proofs::Ends::gone_ends, crate::proofs::Fitting::begun_fits))]
-    pub fn begin(self, mode: Option<Mode>, request: &Request) -> (Holding, Begun)
-        ensures begun { result ≡ begun mode self request.now }
+    /// `first_poll` is the rule of the first Poll: an asynchronous plan's resource is created only once the platform
+    /// has polled the instance, since a Poll shows that the platform has a record of it. A Poll that makes the row
+    /// `making` is answered once that is written; from then on the operation runs, and [`Holding::finish`] ends it.
+    ///
+    /// If the holding changed, write it to the database before the work begins or the answer is sent. The statuses are
+    /// the standard's (sections Provisioning, Polling Last Operation for Service Instances, Deprovisioning and Service
+    /// Broker Errors); lines 2 to 5 and the tombstone are this project's choice. It takes no memory.
+    #[tactic(auto, using(crate::proofs::Dues::due_is_work, crate::proofs::Dues::work_is_due, crate::proofs::Ends::gone_ends))]
+    pub fn begin(
+        self,
+        mode: Option<Mode>,
+        first_poll: bool,
+        request: &Request,
+        attributes: Digest,
+    ) -> (Holding, Begun)
+        ensures begun { result ≡ begun mode first_poll self request.now attributes }
         ensures due { IsWork result.1 ↔
-            ((self.work ≡ None) × ((self.marked && is_provision request.now.kind) ≡ false)
+            ((conflicts self request.now attributes ≡ false) × (self.work ≡ None)
+            × ((self.tombstone && is_provision request.now.kind) ≡ false) × (self.waiting ≡ false)
+            × (waits_for_poll request.now.kind mode first_poll ≡ false)
             × IsDue mode self.row request.now) }
-        ensures busy { IsSome self.work → result ≡ (self, Begun.Answered (busy request.now.kind)) }
-        ensures row { result.0.row ≡ self.row }
-        ensures marked { self.marked ≡ true → result.0 ≡ self }
-        ensures gone { IsAnsweredBy result.1 request.now.kind 410 → result.0.marked ≡ true }
+        ensures conflict { conflicts self request.now attributes ≡ true
+            → result ≡ (self, Begun.Answered conflict) }
+        ensures busy { conflicts self request.now attributes ≡ false → IsSome self.work
+            → result ≡ (self, Begun.Answered (busy request.now.kind)) }
+        ensures row { self.waiting ≡ false → result.0.waiting ≡ false → result.0.row ≡ self.row }
+        ensures tombstone { self.tombstone ≡ true → result.0 ≡ self }
+        ensures gone { IsAnsweredBy result.1 request.now.kind 410 → result.0.tombstone ≡ true }
         ensures fits { fits mode self ≡ true → fits mode result.0 ≡ true }
         ensures sound { IsHeldSound result.0 }
     {
+        if self.conflicts(request, attributes) {
+            return (self, Begun::Answered(conflict()));
+        }
         if self.work.is_some() {
             return (self, Begun::Answered(busy(request.kind)));
         }
-        if self.marked && is_provision(request.kind) {
+        if self.tombstone && is_provision(request.kind) {
             return (self, Begun::Answered(too_late()));
         }
+        if self.waiting {
+            return self.begin_waiting(mode, request);
+        }
         if let Some(work) = work_due(mode, self.row, request) {
-            let begun = Holding {
-                work: Some(*request),
-                ..self
-            };
-            return (begun, Begun::Work(work));
+            return self.begin_work(work, mode, first_poll, request, attributes);
         }
         let after = decide(mode, self.row, request, Outcome::Done);
-        let marked = self.marked || ends(request.kind, self.row);
-        (Holding { marked, ..self }, Begun::Answered(after.answer))
+        let tombstone = self.tombstone || ends(request.kind, self.row);
+        (Holding { tombstone, ..self }, Begun::Answered(after.answer))
     }
 
-    /// The recorded work has ended with this outcome: the answer to its request, and what is held then. The mode is
-    /// that of the recorded request's plan, which has to fit ([`Holding::fits`]): with another one the table refuses
-    /// the request whatever the outcome, and what was made is held no more.
+    // A request of an instance whose row waits for its first Poll.
+    fn begin_waiting(self, mode: Option<Mode>, request: &Request) -> (Holding, Begun)
+        requires waits { self.waiting ≡ true }
+        ensures begun { result ≡ begun_waiting mode self request.now }
+        ensures answered { IsAnsweredBy result.1 request.now.kind 410 → ⊥ }
+        ensures no_work { IsWork result.1 → ⊥ }
+        ensures fits { fits mode self ≡ true → fits mode result.0 ≡ true }
+        ensures sound { IsHeldSound result.0 }
+    {
+        match request.kind {
+            Kind::Provision => {
+                let after = decide(mode, self.row, request, Outcome::Done);
+                (self, Begun::Answered(after.answer))
+            }
+            Kind::Poll => {
+                let after = decide(mode, self.row, request, Outcome::Done);
+                let waiting = !names_held(self.row, None, request);
+                (Holding { waiting, ..self }, Begun::Answered(after.answer))
+            }
+            Kind::Deprovision => self.deprovision_waiting(mode, request),
+        }
+    }
+
+    // A Deprovision of an instance whose row waits for its first Poll.
+    #[tactic(auto, using(crate::proofs::Ends::failed_there))]
+    fn deprovision_waiting(self, mode: Option<Mode>, request: &Request) -> (Holding, Begun)
+        requires waits { self.waiting ≡ true }
+        requires deletes { request.now.kind ≡ Deprovision }
+        ensures begun { result ≡ begun_waiting mode self request.now }
+        ensures answered { IsAnsweredBy result.1 Deprovision 410 → ⊥ }
+        ensures no_work { IsWork result.1 → ⊥ }
+        ensures fits { fits mode self ≡ true → fits mode result.0 ≡ true }
+        ensures sound { IsHeldSound result.0 }
+    {
+        let failed = failed_row(self.row);
+        let kept = &failed;
+        if work_due(mode, *kept, request).is_some() {
+            return (Holding::ENDED, Begun::Answered(deleted()));
+        }
+        let after = decide(mode, *kept, request, Outcome::Done);
+        (self, Begun::Answered(after.answer))
+    }
+
+    // The work of a request is due, unless it waits for the first Poll.
+    #[tactic(auto, using(crate::proofs::Waiting::put_off_row, crate::proofs::Fitting::put_off_fits, crate::proofs::Fitting::pending_fits))]
+    fn begin_work(
+        self,
+        work: Work,
+        mode: Option<Mode>,
+        first_poll: bool,
+        request: &Request,
+        attributes: Digest,
+    ) -> (Holding, Begun)
+        requires idle { (self.work ≡ None) × ((self.tombstone && is_provision request.now.kind) ≡ false)
+            × (self.waiting ≡ false) }
+        requires due { Some work ≡ work_due mode self.row request.now }
+        ensures begun { result ≡ begun_by (Some work) mode first_poll self request.now attributes }
+        ensures due { IsWork result.1 ↔ (waits_for_poll request.now.kind mode first_poll ≡ false) }
+        ensures row { result.0.waiting ≡ false → result.0.row ≡ self.row }
+        ensures not_410 { IsAnsweredBy result.1 request.now.kind 410 → ⊥ }
+        ensures fits { fits mode self ≡ true → fits mode result.0 ≡ true }
+        ensures sound { IsHeldSound result.0 }
+    {
+        let attributes = match self.row {
+            None => attributes,
+            Some(_) => self.attributes,
+        };
+        if waits_for_poll(request.kind, mode, first_poll) {
+            let after = decide(mode, self.row, request, Outcome::Done);
+            let waiting = Holding {
+                row: after.row,
+                waiting: true,
+                attributes,
+                ..self
+            };
+            return (waiting, Begun::Answered(after.answer));
+        }
+        let begun = Holding {
+            work: Some(*request),
+            attributes,
+            ..self
+        };
+        (begun, Begun::Work(work))
+    }
+
+    /// The pending work has ended with this outcome: the answer to its request, and what is held then. The mode is that
+    /// of the pending request's plan, which has to fit ([`Holding::fits`]). With another one the table rejects the
+    /// request whatever the outcome, and what was created is held no more.
     ///
-    /// Answer and row are those of the broker's table ([`Broker::handle`](osb_broker::Broker::handle)) for that
-    /// request and that outcome. No work is recorded any more, and a Deprovision that leaves no row leaves the mark.
-    /// What comes back is written to the database before the answer is sent. That work is recorded, and ends by a
-    /// call, is this project's choice. It takes no memory.
+    /// Answer and row are those of the broker's table ([`Broker::handle`](osb_broker::Broker::handle)) for that request
+    /// and that outcome. No work is pending any more, and a Deprovision that leaves no row leaves the tombstone.
+    /// [`WorkOutcome::Refused`] of a Provision is answered with the status of the rejection and `Error(Other)`. There
+    /// is no row then, and the tombstone stays, so that no copy of the request can succeed after the platform has
+    /// recorded `gone`.
     ///
-    /// Where nobody knows how the work went, it hasn't ended: the requester is told 500 or nothing, and this is
-    /// called once it is known.
+    /// Write the holding to the database before the answer is sent. That work is pending, and ends by a call, is this
+    /// project's choice. It takes no memory.
+    ///
+    /// If nobody knows how the work went, it hasn't ended. Answer the request with 500 or not at all, and call this
+    /// once it is known.
     ///
     /// # Errors
     ///
-    /// [`NothingBegun`] exactly where no work is recorded. The holding is as before.
-    #[tactic(auto, using(crate::proofs::Fitting::worked_fits))]
+    /// In this order, with the holding as before: [`EndRefused::NothingBegun`] exactly if no work is pending,
+    /// [`EndRefused::NotAProvision`] exactly if the outcome is `Refused` and the pending request is no Provision.
     pub fn end(
         self,
         mode: Option<Mode>,
-        outcome: Outcome,
-    ) -> Result<(Holding, Answer), NothingBegun>
-        ensures begun { IsOk result ↔ IsSome self.work }
-        ensures worked { IfSome self.work (λ request.
-            result ≡ Ok (worked mode self request outcome)) }
-        ensures marked { self.marked ≡ true → result ≡ Err (record {}) }
+        outcome: WorkOutcome,
+    ) -> Result<(Holding, Answer), EndRefused>
+        ensures ok { IsOk result ↔ IsSomeAnd self.work (λ request. can_end request.kind outcome ≡ true) }
+        ensures worked { IfSome self.work (λ request. can_end request.kind outcome ≡ true
+            → result ≡ Ok (worked mode self request outcome)) }
+        ensures nothing_begun { (result ≡ Err EndRefused.NothingBegun) ↔ (self.work ≡ None) }
+        ensures not_a_provision { (result ≡ Err EndRefused.NotAProvision)
+            ↔ IsSomeAnd self.work (λ request. can_end request.kind outcome ≡ false) }
         ensures fits { fits mode self ≡ true → IfOk result (λ after. fits mode after.0 ≡ true) }
-        ensures made { fits mode self ≡ true → outcome ≢ Outcome.Before → IfSome self.work (λ request.
+        ensures made { fits mode self ≡ true → is_held_outcome outcome ≡ true → IfSome self.work (λ request.
             request.kind ≡ Provision → IfOk result (λ after. IsSome after.0.row)) }
         ensures sound { IfOk result (λ after. IsHeldSound after.0) }
     {
-        let Holding { row, work, .. } = self;
+        let Holding { work, .. } = self;
         let Some(request) = work else {
-            return Err(NothingBegun);
+            return Err(EndRefused::NothingBegun);
         };
-        let after = decide(mode, row, &request, outcome);
-        let marked = ends(request.kind, after.row);
-        let held = Holding {
-            row: after.row,
-            work: None,
-            marked,
-        };
-        Ok((held, after.answer))
-    }
-
-    /// The operation that runs on the instance has ended, well (`ok`) or badly. The row is that of
-    /// [`Broker::finish`](osb_broker::Broker::finish): an instance that is being made is ready then, or has failed;
-    /// one that is being deleted is gone and leaves the mark, or could not be deleted. What comes back is written to
-    /// the database before anyone is told.
-    ///
-    /// It is said once, of the operation that runs now. Whether that makes or deletes is the row's phase, read in the
-    /// same transaction.
-    ///
-    /// That the caller says when an operation ends, and the mark, are this project's choice (section Polling Last
-    /// Operation for Service Instances has the states). It takes no memory.
-    ///
-    /// # Errors
-    ///
-    /// [`NothingRunning`] exactly where the instance is neither being made nor being deleted; so always while work is
-    /// recorded, and beside a mark. The holding is as before.
-    #[tactic(auto, using(crate::proofs::Fitting::finished_fits))]
-    pub fn finish(self, ok: bool) -> Result<Holding, NothingRunning>
-        ensures running { IsOk result ↔ IsTrue (is_running self.row) }
-        ensures finished { IfOk result (λ held. held ≡ finished_held self ok) }
-        ensures busy { IsSome self.work → result ≡ Err (record {}) }
-        ensures marked { self.marked ≡ true → result ≡ Err (record {}) }
-        ensures fits { (mode : Option Mode) → fits mode self ≡ true
-            → IfOk result (λ held. fits mode held ≡ true) }
-        ensures sound { IfOk result (λ held. IsHeldSound held) }
-    {
-        let Some(row) = self.row else {
-            return Err(NothingRunning);
-        };
-        let after = finished(row, ok)?;
-        Ok(Holding {
-            row: after,
-            work: None,
-            marked: after.is_none(),
-        })
-    }
-
-    /// [`Holding::begin`], and where work is due [`Holding::end`] with this outcome, with nothing between. It stands
-    /// for what is proved, and for tests: where no work is recorded and there is no mark, row and answer are those of
-    /// the broker's table, and so of [`Broker::handle`](osb_broker::Broker::handle) for a catalogue that has the
-    /// request's plan with this mode; for a Poll, whose work isn't asked for here, with the outcome `Done`. So what
-    /// is proved of brokers that work at once holds of these.
-    ///
-    /// A broker with a database calls `begin`, writes, works, and calls `end`. An outcome that is given here counts
-    /// only where `begin` says that work is due: everywhere else nothing may have been done. It takes no memory.
-    pub fn handle(
-        self,
-        mode: Option<Mode>,
-        request: &Request,
-        outcome: Outcome,
-    ) -> (Holding, Answer)
-        ensures at_once { result ≡ at_once mode self request.now outcome }
-        ensures handled { self.work ≡ None → self.marked ≡ false
-            → (request.now.kind ≢ Poll) ⊎ (outcome ≡ Outcome.Done)
-            → (result.0.row ≡ (decided mode self.row request.now outcome).row)
-            × (result.1 ≡ (decided mode self.row request.now outcome).answer) }
-        ensures broker { (catalogue : Catalogue) → mode_of catalogue request.now ≡ mode
-            → self.work ≡ None → self.marked ≡ false
-            → (request.now.kind ≢ Poll) ⊎ (outcome ≡ Outcome.Done)
-            → (result.0.row ≡ (handled catalogue self.row request.now outcome).row)
-            × (result.1 ≡ (handled catalogue self.row request.now outcome).answer) }
-    {
-        let (held, begun) = self.begin(mode, request);
-        match begun {
-            Begun::Answered(answer) => (held, answer),
-            Begun::Work(_) => {
-                let Ok(done) = held.end(mode, outcome) else {
-                    unreachable!()
+        match outcome {
+            WorkOutcome::Done => Ok(self.ended(mode, &request, Outcome::Done)),
+            WorkOutcome::Before => Ok(self.ended(mode, &request, Outcome::Before)),
+            WorkOutcome::After => Ok(self.ended(mode, &request, Outcome::After)),
+            WorkOutcome::Refused(rejection) => {
+                if !is_provision(request.kind) {
+                    return Err(EndRefused::NotAProvision);
+                }
+                let answer = Answer {
+                    status: rejection.status(),
+                    body: Body::Error(ErrorCode::Other),
                 };
-                done
+                Ok((Holding::ENDED, answer))
             }
         }
     }
 
-    /// The text of the holding, for a column of a database: a JSON object with no spaces and the members `marked`, a
-    /// boolean, `row`, an object with `phase`, `plan` and `service`, or `null`, `version`, the number 1, and `work`,
-    /// an object with `accepts_incomplete`, `id`, `kind`, `plan` and `service`, or `null`. Ids are in lower case,
-    /// phases and kinds by their words. All of this is this project's choice.
+    // The pending work has ended as the broker's table has it.
+    #[tactic(auto, using(crate::proofs::Fitting::worked_fits))]
+    fn ended(self, mode: Option<Mode>, request: &Request, outcome: Outcome) -> (Holding, Answer)
+        requires pending { self.work ≡ Some request.now }
+        ensures worked { result ≡ worked_as mode self request.now outcome }
+        ensures fits { fits mode self ≡ true → fits mode result.0 ≡ true }
+        ensures made { fits mode self ≡ true → outcome ≢ Outcome.Before → request.now.kind ≡ Provision
+            → IsSome result.0.row }
+        ensures sound { IsHeldSound result.0 }
+    {
+        let Holding {
+            row,
+            attributes,
+            ..
+        } = self;
+        let after = decide(mode, row, request, outcome);
+        let tombstone = ends(request.kind, after.row);
+        let held = Holding {
+            row: after.row,
+            work: None,
+            tombstone,
+            waiting: false,
+            attributes: kept_attributes(after.row, attributes),
+        };
+        (held, after.answer)
+    }
+
+    /// The operation that runs on the instance has succeeded (`ok`) or failed. The row is that of
+    /// [`Broker::finish`](osb_broker::Broker::finish): an instance that is being made is `ready` then, or has failed;
+    /// one that is being deleted is gone and leaves the tombstone, or could not be deleted. Write the holding to the
+    /// database before anyone is told.
+    ///
+    /// Call it once, of the operation that runs now. Whether that makes or deletes is the row's phase, read in the same
+    /// transaction.
+    ///
+    /// That the caller says when an operation ends, and the tombstone, are this project's choice (section Polling Last
+    /// Operation for Service Instances has the states). It takes no memory.
     ///
     /// # Errors
     ///
-    /// [`Memory`] where an allocation failed.
+    /// [`NothingRunning`] exactly if the instance is neither being made nor being deleted: so always while work is
+    /// pending, in `waiting`, and beside a tombstone. The holding is as before.
+    #[tactic(auto, using(crate::proofs::Fitting::finished_fits))]
+    pub fn finish(self, ok: bool) -> Result<Holding, NothingRunning>
+        ensures running { IsOk result ↔ IsTrue (is_operating self) }
+        ensures finished { IfOk result (λ held. held ≡ finished_held self ok) }
+        ensures busy { IsSome self.work → result ≡ Err (record {}) }
+        ensures tombstone { self.tombstone ≡ true → result ≡ Err (record {}) }
+        ensures fits { (mode : Option Mode) → fits mode self ≡ true
+            → IfOk result (λ held. fits mode held ≡ true) }
+        ensures sound { IfOk result (λ held. IsHeldSound held) }
+    {
+        let Holding {
+            row,
+            waiting,
+            attributes,
+            ..
+        } = self;
+        let Some(row) = row else {
+            return Err(NothingRunning);
+        };
+        if waiting {
+            return Err(NothingRunning);
+        }
+        let after = finished(row, ok)?;
+        Ok(Holding {
+            row: after,
+            work: None,
+            tombstone: after.is_none(),
+            waiting: false,
+            attributes: kept_attributes(after, attributes),
+        })
+    }
+
+    /// The instance has waited too long for its first Poll: its row is `failed` then. So a platform that polls late is
+    /// told so, and cleans up. Nothing was created. Write the holding to the database before anyone is told. The rule
+    /// of the first Poll, and its end, are this project's choice. It takes no memory.
+    ///
+    /// # Errors
+    ///
+    /// [`NotWaiting`] exactly if there is no row in `waiting`. The holding is as before.
+    pub fn give_up_waiting(self) -> Result<Holding, NotWaiting>
+        ensures waiting { IsOk result ↔ (self.waiting ≡ true) }
+        ensures given_up { IfOk result (λ held. held ≡ given_up self) }
+        ensures fits { (mode : Option Mode) → fits mode self ≡ true
+            → IfOk result (λ held. fits mode held ≡ true) }
+        ensures sound { IfOk result (λ held. IsHeldSound held) }
+    {
+        if !self.waiting {
+            return Err(NotWaiting);
+        }
+        Ok(Holding {
+            row: failed_row(self.row),
+            waiting: false,
+            ..self
+        })
+    }
+
+    /// The text of the holding, for a column of a database: a JSON object with no spaces and the members `attributes`,
+    /// the digest in 64 hex digits, `row`, an object with `phase`, `plan` and `service`, or `null`, `tombstone`, a
+    /// boolean, `version`, the number 2, and `work`, an object with `accepts_incomplete`, `id`, `kind`, `plan` and
+    /// `service`, or `null`. Ids and digits are in lower case, phases and kinds by their words. All of this is this
+    /// project's choice.
+    ///
+    /// # Errors
+    ///
+    /// [`Memory`] if an allocation failed.
     pub fn to_text(self, alloc: Global) -> Result<String, Memory>
         ensures text { IfOk result (λ text. string_bytes text ≡ holding_text self) }
         ensures back { IfOk result (λ text. holding_in (string_bytes text) ≡ Ok self) }
     {
-        let Holding { row, work, marked } = self;
-        write_holding(alloc, row, work, marked)
+        write_holding(alloc, &self.parts())
     }
 
-    /// The holding that a text names, as [`Holding::to_text`] writes it. The text may have any spacing, and members
-    /// in any order; of a member that stands twice the last counts. What [`Holding::to_text`] gave is refused only
-    /// where memory runs out. All of this is this project's choice.
+    // Its parts.
+    fn parts(self) -> Parts
+        ensures parts { held_of result ≡ self }
+    {
+        Parts {
+            row: self.row,
+            work: self.work,
+            tombstone: self.tombstone,
+            waiting: self.waiting,
+            attributes: self.attributes,
+        }
+    }
+
+    /// The holding that a text names, as [`Holding::to_text`] writes it. The text may have any spacing, members in any
+    /// order, and hex digits in either case; of a member that stands twice the last counts. What [`Holding::to_text`]
+    /// returned is rejected only if memory runs out. A text of version 1, which versions before 0.3.0 wrote, has
+    /// `marked` in place of `tombstone` and no `attributes`: it is read with [`Digest::NONE`]. All of this is this
+    /// project's choice.
     ///
     /// # Errors
     ///
-    /// The first of these that fits. [`TextFault::NotJson`] where the text has no reading as JSON,
-    /// [`TextFault::NotAnObject`] where the value isn't an object, [`TextFault::BadVersion`] where `version` isn't 1
-    /// written as an integer, [`TextFault::BadOuter`] where the members aren't exactly `marked`, `row`, `version` and
-    /// `work`, [`TextFault::BadMember`] where one of them isn't as [`Holding::to_text`] has it, with no further
-    /// member inside, [`TextFault::Impossible`] where a row or work stands beside a mark, or a request whose work no
-    /// plan's table has. [`TextFault::Memory`] in place of any other where an allocation failed.
+    /// The first of these that fits. [`TextFault::NotJson`] if the text has no reading as JSON,
+    /// [`TextFault::NotAnObject`] if the value isn't an object, [`TextFault::BadVersion`] if `version` is neither 1 nor
+    /// 2 written as an integer, [`TextFault::BadOuter`] if the members aren't exactly those of its version,
+    /// [`TextFault::BadMember`] if one of them isn't as [`Holding::to_text`] has it, with no further member inside,
+    /// [`TextFault::Impossible`] if [`Holding::from_parts`] has no holding of these. [`TextFault::Memory`] in place of
+    /// any other if an allocation failed.
     pub fn from_text(alloc: Global, text: &str) -> Result<Holding, TextFault>
         ensures ok { IfOk result (λ holding. holding_in text.now ≡ Ok holding) }
         ensures err { IfErr result (λ fault.
@@ -329,7 +558,7 @@ impl Holding {
         ensures back_err { (written : Held) → holding_in text.now ≡ Ok written
             → IfErr result (λ fault. fault ≡ TextFault.Memory) }
     {
-        let (row, work, marked) = read_holding(alloc, text)?;
-        Ok(Holding { row, work, marked })
+        let parts = read_holding(alloc, text)?;
+        Ok(Holding::of(&parts))
     }
 }

@@ -5,10 +5,10 @@ ghost use Rattle.osb_platform.specs.PlatformRow.{wanted_row, first_request, rest
 ghost use Rattle.osb_platform.specs.PlatformRow.{can_send, can_expire, can_remove, is_idle};
 ghost use Rattle.osb_instance.specs.RecordText.{record_text, record_in, possible};
 ghost use Rattle.osb_instance.specs.Recorded.{Recorded, IsRecordedSound, IsSentAfter, IsAnsweredAfter};
-ghost use Rattle.osb_instance.specs.Recorded.{IsGivenUpAfter, IsCleanedUpAfter};
+ghost use Rattle.osb_instance.specs.Recorded.{IsGivenUpAfter, IsCleanedUpAfter, can_retry};
 
 use crate::record_text::{can_be, read_record, write_record};
-use crate::{ExpireRefused, NotOut, RemoveRefused, SendRefused, TextFault};
+use crate::{ExpireRefused, NotOut, RemoveRefused, RetryRefused, SendRefused, TextFault};
 use osb_message::{Answer, InstanceId, Kind, Memory, PlanId, Request, ServiceId};
 use osb_platform::{PlatformRow, State, decide_answer, decide_restart, decide_timeout, kind_due};
 use std::alloc::Global;
@@ -255,6 +255,36 @@ impl Record {
         match row.state {
             State::Polling => {}
             _ => return Err(ExpireRefused::NotPolling),
+        }
+        Ok(Record {
+            row: row.in_state(State::Cleaning),
+            attempt: self.attempt,
+        })
+    }
+
+    /// Sends a deletion again: `cleaning-polling` becomes `cleaning`, so a Deprovision is due. For a deletion whose
+    /// maximum polling duration has passed, which has failed then (section Polling Last Operation for Service
+    /// Instances), and for a broker that answers every Poll of it with another status than 200 and 410 (this project's
+    /// choice). It takes no memory.
+    ///
+    /// # Errors
+    ///
+    /// In this order, with the record as before: [`RetryRefused::Busy`] if a request is out,
+    /// [`RetryRefused::NotPolling`] in every state but `cleaning-polling`.
+    pub fn retry(self) -> Result<Record, RetryRefused>
+        ensures cleaned_up { IfOk result (λ after. IsCleanedUpAfter self after) }
+        ensures ok { IsOk result ↔ IsTrue (can_retry (Some self.row)) }
+        ensures busy { (result ≡ Err RetryRefused.Busy) ↔ IsSome self.row.out }
+        ensures not_polling { (result ≡ Err RetryRefused.NotPolling)
+            ↔ IsTrue (is_idle (Some self.row) && not (can_retry (Some self.row))) }
+    {
+        let row = self.row;
+        if row.out.is_some() {
+            return Err(RetryRefused::Busy);
+        }
+        match row.state {
+            State::CleaningPolling => {}
+            _ => return Err(RetryRefused::NotPolling),
         }
         Ok(Record {
             row: row.in_state(State::Cleaning),

@@ -5,12 +5,15 @@ ghost use Rattle.osb_instance.specs.RecordText as spec;
 ghost use Rattle.osb_instance.specs.Recorded.{IsRecordedSound};
 
 use crate::TextFault;
-use crate::frame::{VERSION, read_frame};
+use crate::frame::read_frame;
 use osb_json::{id_at, member_count, number_at, text_at};
 use osb_message::{Kind, Memory};
 use osb_platform::{PlatformRow, State};
 use serde_json::{Value, json};
 use std::alloc::{AllocError, Global};
+
+// The number of the format.
+const VERSION: u64 = 1;
 
 // The JSON value of the kind of the request that is out.
 fn out_value(alloc: Global, out: Option<Kind>) -> Result<Value, AllocError>
@@ -137,7 +140,7 @@ pub(crate) fn read_record(alloc: Global, text: &str) -> Result<(PlatformRow, u64
         (fault ≡ TextFault.Memory) ⊎ (spec.record_in text.now ≡ Err fault)) }
     ensures sound { IfOk result (λ r. IsRecordedSound (spec.recorded_of r)) }
 {
-    let value = read_frame(alloc, text)?;
+    let value = read_frame(alloc, text, VERSION)?;
     if !has_names(&value) {
         return Err(TextFault::BadOuter);
     }

@@ -1,9 +1,12 @@
 //! Work that a request means, and when it is due.
-ghost use Rattle.std.specs.Prelude.{◌≡◌};
-ghost use Rattle.osb_instance.specs.Begin.{busy, ends, is_provision, too_late};
+ghost use Rattle.std.specs.Prelude.{◌≡◌, Some};
+ghost use Rattle.osb_broker.specs.Answers.{empty, same_plan};
+ghost use Rattle.osb_instance.specs.Begin.{busy, conflict, ends, failed_row, is_provision, kept_attributes};
+ghost use Rattle.osb_instance.specs.Begin.{names_held, too_late, waits_for_poll};
 ghost use Rattle.osb_instance.specs.Due.{work_due, work_of};
 
-use osb_broker::{BrokerRow, Outcome, decide};
+use crate::Digest;
+use osb_broker::{BrokerRow, Outcome, Phase, decide};
 use osb_message::{Answer, Body, ErrorCode, Kind, LastState, Mode, Request};
 
 /// The work that a request means (this project's choice; the standard has a request and its answer).
@@ -20,8 +23,8 @@ pub enum Work {
 }
 
 impl Work {
-    /// The work that a request of the kind means, at a plan that works so; none for a Poll, and where the plan isn't on
-    /// sale. So a broker that starts again learns what the recorded request of a [`Holding`](crate::Holding) means. It
+    /// The work that a request of the kind means at a plan of the mode; none for a Poll, and if the plan isn't on sale.
+    /// A broker that starts again learns from this what the pending request of a [`Holding`](crate::Holding) means. It
     /// takes no memory.
     pub fn of(kind: Kind, mode: Option<Mode>) -> Option<Work>
         ensures work { result ≡ work_of kind mode }
@@ -41,7 +44,7 @@ impl Work {
 pub enum Begun {
     /// No work is due: this is the answer to send.
     Answered(Answer),
-    /// This work is due, and is recorded. It is done once the holding is written to the database; then comes
+    /// This work is due and pending. Do it once the holding is written to the database, and then call
     /// [`Holding::end`](crate::Holding::end).
     Work(Work),
 }
@@ -64,8 +67,10 @@ pub(crate) fn work_due(
     }
 }
 
-// The answer while work of the instance is under way.
-pub(crate) fn busy(kind: Kind) -> Answer
+/// The answer to a request that is put off, as while work of the instance is pending: 503 to a Provision, 422
+/// `ConcurrencyError` to a Deprovision, 200, in progress, to a Poll. A broker may always answer so, whatever it holds, and
+/// changes nothing then (this project's choice). It takes no memory.
+pub fn busy(kind: Kind) -> Answer
     ensures answer { result ≡ busy kind }
 {
     match kind {
@@ -94,6 +99,26 @@ pub(crate) fn too_late() -> Answer
     }
 }
 
+// The answer to a Provision of the same service and plan with other attributes.
+pub(crate) fn conflict() -> Answer
+    ensures answer { result ≡ conflict }
+{
+    Answer {
+        status: 409,
+        body: Body::Error(ErrorCode::Other),
+    }
+}
+
+// The answer to a Deprovision of a row that waits: it is gone.
+pub(crate) fn deleted() -> Answer
+    ensures answer { result ≡ empty 200 }
+{
+    Answer {
+        status: 200,
+        body: Body::Empty,
+    }
+}
+
 // Whether a request of the kind that leaves this row, or none, ends its instance.
 pub(crate) fn ends(kind: Kind, row: Option<BrokerRow>) -> bool
     ensures ends { result ≡ ends kind row }
@@ -110,5 +135,58 @@ pub(crate) fn is_provision(kind: Kind) -> bool
     match kind {
         Kind::Provision => true,
         Kind::Poll | Kind::Deprovision => false,
+    }
+}
+
+// Whether the request names this service and plan.
+pub(crate) fn names(row: &BrokerRow, request: &Request) -> bool
+    ensures names { result ≡ same_plan row.now request.now }
+{
+    row.service == request.service && row.plan == request.plan
+}
+
+// Whether the request names the service and plan of the row, or, if there is none, of the pending work.
+pub(crate) fn names_held(row: Option<BrokerRow>, work: Option<Request>, request: &Request) -> bool
+    ensures names { result ≡ names_held row work request.now }
+{
+    match (row, work) {
+        (Some(row), _) => names(&row, request),
+        (None, Some(working)) => {
+            working.service == request.service && working.plan == request.plan
+        }
+        (None, None) => false,
+    }
+}
+
+// Whether work that is due waits for the first Poll.
+pub(crate) fn waits_for_poll(kind: Kind, mode: Option<Mode>, first_poll: bool) -> bool
+    ensures waits { result ≡ waits_for_poll kind mode first_poll }
+{
+    match (kind, mode) {
+        (Kind::Provision, Some(Mode::Async)) => first_poll,
+        _ => false,
+    }
+}
+
+// The row once it has failed.
+pub(crate) fn failed_row(row: Option<BrokerRow>) -> Option<BrokerRow>
+    ensures row { result ≡ failed_row row }
+{
+    match row {
+        None => None,
+        Some(row) => Some(BrokerRow {
+            phase: Phase::Failed,
+            ..row
+        }),
+    }
+}
+
+// The attributes, if a row is left.
+pub(crate) fn kept_attributes(row: Option<BrokerRow>, attributes: Digest) -> Digest
+    ensures attributes { result ≡ kept_attributes row attributes }
+{
+    match row {
+        None => Digest::NONE,
+        Some(_) => attributes,
     }
 }

@@ -8,7 +8,7 @@ use Rattle.osb_platform.specs.declared.state.State.{State}
 use Rattle.osb_platform.specs.declared.state.State.TheVariants.{Wanted, Cleaning}
 use Rattle.osb_platform.specs.declared.state.State.TheVariants.{CleaningPolling, Gone}
 use Rattle.osb_instance.specs.Held.{Held}
-use Rattle.osb_network.specs.declared.thing.Thing.{Thing}
+use Rattle.osb_network.specs.declared.resource.Resource.{Resource}
 use Rattle.osb_network.specs.declared.order.Order.{Order}
 use Rattle.osb_network.specs.Possible.{request_of}
 use Rattle.osb_network.specs.Possible.{IsKept}
@@ -47,7 +47,7 @@ works_idle out i h None p = tt
 works_idle out i h (Some n) p = record { numbered = p.numbered; latest = λ e. said_of_none h.work }
 
 -- the platform's state changes, and nothing is out then
-pub rests_at : (o : Order) (s n : State) (out : Option Kind) (i : ℕ) (h : Held) (w : Option ℕ) (t : Thing)
+pub rests_at : (o : Order) (s n : State) (out : Option Kind) (i : ℕ) (h : Held) (w : Option ℕ) (t : Resource)
     (sent : List Sent) (given : List Given) → IsPossibleAt o s out i h w t sent given → Rests o s h t n
     → IsPossibleAt o n None i h w t sent given
 rests_at o s n out i h w t sent given p r = record {
@@ -97,7 +97,7 @@ given_next o s out next i h x q =
     let l : x.attempt ≤ i = q.numbered in
     record { numbered = omega arith; told = λ e. absurd (omega arith) }
 
-pub sends_at : (o : Order) (s : State) (out : Option Kind) (k : Kind) (i : ℕ) (h : Held) (w : Option ℕ) (t : Thing)
+pub sends_at : (o : Order) (s : State) (out : Option Kind) (k : Kind) (i : ℕ) (h : Held) (w : Option ℕ) (t : Resource)
     (sent : List Sent) (given : List Given) → IsPossibleAt o s out i h w t sent given → due s ≡ Some k
     → IsPossibleAt o s (Some k) (i + 1) h w t
     (sent ++ record { request = request_of o k; attempt = i + 1 } ∷ []) given
@@ -114,7 +114,7 @@ sends_at o s out k i h w t sent given p e = record {
 }
 
 -- the broker goes on
-pub goes_on_at : (o : Order) (s : State) (out : Option Kind) (i : ℕ) (h g : Held) (w v : Option ℕ) (t u : Thing)
+pub goes_on_at : (o : Order) (s : State) (out : Option Kind) (i : ℕ) (h g : Held) (w v : Option ℕ) (t u : Resource)
     (sent : List Sent) (given : List Given) → IsPossibleAt o s out i h w t sent given → IsKept o g u
     → IsLater o s h t g u → IfSome v (IsWorkOf out i g) → IsPossibleAt o s out i g v u sent given
 goes_on_at o s out i h g w v t u sent given p kept later works = record {
@@ -130,7 +130,7 @@ goes_on_at o s out i h g w v t u sent given p kept later works = record {
 }
 
 -- an answer more
-pub answers_at : (o : Order) (s : State) (out : Option Kind) (i : ℕ) (h : Held) (w : Option ℕ) (t : Thing)
+pub answers_at : (o : Order) (s : State) (out : Option Kind) (i : ℕ) (h : Held) (w : Option ℕ) (t : Resource)
     (sent : List Sent) (given : List Given) (x : Given) → IsPossibleAt o s out i h w t sent given
     → IsGivenOf o s out i h x → IsPossibleAt o s out i h w t sent (given ++ x ∷ [])
 answers_at o s out i h w t sent given x p q = record {

@@ -6,19 +6,20 @@ use Rattle.osb_message.specs.declared.messages.Answer.{Answer}
 use Rattle.osb_message.specs.declared.messages.Body.{Body}
 use Rattle.osb_message.specs.declared.messages.ErrorCode.{ErrorCode}
 use Rattle.osb_message.specs.declared.messages.Kind.{Kind}
-use Rattle.osb_message.specs.declared.messages.Kind.TheVariants.{Provision, Deprovision}
+use Rattle.osb_message.specs.declared.messages.Kind.TheVariants.{Provision, Poll, Deprovision}
 use Rattle.osb_message.specs.declared.messages.Request.{Request}
-use Rattle.osb_broker.specs.declared.outcome.Outcome.{Outcome}
+use Rattle.osb_instance.specs.declared.digest.Digest.{Digest}
+use Rattle.osb_instance.specs.declared.outcome.WorkOutcome.{WorkOutcome}
 use Rattle.osb_broker.specs.declared.row.BrokerRow.{BrokerRow}
 use Rattle.osb_platform.specs.declared.row.PlatformRow.{PlatformRow}
 use Rattle.osb_platform.specs.declared.state.State.{State}
 use Rattle.osb_platform.specs.declared.state.State.TheVariants.{Wanted, Cleaning}
 use Rattle.osb_instance.specs.declared.work.Begun.{Begun}
 use Rattle.osb_instance.specs.declared.work.Begun.TheVariants.{Answered}
-use Rattle.osb_instance.specs.Begin.{begun, finished_held}
+use Rattle.osb_instance.specs.Begin.{finished_held, given_up, is_operating}
 use Rattle.osb_instance.specs.Held.{Held}
-use Rattle.osb_network.specs.declared.thing.Thing.{Thing}
-use Rattle.osb_network.specs.declared.thing.Thing.TheVariants.{Absent}
+use Rattle.osb_network.specs.declared.resource.Resource.{Resource}
+use Rattle.osb_network.specs.declared.resource.Resource.TheVariants.{Absent}
 use Rattle.osb_network.specs.declared.order.Order.{Order}
 use Rattle.osb_network.specs.Possible.{request_of}
 use Rattle.osb_network.specs.Possible.{IsKept}
@@ -30,25 +31,26 @@ use Rattle.osb_platform.specs.State.{due, after_timeout, is_polling, is_removabl
 use Rattle.osb_platform.specs.PlatformRow.{IsSoundRow, in_state}
 use Rattle.osb_platform.proofs.Sound.{answered_sound, timed_out_sound}
 use Rattle.osb_platform.specs.Statuses.{is_within}
-use Rattle.osb_broker.specs.Finished.{is_running}
 use Rattle.osb_instance.specs.declared.record.Sent.{Sent}
 use Rattle.osb_instance.specs.Held.{nothing_held}
-use Rattle.osb_instance.specs.Recorded.{Recorded}
+use Rattle.osb_instance.specs.Recorded.{Recorded, is_deleting}
 use Rattle.osb_network.specs.declared.event.Event.{Event}
 use Rattle.osb_network.specs.declared.event.Given.{Given}
 use Rattle.osb_network.specs.Cell.{Cell, empty_cell, IsSentOf, IsGivenOf, IsWorkOf, IsPossibleAt, IsPossibleRecord}
 use Rattle.osb_network.specs.Cell.{IsPossibleWith, IsPossible, IsNumbered}
 use Rattle.osb_network.specs.Steps.{with_sent, with_state, create, next_recorded, send_due, send, clean_up, give_up}
 use Rattle.osb_network.specs.Steps.{take_out, take, unreadable, take_given, take_garbled, take_gateway, arrived, arrive}
-use Rattle.osb_network.specs.Steps.{ended, end, end_unknown, can_finish, cell_step, cell_steps, sent_as, unknown, has_number}
+use Rattle.osb_network.specs.Steps.{put_off, ended, end, end_unknown, can_finish, cell_step, cell_steps, sent_as, unknown, has_number}
 use Rattle.osb_network.specs.Truth.{is_under_way}
 use Rattle.std.proofs.lemmas.Bool.Decides.{nat_tests}
 use Rattle.osb_instance.specs.declared.work.Work.{Work}
-use Rattle.osb_instance.specs.Begin.{begun, begun_by, begun_with, is_provision}
+use Rattle.osb_instance.specs.Begin.{begun, begun_by, begun_in, begun_with, begun_work, busy, conflict, conflicts}
+use Rattle.osb_instance.specs.Begin.{failed_row, is_provision, names_held, polled_held, too_late, waiting_by}
+use Rattle.osb_instance.specs.Begin.{waiting_deprovision, waits_for_poll}
 use Rattle.osb_instance.specs.Due.{work_due}
-use Rattle.osb_network.proofs.Arrivals.{arrives, later_same}
+use Rattle.osb_network.proofs.Arrivals.{arrives, busy_well, later_same, IsStepTo}
 use Rattle.osb_network.proofs.Ends.{work_ends}
-use Rattle.osb_network.proofs.Operations.{IsSideStep, finishes, becomes}
+use Rattle.osb_network.proofs.Operations.{IsSideStep, finishes, gives_up, becomes}
 use Rattle.osb_network.proofs.CellParts.{all_get, rests_at, sends_at, goes_on_at, answers_at, out_kind}
 use Rattle.osb_network.proofs.Taken.{Rests, rests_answered, rests_timeout, told_garbled, told_gateway}
 
@@ -62,7 +64,7 @@ and_both false b e = cc
 
 -- ---- the platform
 
-first_parts : (o : Order) (h : Held) (w : Option ℕ) (t : Thing) (sent : List Sent) (given : List Given)
+first_parts : (o : Order) (h : Held) (w : Option ℕ) (t : Resource) (sent : List Sent) (given : List Given)
     → h ≡ nothing_held → w ≡ None → t ≡ Absent → sent ≡ [] → given ≡ []
     → IsPossibleAt o Wanted (Some Provision) 1 h w t (sent ++ record { request = request_of o Provision; attempt = 1 } ∷ [])
     given
@@ -71,7 +73,7 @@ first_parts o h None t [] [] e f g a b =
     (record { request = request_of o Provision; attempt = 1 } ∷ []) []) (sym e)
     (record {
       is_out = refl;
-      kept = g;
+      kept = (g, refl);
       holds = tt;
       all_sent = (record { same = refl; numbered = omega arith; late = λ d. cc; latest = λ d. refl }, tt);
       all_given = tt;
@@ -92,7 +94,7 @@ kept_create c None all h = record {
   numbered = none_sent c.sent h.sent (request_of c.order Provision);
   service = refl;
   plan = refl;
-  parts = first_parts c.order c.held c.worker c.thing c.sent c.given h.held h.worker h.thing h.sent h.given;
+  parts = first_parts c.order c.held c.worker c.resource c.sent c.given h.held h.worker h.resource h.sent h.given;
 }
 kept_create c (Some rec) all h = all
 
@@ -116,7 +118,7 @@ kept_send_due c rec None (Some k) all h e =
       numbered = numbered_push 0 c.sent rec.attempt (request_of c.order k) h.numbered;
       service = h.service;
       plan = h.plan;
-      parts = sends_at c.order rec.row.state rec.row.out k rec.attempt c.held c.worker c.thing c.sent c.given h.parts e;
+      parts = sends_at c.order rec.row.state rec.row.out k rec.attempt c.held c.worker c.resource c.sent c.given h.parts e;
     }) all
 kept_send_due c rec None None all h e = all
 kept_send_due c rec (Some j) next all h e = all
@@ -126,13 +128,13 @@ kept_send c None all h = all
 kept_send c (Some rec) all h = kept_send_due c rec rec.row.out (due rec.row.state) all h refl
 
 kept_state : (c : Cell) (rec : Recorded) (s : State) → IsPossibleRecord c rec → IsSoundRow (in_state s rec.row)
-    → Rests c.order rec.row.state c.held c.thing s → IsPossible (with_state c rec s)
+    → Rests c.order rec.row.state c.held c.resource s → IsPossible (with_state c rec s)
 kept_state c rec s h sound rests = record {
   sound = sound;
   numbered = h.numbered;
   service = h.service;
   plan = h.plan;
-  parts = rests_at c.order rec.row.state s rec.row.out rec.attempt c.held c.worker c.thing c.sent c.given h.parts rests;
+  parts = rests_at c.order rec.row.state s rec.row.out rec.attempt c.held c.worker c.resource c.sent c.given h.parts rests;
 }
 
 kept_clean_up : (states : State → Bool) (c : Cell) (r : Option Recorded) → IsPossible c → IsPossibleWith c r
@@ -146,7 +148,7 @@ kept_give_up : (c : Cell) (r : Option Recorded) → IsPossible c → IsPossibleW
 kept_give_up c None all h = all
 kept_give_up c (Some rec) all h =
     kept_if (is_some rec.row.out) (with_state c rec (after_timeout rec.row.state)) c
-    (λ x. kept_state c rec _ h (timed_out_sound rec.row) (rests_timeout c.order rec.row.state c.held c.thing h.parts.holds)) all
+    (λ x. kept_state c rec _ h (timed_out_sound rec.row) (rests_timeout c.order rec.row.state c.held c.resource h.parts.holds)) all
 
 kept_take_out : (c : Cell) (rec : Recorded) (out : Option Kind) (a : Answer) → rec.row.out ≡ out → IsPossible c
     → IsPossibleRecord c rec → IfSome out (λ k. sent_in rec.row.state ≡ Some k)
@@ -154,7 +156,7 @@ kept_take_out : (c : Cell) (rec : Recorded) (out : Option Kind) (a : Answer) →
 kept_take_out c rec None a e all h is told = all
 kept_take_out c rec (Some k) a e all h is told =
     kept_state c rec _ h (answered_sound rec.row k a h.sound e)
-    (rests_answered c.order rec.row.state k c.held c.thing a is h.parts.kept h.parts.holds (told refl))
+    (rests_answered c.order rec.row.state k c.held c.resource a is h.parts.kept h.parts.holds (told refl))
 
 same : (n m : ℕ) → (n == m) ≡ true → n ≡ m
 same n m h = grind (arith, nat_tests)
@@ -206,17 +208,56 @@ kept_take_gateway c (Some rec) n all h =
 -- ---- the broker
 
 -- an answer at once leaves the work as it was
-answered_late : (x : Bool) (m : Option Mode) (h : Held) (r : Request) (a : Answer) (v : Option Work) → h.work ≡ None
-    → (if x then (h, Answered (record { status = 409; body = Body.Error ErrorCode.Other })) else begun_by v m h r).1 ≡ Answered a
-    → (if x then (h, Answered (record { status = 409; body = Body.Error ErrorCode.Other })) else begun_by v m h r).0.work ≡ h.work
-answered_late true m h r a v e f = refl
-answered_late false m h r a (Some w) e f = cc
-answered_late false m h r a None e f = sym e
+answered_work : (x : Bool) (w : Work) (m : Option Mode) (h : Held) (r : Request) (d : Digest) (a : Answer) → h.work ≡ None
+    → (begun_work x w m h r d).1 ≡ Answered a → (begun_work x w m h r d).0.work ≡ h.work
+answered_work true w m h r d a e is = sym e
+answered_work false w m h r d a e is = cc
 
-pub answered_with : (w : Option Request) (m : Option Mode) (h : Held) (r : Request) (a : Answer) → h.work ≡ w
-    → (begun_with w m h r).1 ≡ Answered a → (begun_with w m h r).0.work ≡ h.work
-answered_with (Some q) m h r a e f = refl
-answered_with None m h r a e f = answered_late (h.marked && is_provision r.kind) m h r a (work_due m h.row r) e f
+answered_by : (v : Option Work) (m : Option Mode) (f : Bool) (h : Held) (r : Request) (d : Digest) (a : Answer)
+    → h.work ≡ None → (begun_by v m f h r d).1 ≡ Answered a → (begun_by v m f h r d).0.work ≡ h.work
+answered_by (Some w) m f h r d a e is = answered_work (waits_for_poll r.kind m f) w m h r d a e is
+answered_by None m f h r d a e is = sym e
+
+answered_end : (x : Bool) (m : Option Mode) (h : Held) (r : Request) → h.work ≡ None
+    → (waiting_deprovision x m h r).0.work ≡ h.work
+answered_end true m h r e = sym e
+answered_end false m h r e = refl
+
+polled_work : (x : Bool) (h : Held) → (if x then polled_held h else h).work ≡ h.work
+polled_work true h = refl
+polled_work false h = refl
+
+answered_waiting : (k : Kind) (m : Option Mode) (h : Held) (r : Request) → h.work ≡ None
+    → (waiting_by k m h r).0.work ≡ h.work
+answered_waiting Provision m h r e = refl
+answered_waiting Poll m h r e = polled_work (names_held h.row None r) h
+answered_waiting Deprovision m h r e = answered_end (is_some (work_due m (failed_row h.row) r)) m h r e
+
+answered_in : (v : Bool) (m : Option Mode) (f : Bool) (h : Held) (r : Request) (d : Digest) (a : Answer)
+    → h.work ≡ None → (begun_in v m f h r d).1 ≡ Answered a → (begun_in v m f h r d).0.work ≡ h.work
+answered_in true m f h r d a e is = answered_waiting r.kind m h r e
+answered_in false m f h r d a e is = answered_by (work_due m h.row r) m f h r d a e is
+
+answered_late : (x : Bool) (m : Option Mode) (f : Bool) (h : Held) (r : Request) (d : Digest) (a : Answer)
+    → h.work ≡ None → (if x then (h, Answered too_late) else begun_in h.waiting m f h r d).1 ≡ Answered a
+    → (if x then (h, Answered too_late) else begun_in h.waiting m f h r d).0.work ≡ h.work
+answered_late true m f h r d a e is = refl
+answered_late false m f h r d a e is = answered_in h.waiting m f h r d a e is
+
+answered_idle : (w : Option Request) (m : Option Mode) (f : Bool) (h : Held) (r : Request) (d : Digest) (a : Answer)
+    → h.work ≡ w → (begun_with w m f h r d).1 ≡ Answered a → (begun_with w m f h r d).0.work ≡ h.work
+answered_idle (Some q) m f h r d a e is = refl
+answered_idle None m f h r d a e is = answered_late (h.tombstone && is_provision r.kind) m f h r d a e is
+
+answered_if : (x : Bool) (m : Option Mode) (f : Bool) (h : Held) (r : Request) (d : Digest) (a : Answer)
+    → (if x then (h, Answered conflict) else begun_with h.work m f h r d).1 ≡ Answered a
+    → (if x then (h, Answered conflict) else begun_with h.work m f h r d).0.work ≡ h.work
+answered_if true m f h r d a is = refl
+answered_if false m f h r d a is = answered_idle h.work m f h r d a refl is
+
+pub answered_with : (m : Option Mode) (f : Bool) (h : Held) (r : Request) (d : Digest) (a : Answer)
+    → (begun m f h r d).1 ≡ Answered a → (begun m f h r d).0.work ≡ h.work
+answered_with m f h r d a is = answered_if (conflicts h r d) m f h r d a is
 
 works_same : (out : Option Kind) (n : ℕ) (h g : Held) (w : Option ℕ) → g.work ≡ h.work → IfSome w (IsWorkOf out n h)
     → IfSome w (IsWorkOf out n g)
@@ -229,7 +270,7 @@ works_same out n h g (Some k) e p = record {
 -- a request arrives
 arrived_in : (c : Cell) (rec : Recorded) (x : Sent) (g : Held) (b : Begun) → IsPossibleRecord c rec
     → IsSentOf c.order rec.row.state rec.row.out rec.attempt x
-    → IsBrokerStep c.order rec.row.state x.request.kind c.held c.thing g b
+    → IsBrokerStep c.order rec.row.state x.request.kind c.held c.resource g b
     → ((a : Answer) → b ≡ Answered a → g.work ≡ c.held.work)
     → IsPossibleRecord (arrived c x g b) rec
 arrived_in c rec x g (Answered a) h q step work = record {
@@ -237,9 +278,9 @@ arrived_in c rec x g (Answered a) h q step work = record {
   numbered = h.numbered;
   service = h.service;
   plan = h.plan;
-  parts = answers_at c.order rec.row.state rec.row.out rec.attempt g c.worker c.thing c.sent c.given
+  parts = answers_at c.order rec.row.state rec.row.out rec.attempt g c.worker c.resource c.sent c.given
       (record { attempt = x.attempt; answer = a })
-      (goes_on_at c.order rec.row.state rec.row.out rec.attempt c.held g c.worker c.worker c.thing c.thing c.sent c.given
+      (goes_on_at c.order rec.row.state rec.row.out rec.attempt c.held g c.worker c.worker c.resource c.resource c.sent c.given
       h.parts step.kept step.later (works_same rec.row.out rec.attempt c.held g c.worker (work a refl) h.parts.works))
       (record {
         numbered = q.numbered;
@@ -251,7 +292,7 @@ arrived_in c rec x g (Begun.Work w) h q step work = record {
   numbered = h.numbered;
   service = h.service;
   plan = h.plan;
-  parts = goes_on_at c.order rec.row.state rec.row.out rec.attempt c.held g c.worker (Some x.attempt) c.thing c.thing c.sent
+  parts = goes_on_at c.order rec.row.state rec.row.out rec.attempt c.held g c.worker (Some x.attempt) c.resource c.resource c.sent
       c.given h.parts step.kept step.later (record {
         numbered = q.numbered;
         latest = λ e. subst (λ (v : Option Request). IfSome v (λ r. IfSome rec.row.out (λ k. r.kind ≡ k))) (sym step.told)
@@ -264,12 +305,12 @@ no_element [] at x e f = cc
 no_element (y ∷ ys) at x e f = cc
 
 arrives_request : (c : Cell) (s : State) (r : Request) → r ≡ request_of c.order r.kind
-    → (r.kind ≡ Deprovision → IsBefore s → ⊥) → IsKept c.order c.held c.thing → HeldByState c.order s c.held c.thing
-    → IsBrokerStep c.order s r.kind c.held c.thing (begun c.order.mode c.held r).0 (begun c.order.mode c.held r).1
+    → (r.kind ≡ Deprovision → IsBefore s → ⊥) → IsKept c.order c.held c.resource → HeldByState c.order s c.held c.resource
+    → IsStepTo c.order s r.kind c.held c.resource (begun c.order.mode c.order.first_poll c.held r c.order.attributes)
 arrives_request c s r e late kept holds =
-    subst (λ (q : Request). IsBrokerStep c.order s r.kind c.held c.thing (begun c.order.mode c.held q).0
-    (begun c.order.mode c.held q).1) (sym e)
-    (arrives c.order r.kind s c.held c.thing late kept holds)
+    subst (λ (q : Request). IsStepTo c.order s r.kind c.held c.resource
+    (begun c.order.mode c.order.first_poll c.held q c.order.attributes)) (sym e)
+    (arrives c.order r.kind s c.held c.resource late kept holds)
 
 -- a request that was found by its number was sent
 sent_by : (x : Bool) (sent : List Sent) (at : ℕ) (y : Sent) → (if x then None else slice_get sent at) ≡ Some y
@@ -287,19 +328,36 @@ kept_arrive c n (Some x) (Some rec) e h =
     (sent_by (n == 0) c.sent (n - 1) x e) in
     arrived_in c rec x _ _ h q
     (arrives_request c rec.row.state x.request q.same q.late h.parts.kept h.parts.holds)
-    (λ a is. answered_with c.held.work c.order.mode c.held x.request a refl is)
+    (λ a is. answered_with c.order.mode c.order.first_poll c.held x.request c.order.attributes a is)
+
+-- a request that is put off is answered, and all else stays
+kept_put_off : (c : Cell) (n : ℕ) (x : Option Sent) (r : Option Recorded) → sent_as c.sent n ≡ x → IsPossibleWith c r
+    → IsPossibleWith (put_off c x) r
+kept_put_off c n None None e h = h
+kept_put_off c n None (Some rec) e h = h
+kept_put_off c n (Some x) None e h = absurd (no_element c.sent (n - 1) x h.sent (sent_by (n == 0) c.sent (n - 1) x e))
+kept_put_off c n (Some x) (Some rec) e h =
+    let q = all_get (IsSentOf c.order rec.row.state rec.row.out rec.attempt) c.sent (n - 1) x h.parts.all_sent
+    (sent_by (n == 0) c.sent (n - 1) x e) in
+    arrived_in c rec x c.held (Answered (busy x.request.kind)) h q
+    (record {
+      kept = h.parts.kept;
+      later = later_same c.order rec.row.state c.held c.resource;
+      told = busy_well c.order rec.row.state x.request.kind c.held;
+    })
+    (λ a is. refl)
 
 -- the work ends
 ended_in : (c : Cell) (rec : Recorded) (q : Request) (g : Held) (a : Answer) (w : Option ℕ) → IsPossibleRecord c rec
     → c.held.work ≡ Some q → IfSome w (IsWorkOf rec.row.out rec.attempt c.held) → c.worker ≡ w
-    → IsBrokerStep c.order rec.row.state q.kind c.held c.thing g (Answered a)
+    → IsBrokerStep c.order rec.row.state q.kind c.held c.resource g (Answered a)
     → IsPossibleRecord (ended c g a w) rec
 ended_in c rec q g a None h e works is step = record {
   sound = h.sound;
   numbered = h.numbered;
   service = h.service;
   plan = h.plan;
-  parts = goes_on_at c.order rec.row.state rec.row.out rec.attempt c.held g c.worker c.worker c.thing c.thing c.sent c.given
+  parts = goes_on_at c.order rec.row.state rec.row.out rec.attempt c.held g c.worker c.worker c.resource c.resource c.sent c.given
       h.parts step.kept step.later (subst (λ v. IfSome v (IsWorkOf rec.row.out rec.attempt g)) (sym is) tt);
 }
 ended_in c rec q g a (Some n) h e works is step = record {
@@ -307,9 +365,9 @@ ended_in c rec q g a (Some n) h e works is step = record {
   numbered = h.numbered;
   service = h.service;
   plan = h.plan;
-  parts = answers_at c.order rec.row.state rec.row.out rec.attempt g None c.thing c.sent c.given
+  parts = answers_at c.order rec.row.state rec.row.out rec.attempt g None c.resource c.sent c.given
       (record { attempt = n; answer = a })
-      (goes_on_at c.order rec.row.state rec.row.out rec.attempt c.held g c.worker None c.thing c.thing c.sent c.given
+      (goes_on_at c.order rec.row.state rec.row.out rec.attempt c.held g c.worker None c.resource c.resource c.sent c.given
       h.parts step.kept step.later tt)
       (record {
         numbered = works.numbered;
@@ -326,25 +384,25 @@ kept_in false a b r on h = h
 no_work : (h : Held) (q : Request) → h ≡ nothing_held → h.work ≡ Some q → ⊥
 no_work h q e f = let n : h.work ≡ None = ap (λ (x : Held). x.work) e in cc
 
-kept_end : (c : Cell) (q : Option Request) (oc : Outcome) (r : Option Recorded) → c.held.work ≡ q → IsPossibleWith c r
+kept_end : (c : Cell) (q : Option Request) (oc : WorkOutcome) (r : Option Recorded) → c.held.work ≡ q → IsPossibleWith c r
     → IsPossibleWith (end c q oc) r
 kept_end c None oc r e h = h
 kept_end c (Some q) oc None e h = absurd (no_work c.held q h.held e)
 kept_end c (Some q) oc (Some rec) e h =
-    kept_in (is_true_end c.order.mode q.kind oc c.thing) _ c (Some rec) (λ x.
+    kept_in (is_true_end c.order.mode q.kind oc c.resource) _ c (Some rec) (λ x.
     ended_in c rec q _ _ c.worker h e h.parts.works refl
-    (work_ends c.order rec.row.state c.held q c.thing oc e h.parts.kept h.parts.holds x)) h
+    (work_ends c.order rec.row.state c.held q c.resource oc e h.parts.kept h.parts.holds x)) h
 
--- an operation ends, or the thing changes
-side_in : (c : Cell) (rec : Recorded) (g : Held) (u : Thing) → IsPossibleRecord c rec → g.work ≡ c.held.work
-    → IsSideStep c.order rec.row.state c.held c.thing g u
-    → IsPossibleRecord (record c { held = g; thing = u }) rec
+-- an operation ends, or the resource changes
+side_in : (c : Cell) (rec : Recorded) (g : Held) (u : Resource) → IsPossibleRecord c rec → g.work ≡ c.held.work
+    → IsSideStep c.order rec.row.state c.held c.resource g u
+    → IsPossibleRecord (record c { held = g; resource = u }) rec
 side_in c rec g u h e step = record {
   sound = h.sound;
   numbered = h.numbered;
   service = h.service;
   plan = h.plan;
-  parts = goes_on_at c.order rec.row.state rec.row.out rec.attempt c.held g c.worker c.worker c.thing u c.sent c.given h.parts
+  parts = goes_on_at c.order rec.row.state rec.row.out rec.attempt c.held g c.worker c.worker c.resource u c.sent c.given h.parts
       step.kept step.later (works_same rec.row.out rec.attempt c.held g c.worker e h.parts.works);
 }
 
@@ -352,9 +410,9 @@ is_none_is : (w : Option Request) → is_none w ≡ true → w ≡ None
 is_none_is None e = refl
 is_none_is (Some q) e = cc
 
-nothing_runs : (h : Held) → h ≡ nothing_held → is_running h.row ≡ true → ⊥
-nothing_runs h e f = let n : h.row ≡ None = ap (λ (x : Held). x.row) e in
-    let g : is_running None ≡ true = subst (λ (b : Option BrokerRow). is_running b ≡ true) n f in cc
+nothing_runs : (h : Held) → h ≡ nothing_held → is_operating h ≡ true → ⊥
+nothing_runs h e f =
+    let g : is_operating nothing_held ≡ true = subst (λ (x : Held). is_operating x ≡ true) e f in cc
 
 kept_finish : (c : Cell) (ok : Bool) (r : Option Recorded) → IsPossibleWith c r
     → IsPossibleWith (if can_finish c ok then record c { held = finished_held c.held ok } else c) r
@@ -365,24 +423,36 @@ kept_finish c ok (Some rec) h =
     kept_in (can_finish c ok) _ c (Some rec) (λ x.
     let two = and_both _ _ x in
     let one = and_both _ _ two.0 in
-    side_in c rec (finished_held c.held ok) c.thing h refl
-    (finishes c.order rec.row.state c.held c.thing ok h.parts.kept (is_none_is c.held.work one.0) one.1 two.1)) h
+    side_in c rec (finished_held c.held ok) c.resource h refl
+    (finishes c.order rec.row.state c.held c.resource ok h.parts.kept (is_none_is c.held.work one.0) one.1 two.1)) h
 
-nothing_becomes : (h : Held) (u : Thing) → h ≡ nothing_held → is_under_way h ≡ true → ⊥
+nothing_waits : (h : Held) → h ≡ nothing_held → h.waiting ≡ true → ⊥
+nothing_waits h e f =
+    let g : nothing_held.waiting ≡ true = subst (λ (x : Held). x.waiting ≡ true) e f in cc
+
+kept_waiting : (c : Cell) (r : Option Recorded) → IsPossibleWith c r
+    → IsPossibleWith (if c.held.waiting then record c { held = given_up c.held } else c) r
+kept_waiting c None h = kept_in c.held.waiting _ c None (λ x. absurd (nothing_waits c.held h.held x)) h
+kept_waiting c (Some rec) h =
+    kept_in c.held.waiting _ c (Some rec) (λ x.
+    side_in c rec (given_up c.held) c.resource h refl
+    (gives_up c.order rec.row.state c.held c.resource h.parts.kept x)) h
+
+nothing_becomes : (h : Held) (u : Resource) → h ≡ nothing_held → is_under_way h ≡ true → ⊥
 nothing_becomes h u e f =
     let g : is_under_way nothing_held ≡ true = subst (λ (x : Held). is_under_way x ≡ true) e f in cc
 
-kept_work : (c : Cell) (u : Thing) (r : Option Recorded) → IsPossibleWith c r
-    → IsPossibleWith (if is_under_way c.held then record c { thing = u } else c) r
+kept_work : (c : Cell) (u : Resource) (r : Option Recorded) → IsPossibleWith c r
+    → IsPossibleWith (if is_under_way c.held then record c { resource = u } else c) r
 kept_work c u None h =
     kept_in (is_under_way c.held) _ c None (λ x. absurd (nothing_becomes c.held u h.held x)) h
 kept_work c u (Some rec) h =
     kept_in (is_under_way c.held) _ c (Some rec) (λ x.
-    side_in c rec c.held u h refl (becomes c.order rec.row.state c.held c.thing u h.parts.kept x)) h
+    side_in c rec c.held u h refl (becomes c.order rec.row.state c.held c.resource u h.parts.kept x)) h
 
 kept_crash : (c : Cell) (r : Option Recorded) → IsPossibleWith c r → IsPossibleWith (record c { worker = None }) r
 kept_crash c None h =
-    record { held = h.held; worker = refl; thing = h.thing; sent = h.sent; given = h.given }
+    record { held = h.held; worker = refl; resource = h.resource; sent = h.sent; given = h.given }
 kept_crash c (Some rec) h = record {
   sound = h.sound;
   numbered = h.numbered;
@@ -411,10 +481,10 @@ kept_unknown c (Some n) (Some rec) e h =
       numbered = h.numbered;
       service = h.service;
       plan = h.plan;
-      parts = answers_at c.order rec.row.state rec.row.out rec.attempt c.held None c.thing c.sent c.given
+      parts = answers_at c.order rec.row.state rec.row.out rec.attempt c.held None c.resource c.sent c.given
           (record { attempt = n; answer = unknown })
-          (goes_on_at c.order rec.row.state rec.row.out rec.attempt c.held c.held c.worker None c.thing c.thing c.sent
-          c.given h.parts h.parts.kept (later_same c.order rec.row.state c.held c.thing) tt)
+          (goes_on_at c.order rec.row.state rec.row.out rec.attempt c.held c.held c.worker None c.resource c.resource c.sent
+          c.given h.parts h.parts.kept (later_same c.order rec.row.state c.held c.resource) tt)
           (record {
             numbered = works.numbered;
             told = λ f some. told_gateway c.order rec.row.state c.held 500 unknown.body (omega arith);
@@ -432,6 +502,10 @@ pub arrive_recorded : (c : Cell) (x : Option Sent) → (arrive c x).recorded ≡
 arrive_recorded c None = refl
 arrive_recorded c (Some x) = arrived_recorded c x _ _
 
+pub put_off_recorded : (c : Cell) (x : Option Sent) → (put_off c x).recorded ≡ c.recorded
+put_off_recorded c None = refl
+put_off_recorded c (Some x) = refl
+
 pub if_recorded : (t : Bool) (a c : Cell) → a.recorded ≡ c.recorded → (if t then a else c).recorded ≡ c.recorded
 if_recorded true a c e = e
 if_recorded false a c e = refl
@@ -440,10 +514,10 @@ ended_recorded : (c : Cell) (g : Held) (a : Answer) (w : Option ℕ) → (ended 
 ended_recorded c g a None = refl
 ended_recorded c g a (Some n) = refl
 
-pub end_recorded : (c : Cell) (q : Option Request) (oc : Outcome) → (end c q oc).recorded ≡ c.recorded
+pub end_recorded : (c : Cell) (q : Option Request) (oc : WorkOutcome) → (end c q oc).recorded ≡ c.recorded
 end_recorded c None oc = refl
 end_recorded c (Some q) oc =
-    if_recorded (is_true_end c.order.mode q.kind oc c.thing) _ c (ended_recorded c _ _ c.worker)
+    if_recorded (is_true_end c.order.mode q.kind oc c.resource) _ c (ended_recorded c _ _ c.worker)
 
 unknown_recorded : (c : Cell) (w : Option ℕ) → (end_unknown c w).recorded ≡ c.recorded
 unknown_recorded c None = refl
@@ -456,11 +530,15 @@ pub kept_step : (c : Cell) (e : Event) → IsPossible c → IsPossible (cell_ste
 kept_step c Event.Create h = kept_create c c.recorded h h
 kept_step c Event.Send h = kept_send c c.recorded h h
 kept_step c Event.Expire h = kept_clean_up is_polling c c.recorded h h
+kept_step c Event.Retry h = kept_clean_up is_deleting c c.recorded h h
 kept_step c Event.Remove h = kept_clean_up is_removable c c.recorded h h
 kept_step c Event.Timeout h = kept_give_up c c.recorded h h
 kept_step c (Event.Arrive n) h =
     possible_by (arrive c (sent_as c.sent n)) c (arrive_recorded c (sent_as c.sent n))
     (kept_arrive c n (sent_as c.sent n) c.recorded refl h)
+kept_step c (Event.PutOff n) h =
+    possible_by (put_off c (sent_as c.sent n)) c (put_off_recorded c (sent_as c.sent n))
+    (kept_put_off c n (sent_as c.sent n) c.recorded refl h)
 kept_step c (Event.Take at) h = kept_take_given c at (slice_get c.given at) refl h
 kept_step c (Event.TakeGarbled at) h = kept_take_garbled c at (slice_get c.given at) refl h
 kept_step c (Event.TakeGateway n) h = kept_take_gateway c c.recorded n h h
@@ -469,15 +547,17 @@ kept_step c (Event.End oc) h =
 kept_step c (Event.Finish ok) h =
     possible_by _ c (if_recorded (can_finish c ok) (record c { held = finished_held c.held ok }) c refl)
     (kept_finish c ok c.recorded h)
+kept_step c Event.GiveUpWaiting h =
+    possible_by _ c (if_recorded c.held.waiting (record c { held = given_up c.held }) c refl) (kept_waiting c c.recorded h)
 kept_step c (Event.Work u) h =
-    possible_by _ c (if_recorded (is_under_way c.held) (record c { thing = u }) c refl) (kept_work c u c.recorded h)
+    possible_by _ c (if_recorded (is_under_way c.held) (record c { resource = u }) c refl) (kept_work c u c.recorded h)
 kept_step c Event.EndUnknown h =
     possible_by (end_unknown c c.worker) c (unknown_recorded c c.worker) (kept_unknown c c.worker c.recorded refl h)
 kept_step c Event.CrashBroker h = kept_crash c c.recorded h
 kept_step c Event.CrashPlatform h = h
 
 pub possible_empty : (o : Order) → IsPossible (empty_cell o)
-possible_empty o = record { held = refl; worker = refl; thing = refl; sent = refl; given = refl }
+possible_empty o = record { held = refl; worker = refl; resource = refl; sent = refl; given = refl }
 
 pub kept_steps : (c : Cell) (events : List Event) → IsPossible c → IsPossible (cell_steps c events)
 kept_steps c [] h = h

@@ -10,3 +10,5 @@ pub mod Rounds
 pub mod Numbers
 pub mod Many
 pub mod PartWay
+pub mod Says
+pub mod Alone

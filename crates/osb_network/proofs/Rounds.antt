@@ -1,6 +1,6 @@
 -- A fault-free round brings an instance nearer to where nothing is due, and three settle it.
 use Rattle.std.proofs.Common.{◌≡◌, ◌≢◌, ℕ, Bool, true, false, arith, refl, sym, ◌∙◌, ap, subst, ◌≤◌}
-use Rattle.std.specs.Prelude.{◌+◌, ◌-◌, ◌==◌, ◌||◌, if◌then◌else◌, is_some, nat_lt, length, slice_get, ⊤}
+use Rattle.std.specs.Prelude.{◌+◌, ◌-◌, ◌==◌, ◌||◌, ◌&&◌, not, IsSomeAnd, if◌then◌else◌, is_some, nat_lt, length, slice_get, ⊤}
 use Rattle.std.specs.Prelude.{Option, Some, None, IsSome, IfSome, Result, Ok, Err, OnOk, List, [], ◌∷◌, ◌++◌}
 use Rattle.std.proofs.lemmas.Bool.Decides.{nat_tests}
 use Rattle.osb_message.specs.declared.catalogue.Mode.{Mode}
@@ -9,10 +9,11 @@ use Rattle.osb_message.specs.declared.messages.Answer.{Answer}
 use Rattle.osb_message.specs.declared.messages.Kind.{Kind}
 use Rattle.osb_message.specs.declared.messages.Kind.TheVariants.{Provision, Poll, Deprovision}
 use Rattle.osb_message.specs.declared.messages.Request.{Request}
-use Rattle.osb_broker.specs.declared.outcome.Outcome.TheVariants.{Done}
+use Rattle.osb_broker.specs.declared.outcome.Outcome.TheVariants as table
+use Rattle.osb_instance.specs.declared.digest.Digest.{Digest}
+use Rattle.osb_instance.specs.declared.outcome.WorkOutcome.TheVariants.{Done}
 use Rattle.osb_broker.specs.declared.row.BrokerRow.{BrokerRow}
 use Rattle.osb_broker.specs.declared.row.Phase.{Phase}
-use Rattle.osb_broker.specs.Decided.{decided}
 use Rattle.osb_broker.specs.Finished.{finished, finished_in, is_running_in}
 use Rattle.osb_broker.specs.Poll.{own_poll}
 use Rattle.osb_platform.specs.declared.state.State.{State}
@@ -22,25 +23,25 @@ use Rattle.osb_platform.specs.PlatformRow.{in_state}
 use Rattle.osb_platform.specs.State.{after_timeout, due, state_after, state_after_poll, state_after_deprovision}
 use Rattle.osb_instance.specs.declared.record.Sent.{Sent}
 use Rattle.osb_instance.specs.declared.work.Begun.{Begun}
-use Rattle.osb_instance.specs.declared.work.Work.{Work}
-use Rattle.osb_instance.specs.Begin.{begun, begun_by, ends, is_provision, kept, worked}
-use Rattle.osb_instance.specs.Due.{tells_outcome, work_due, work_of}
+use Rattle.osb_instance.specs.declared.work.Begun.TheVariants.{Answered}
+use Rattle.osb_instance.specs.Begin.{begun, worked}
 use Rattle.osb_instance.specs.Held.{Held}
 use Rattle.osb_instance.specs.Recorded.{Recorded}
 use Rattle.osb_network.specs.declared.event.Event.{Event}
 use Rattle.osb_network.specs.declared.event.Given.{Given}
 use Rattle.osb_network.specs.declared.order.Order.{Order}
-use Rattle.osb_network.specs.declared.thing.Thing.{Thing}
+use Rattle.osb_network.specs.declared.resource.Resource.{Resource}
 use Rattle.osb_network.specs.Cell.{Cell, IsNumbered, IsPossible, IsPossibleRecord}
-use Rattle.osb_network.specs.Possible.{IsKeptAs, IsRow, HeldByState, refuses, request_of, row_of}
-use Rattle.osb_network.specs.Settling.{after_round, exchanged, good_of, good_thing, number_out, operated_well, settled_cell}
+use Rattle.osb_network.specs.Possible.{IsBefore, IsBrokerStep, IsInDeletion, IsKept, IsKeptAs, IsLeavingAs, IsRow}
+use Rattle.osb_network.specs.Possible.{HeldByState, attributes_of, refuses, request_of, row_of}
+use Rattle.osb_network.specs.Settling.{after_round, exchanged, good_of, good_resource, number_out, operated_well, settled_cell}
 use Rattle.osb_network.specs.Settling.{with_answer, with_arrival, with_good, worked_well}
 use Rattle.osb_network.specs.Settling.{HasNumbers, IsSettled, IsSettledIn, ThreeRoundsSettle}
 use Rattle.osb_network.specs.Steps.{arrive, arrived, cell_step, end, ended, give_up, has_number, next_recorded, send, send_due}
 use Rattle.osb_network.specs.Steps.{sent_as, take, take_given, take_out, with_given, with_sent, with_state}
-use Rattle.osb_network.specs.Truth.{is_true_end, is_under_way_by}
-use Rattle.osb_network.proofs.Arrivals.{held, order}
-use Rattle.osb_network.proofs.Kept.{arrive_recorded, end_recorded, kept_step, with_rec}
+use Rattle.osb_network.specs.Truth.{is_true_end, is_under_way, is_under_way_by}
+use Rattle.osb_network.proofs.Arrivals.{arrives, begun_is_now, begun_now, held, held_as, order, row_held, waiting_held}
+use Rattle.osb_network.proofs.Kept.{answered_with, arrive_recorded, end_recorded, kept_step, with_rec}
 
 -- ---- what a step leaves of a cell
 
@@ -48,11 +49,11 @@ of_either : {X : Type 0} (f : Cell → X) (x : Bool) (a c : Cell) → f a ≡ f 
 of_either f true a c e = e
 of_either f false a c e = refl
 
-good_keeps : {X : Type 0} (f : Cell → X) (c : Cell) → ((t : Thing) → f (record c { thing = t }) ≡ f c)
+good_keeps : {X : Type 0} (f : Cell → X) (c : Cell) → ((t : Resource) → f (record c { resource = t }) ≡ f c)
     → f (with_good c) ≡ f c
 good_keeps f c e =
-    let t : Thing = good_thing c.held.work c.held.row in
-    of_either f (is_under_way_by c.held.work c.held.row) (record c { thing = t }) c (e t)
+    let t : Resource = good_resource c.held.work c.held.row in
+    of_either f (is_under_way c.held) (record c { resource = t }) c (e t)
 
 if_true : {X : Type 0} (x : Bool) (a c : X) → x ≡ true → (if x then a else c) ≡ a
 if_true true a c e = refl
@@ -62,7 +63,7 @@ if_false : {X : Type 0} (x : Bool) (a c : X) → x ≡ false → (if x then a el
 if_false true a c e = cc
 if_false false a c e = refl
 
--- ---- the recorded work ends well
+-- ---- the pending work ends well
 
 end_none : (c : Cell) (w : Option Request) → w ≡ None → end c w Done ≡ c
 end_none c None e = refl
@@ -82,11 +83,11 @@ true_good None Deprovision n = refl
 true_good m Poll n = absurd (n refl)
 
 abbrev made_good : Cell → Kind → Cell
-made_good c k = record c { thing = good_of k }
+made_good c k = record c { resource = good_of k }
 
 good_made : (c : Cell) (q : Request) → c.held.work ≡ Some q → with_good c ≡ made_good c q.kind
 good_made c q e =
-    λ i. if is_under_way_by (e i) c.held.row then record c { thing = good_thing (e i) c.held.row } else c
+    λ i. if is_under_way_by (e i) c.held then record c { resource = good_resource (e i) c.held.row } else c
 
 abbrev after_work : Cell → Request → Cell
 after_work c q =
@@ -104,14 +105,17 @@ ended_held c g a None = refl
 ended_held c g a (Some n) = refl
 
 -- no Poll is ever work
-work_kinds : (o : Order) (b : Option BrokerRow) (w : Option Request) (x : Bool) (t : Thing) → IsKeptAs o b w x t
+work_kinds : (o : Order) (b : Option BrokerRow) (w : Option Request) (x v : Bool) (t : Resource) → IsKeptAs o b w x v t
     → IfSome w (λ q. q.kind ≢ Poll)
-work_kinds o b None x t kept = tt
-work_kinds o None (Some q) false t kept = λ e. (let f : q.kind ≡ Provision = ap (λ (r : Request). r.kind) kept.0 in cc)
-work_kinds o (Some b) (Some q) false t kept =
+work_kinds o b None x v t kept = tt
+work_kinds o None (Some q) false false t kept =
+    λ e. (let f : q.kind ≡ Provision = ap (λ (r : Request). r.kind) kept.0 in cc)
+work_kinds o (Some b) (Some q) false false t kept =
     λ e. (let f : q.kind ≡ Deprovision = ap (λ (r : Request). r.kind) kept.0 in cc)
-work_kinds o None (Some q) true t kept = absurd kept
-work_kinds o (Some b) (Some q) true t kept = absurd kept
+work_kinds o None (Some q) true v t kept = absurd kept
+work_kinds o None (Some q) false true t kept = absurd kept
+work_kinds o (Some b) (Some q) true v t kept = absurd kept
+work_kinds o (Some b) (Some q) false true t kept = absurd kept
 
 no_work_after : (c : Cell) (w : Option Request) → c.held.work ≡ w → IfSome w (λ q. q.kind ≢ Poll)
     → (worked_well c).held.work ≡ None
@@ -127,50 +131,87 @@ worked_recorded c =
 
 -- ---- the operation that runs ends well
 
-abbrev at : Cell → Option BrokerRow → Bool → Cell
-at c b x = record c { held = held b None x }
+abbrev at : Cell → Option BrokerRow → Bool → Bool → Digest → Cell
+at c b x v d = record c { held = record { row = b; work = None; tombstone = x; waiting = v; attributes = d } }
 
-abbrev IsOperated : Cell → Option BrokerRow → Type 0
-IsOperated c b = ((operated_well c).held.row ≡ finished b true) × ((operated_well c).held.work ≡ None)
+-- the row after it; one that waits for its first Poll stays
+abbrev operated_row : Bool → Option BrokerRow → Option BrokerRow
+operated_row true b = b
+operated_row false b = finished b true
 
-operated_in : (c : Cell) (s p : ℕ) (h : Phase) (x : Bool)
-    → IsOperated (at c (Some (record { service = s; plan = p; phase = h })) x)
-    (Some (record { service = s; plan = p; phase = h }))
-operated_in c s p Phase.Making x = (refl, refl)
-operated_in c s p Phase.Deleting x = (refl, refl)
-operated_in c s p Phase.Ready x = (refl, refl)
-operated_in c s p Phase.Failed x = (refl, refl)
-operated_in c s p Phase.DeleteFailed x = (refl, refl)
+record IsOperated (c : Cell) (b : Option BrokerRow) (v : Bool) : Type 0 where
+  pub row : (operated_well c).held.row ≡ operated_row v b
+  pub work : (operated_well c).held.work ≡ None
+  pub waiting : (operated_well c).held.waiting ≡ v
 
-operated_at : (c : Cell) (b : Option BrokerRow) (x : Bool) → IsOperated (at c b x) b
-operated_at c None x = (refl, refl)
-operated_at c (Some b) x = operated_in c b.service b.plan b.phase x
+operated_in : (c : Cell) (s p : ℕ) (h : Phase) (x v : Bool) (d : Digest)
+    → IsOperated (at c (Some (record { service = s; plan = p; phase = h })) x v d)
+    (Some (record { service = s; plan = p; phase = h })) v
+operated_in c s p Phase.Making x true d = record { row = refl; work = refl; waiting = refl }
+operated_in c s p Phase.Deleting x true d = record { row = refl; work = refl; waiting = refl }
+operated_in c s p Phase.Ready x true d = record { row = refl; work = refl; waiting = refl }
+operated_in c s p Phase.Failed x true d = record { row = refl; work = refl; waiting = refl }
+operated_in c s p Phase.DeleteFailed x true d = record { row = refl; work = refl; waiting = refl }
+operated_in c s p Phase.Making x false d = record { row = refl; work = refl; waiting = refl }
+operated_in c s p Phase.Deleting x false d = record { row = refl; work = refl; waiting = refl }
+operated_in c s p Phase.Ready x false d = record { row = refl; work = refl; waiting = refl }
+operated_in c s p Phase.Failed x false d = record { row = refl; work = refl; waiting = refl }
+operated_in c s p Phase.DeleteFailed x false d = record { row = refl; work = refl; waiting = refl }
 
-operated : (c : Cell) → c.held.work ≡ None → IsOperated c c.held.row
+operated_at : (c : Cell) (b : Option BrokerRow) (x v : Bool) (d : Digest) → IsOperated (at c b x v d) b v
+operated_at c None x true d = record { row = refl; work = refl; waiting = refl }
+operated_at c None x false d = record { row = refl; work = refl; waiting = refl }
+operated_at c (Some b) x v d = operated_in c b.service b.plan b.phase x v d
+
+operated : (c : Cell) → c.held.work ≡ None → IsOperated c c.held.row c.held.waiting
 operated c e =
-    let same : at c c.held.row c.held.marked ≡ c =
-    λ i. record c { held = held c.held.row (sym e i) c.held.marked } in
-    subst (λ (d : Cell). IsOperated d c.held.row) same (operated_at c c.held.row c.held.marked)
+    let same : at c c.held.row c.held.tombstone c.held.waiting c.held.attributes ≡ c =
+    λ i. record c {
+      held = record {
+        row = c.held.row;
+        work = sym e i;
+        tombstone = c.held.tombstone;
+        waiting = c.held.waiting;
+        attributes = c.held.attributes;
+      };
+    } in
+    subst (λ (d : Cell). IsOperated d c.held.row c.held.waiting) same
+    (operated_at c c.held.row c.held.tombstone c.held.waiting c.held.attributes)
 
 operated_recorded : (c : Cell) → (operated_well c).recorded ≡ c.recorded
 operated_recorded c =
     of_either (λ (d : Cell). d.recorded) _ _ (with_good c) refl ∙ good_keeps (λ (d : Cell). d.recorded) c (λ t. refl)
 
-abbrev IsQuiet : Option BrokerRow → Type 0
-IsQuiet b = IfSome b (λ row. is_running_in row.phase ≡ false)
+abbrev IsQuiet : Option BrokerRow → Bool → Type 0
+IsQuiet b v = IfSome b (λ row. (is_running_in row.phase && not v) ≡ false)
 
-quiet_in : (s p : ℕ) (h : Phase) → IsQuiet (finished_in h (record { service = s; plan = p; phase = h }) true)
+quiet_waiting : (x : Bool) → (x && not true) ≡ false
+quiet_waiting true = refl
+quiet_waiting false = refl
+
+quiet_in : (s p : ℕ) (h : Phase) → IsQuiet (finished_in h (record { service = s; plan = p; phase = h }) true) false
 quiet_in s p Phase.Making = refl
 quiet_in s p Phase.Deleting = tt
-quiet_in s p h = refl
+quiet_in s p Phase.Ready = refl
+quiet_in s p Phase.Failed = refl
+quiet_in s p Phase.DeleteFailed = refl
 
-quiet_after : (b : Option BrokerRow) → IsQuiet (finished b true)
-quiet_after None = tt
-quiet_after (Some b) = quiet_in b.service b.plan b.phase
+quiet_after : (b : Option BrokerRow) (v : Bool) → IsQuiet (operated_row v b) v
+quiet_after None true = tt
+quiet_after None false = tt
+quiet_after (Some b) true = quiet_waiting (is_running_in b.phase)
+quiet_after (Some b) false = quiet_in b.service b.plan b.phase
 
 deleted_after : (b : Option BrokerRow) → IfSome b (λ row. row.phase ≡ Phase.Deleting) → finished b true ≡ None
 deleted_after None h = refl
 deleted_after (Some b) h = ap (λ p. finished_in p b true) h
+
+abbrev IsReadyRow : Option BrokerRow → Type 0
+IsReadyRow b = IsSomeAnd b (λ row. row.phase ≡ Phase.Ready)
+
+made_after : (b : Option BrokerRow) → IsSomeAnd b (λ row. row.phase ≡ Phase.Making) → IsReadyRow (finished b true)
+made_after None h = absurd h
+made_after (Some b) h = subst (λ (p : Phase). IsReadyRow (finished_in p b true)) (sym h) refl
 
 -- ---- what is out is given up
 
@@ -210,70 +251,72 @@ not_wanted s = λ e. cc
 
 -- ---- a request is done and answered
 
--- what is kept once a request has come and its work, if it has some, is done
-abbrev kept_by : Option Work → Option Mode → Option BrokerRow → Bool → Request → Held
-kept_by (Some v) m b x q = kept (held b (Some q) x) q (decided m b q Done)
-kept_by None m b x q = held b None (x || ends q.kind b)
+-- what is held and answered once what was begun is done
+abbrev done_as : Begun → Held → Option Mode → Request → Held × Answer
+done_as (Answered a) h m q = (h, a)
+done_as (Begun.Work w) h m q = worked m h q Done
+
+-- what was begun is done by the fault-free round: there is no work, or that of the request
+abbrev IsRight : Begun → Held → Request → Type 0
+IsRight (Answered a) h q = h.work ≡ None
+IsRight (Begun.Work w) h q = (h.work ≡ Some q) × (q.kind ≢ Poll)
 
 -- a cell in which a request was done and answered
-record IsDone (w : Option Work) (c : Cell) (b : Option BrokerRow) (x : Bool) (d : Cell) (n : ℕ) (q : Request)
-    : Type 0 where
+record IsDone (c d : Cell) (n : ℕ) (p : Held × Answer) : Type 0 where
   pub recorded : d.recorded ≡ c.recorded
-  pub held : d.held ≡ kept_by w c.order.mode b x q
-  pub given : d.given
-      ≡ c.given ++ record { attempt = n; answer = (decided c.order.mode b q Done).answer } ∷ []
+  pub held : d.held ≡ p.0
+  pub given : d.given ≡ c.given ++ record { attempt = n; answer = p.1 } ∷ []
 
-done_by : (w : Option Work) (c : Cell) (b : Option BrokerRow) (x : Bool) (y : Sent)
-    → (IsSome w → y.request.kind ≢ Poll)
-    → IsDone w c b x
-    (worked_well (arrived (at c b x) y (begun_by w c.order.mode (held b None x) y.request).0
-    (begun_by w c.order.mode (held b None x) y.request).1)) y.attempt y.request
-done_by (Some v) c b x y k =
-    let d : Cell = record c { held = held b (Some y.request) x; worker = Some y.attempt } in
-    let e : worked_well d ≡ after_work d y.request = work_done d y.request refl (k refl) in
+done_by : (b : Begun) (h : Held) (c : Cell) (y : Sent) → IsRight b h y.request
+    → IsDone c (worked_well (arrived c y h b)) y.attempt (done_as b h c.order.mode y.request)
+done_by (Begun.Work w) h c y right =
+    let d : Cell = record c { held = h; worker = Some y.attempt } in
+    let e : worked_well d ≡ after_work d y.request = work_done d y.request right.0 right.1 in
     record {
       recorded = ap (λ (d : Cell). d.recorded) e;
       held = ap (λ (d : Cell). d.held) e;
       given = ap (λ (d : Cell). d.given) e;
     }
-done_by None c b x y k =
-    let d : Cell = with_given (record c { held = held b None (x || ends y.request.kind b) }) y.attempt
-    (decided c.order.mode b y.request Done).answer in
-    let e : worked_well d ≡ with_good d = idle_worked d refl in
+done_by (Answered a) h c y right =
+    let d : Cell = with_given (record c { held = h }) y.attempt a in
+    let e : worked_well d ≡ with_good d = idle_worked d right in
     record {
       recorded = ap (λ (d : Cell). d.recorded) e ∙ good_keeps (λ (d : Cell). d.recorded) d (λ t. refl);
       held = ap (λ (d : Cell). d.held) e ∙ good_keeps (λ (d : Cell). d.held) d (λ t. refl);
       given = ap (λ (d : Cell). d.given) e ∙ good_keeps (λ (d : Cell). d.given) d (λ t. refl);
     }
 
-begun_is : (m : Option Mode) (b : Option BrokerRow) (x : Bool) (q : Request) → is_provision q.kind ≡ false
-    → begun m (held b None x) q ≡ begun_by (work_due m b q) m (held b None x) q
-begun_is m b true q e = if_false (is_provision q.kind) _ (begun_by (work_due m b q) m (held b None true) q) e
-begun_is m b false q e = refl
+abbrev begins : Order → Held → Kind → Held × Begun
+begins o h k = begun o.mode o.first_poll h (request_of o k) o.attributes
 
-due_kind : (x : Bool) (k : Kind) (m : Option Mode) → IsSome (if x then work_of k m else None) → k ≢ Poll
-due_kind false k m some = cc
-due_kind true Poll m some = cc
-due_kind true k m some = λ e. cc
+-- what is held and answered once a request of the kind was done
+abbrev exch : Order → Held → Kind → Held × Answer
+exch o h k = done_as (begins o h k).1 (begins o h k).0 o.mode (request_of o k)
 
-done_at : (c : Cell) (b : Option BrokerRow) (x : Bool) (y : Sent) → is_provision y.request.kind ≡ false
-    → IsDone (work_due c.order.mode b y.request) c b x (worked_well (arrive (at c b x) (Some y))) y.attempt y.request
-done_at c b x y e =
-    subst (λ (g : Held × Begun). IsDone (work_due c.order.mode b y.request) c b x
-    (worked_well (arrived (at c b x) y g.0 g.1)) y.attempt y.request)
-    (sym (begun_is c.order.mode b x y.request e))
-    (done_by (work_due c.order.mode b y.request) c b x y
-    (due_kind (tells_outcome c.order.mode b y.request) y.request.kind c.order.mode))
+done : (c : Cell) (k : Kind) (n : ℕ)
+    → IsRight (begins c.order c.held k).1 (begins c.order c.held k).0 (request_of c.order k)
+    → IsDone c (worked_well (arrive c (Some (record { request = request_of c.order k; attempt = n })))) n
+    (exch c.order c.held k)
+done c k n right =
+    done_by (begins c.order c.held k).1 (begins c.order c.held k).0 c
+    (record { request = request_of c.order k; attempt = n }) right
 
-done : (c : Cell) (y : Sent) → c.held.work ≡ None → is_provision y.request.kind ≡ false
-    → IsDone (work_due c.order.mode c.held.row y.request) c c.held.row c.held.marked
-    (worked_well (arrive c (Some y))) y.attempt y.request
-done c y e k =
-    let same : at c c.held.row c.held.marked ≡ c =
-    λ i. record c { held = held c.held.row (sym e i) c.held.marked } in
-    subst (λ (d : Cell). IsDone (work_due c.order.mode c.held.row y.request) c c.held.row c.held.marked
-    (worked_well (arrive d (Some y))) y.attempt y.request) same
-    (done_at c c.held.row c.held.marked y k)
+-- what the broker begins with a request is right
+right_by : (o : Order) (s : State) (k : Kind) (h g : Held) (t : Resource) (b : Begun) → h.work ≡ None
+    → IsBrokerStep o s k h t g b → ((a : Answer) → b ≡ Answered a → g.work ≡ h.work) → IsRight b g (request_of o k)
+right_by o s k h g t (Answered a) idle step same = same a refl ∙ idle
+right_by o s k h g t (Begun.Work w) idle step same = (
+  step.told,
+  subst (λ (z : Option Request). IfSome z (λ q. q.kind ≢ Poll)) step.told
+      (work_kinds o g.row g.work g.tombstone g.waiting t step.kept.0),
+)
+
+right_of : (o : Order) (s : State) (k : Kind) (h : Held) (t : Resource) → (k ≡ Deprovision → IsBefore s → ⊥)
+    → IsKept o h t → HeldByState o s h t → h.work ≡ None
+    → IsRight (begins o h k).1 (begins o h k).0 (request_of o k)
+right_of o s k h t late kept holds idle =
+    right_by o s k h (begins o h k).0 t (begins o h k).1 idle (arrives o k s h t late kept holds)
+    (λ a is. answered_with o.mode o.first_poll h (request_of o k) o.attributes a is)
 
 -- ---- the latest of a list
 
@@ -328,45 +371,39 @@ answered_is d rec k xs a e out given =
 
 abbrev later : Cell → Recorded → Kind → Recorded
 later c rec k = record {
-  row = in_state
-      (state_after rec.row.state k (decided c.order.mode c.held.row (request_of c.order k) Done).answer) rec.row;
+  row = in_state (state_after rec.row.state k (exch c.order c.held k).1) rec.row;
   attempt = rec.attempt + 1;
 }
 
 record IsExchanged (c d : Cell) (rec : Recorded) (k : Kind) : Type 0 where
   pub recorded : d.recorded ≡ Some (later c rec k)
-  pub held : d.held
-      ≡ kept_by (work_due c.order.mode c.held.row (request_of c.order k)) c.order.mode c.held.row c.held.marked
-      (request_of c.order k)
+  pub held : d.held ≡ (exch c.order c.held k).0
 
-due_no_provision : (s : State) (k : Kind) → due s ≡ Some k → is_provision k ≡ false
-due_no_provision Polling k e = let f : Poll ≡ k = cc in subst (λ k. is_provision k ≡ false) f refl
-due_no_provision CleaningPolling k e = let f : Poll ≡ k = cc in subst (λ k. is_provision k ≡ false) f refl
-due_no_provision Cleaning k e = let f : Deprovision ≡ k = cc in subst (λ k. is_provision k ≡ false) f refl
-due_no_provision s k e = cc
+late_due : (s : State) (k : Kind) → due s ≡ Some k → k ≡ Deprovision → IsBefore s → ⊥
+late_due Cleaning k e f b = b
+late_due CleaningPolling k e f b = b
+late_due Gone k e f b = b
+late_due s k e f b = cc
 
 exchange : (c : Cell) (rec : Recorded) (k : Kind) → c.recorded ≡ Some rec → rec.row.out ≡ None
-    → due rec.row.state ≡ Some k → has_number rec ≡ true → IsNumbered 0 c.sent rec.attempt → c.held.work ≡ None
+    → due rec.row.state ≡ Some k → has_number rec ≡ true → IsNumbered 0 c.sent rec.attempt
+    → IsRight (begins c.order c.held k).1 (begins c.order c.held k).0 (request_of c.order k)
     → IsExchanged c (exchanged c) rec k
-exchange c rec k e out d room numbered idle =
-    let q : Request = request_of c.order k in
-    let y : Sent = record { request = q; attempt = rec.attempt + 1 } in
+exchange c rec k e out d room numbered right =
+    let y : Sent = record { request = request_of c.order k; attempt = rec.attempt + 1 } in
     let next : Recorded = next_recorded rec k in
-    let w : Option Work = work_due c.order.mode c.held.row q in
+    let p : Held × Answer = exch c.order c.held k in
     let sent : Cell = with_sent c next k in
-    let one : IsDone w sent c.held.row c.held.marked (worked_well (arrive sent (Some y))) (rec.attempt + 1) q =
-    done sent y idle (due_no_provision rec.row.state k d) in
-    let two : IsDone w sent c.held.row c.held.marked (worked_well (with_arrival sent)) (rec.attempt + 1) q =
-    subst (λ (o : Option Sent). IsDone w sent c.held.row c.held.marked (worked_well (arrive sent o)) (rec.attempt + 1) q)
+    let one : IsDone sent (worked_well (arrive sent (Some y))) (rec.attempt + 1) p = done sent k (rec.attempt + 1) right in
+    let two : IsDone sent (worked_well (with_arrival sent)) (rec.attempt + 1) p =
+    subst (λ (o : Option Sent). IsDone sent (worked_well (arrive sent o)) (rec.attempt + 1) p)
     (sym (found c.sent rec.attempt y numbered)) one in
     let last : Cell = worked_well (with_arrival (cell_step c Event.Send)) in
-    let three : IsDone w sent c.held.row c.held.marked last (rec.attempt + 1) q =
-    subst (λ (z : Cell). IsDone w sent c.held.row c.held.marked (worked_well (with_arrival z)) (rec.attempt + 1) q)
+    let three : IsDone sent last (rec.attempt + 1) p =
+    subst (λ (z : Cell). IsDone sent (worked_well (with_arrival z)) (rec.attempt + 1) p)
     (sym (sent_is c rec k e out d room)) two in
-    let is : with_answer last
-    ≡ with_state last next (state_after rec.row.state k (decided c.order.mode c.held.row q Done).answer) =
-    answered_is last next k c.given (decided c.order.mode c.held.row q Done).answer three.recorded refl
-    three.given in
+    let is : with_answer last ≡ with_state last next (state_after rec.row.state k p.1) =
+    answered_is last next k c.given p.1 three.recorded refl three.given in
     record {
       recorded = ap (λ (z : Cell). z.recorded) is;
       held = ap (λ (z : Cell). z.held) is ∙ three.held;
@@ -404,16 +441,18 @@ unexchanged c rec e out d =
 
 -- one round more settles it, if that: nothing is due, or a deletion is polled that runs or has ended
 abbrev IsInOne : State → Held → Type 0
-IsInOne CleaningPolling h = (h.work ≡ None) × IfSome h.row (λ row. row.phase ≡ Phase.Deleting)
+IsInOne CleaningPolling h = (h.work ≡ None) × (h.waiting ≡ false) × IfSome h.row (λ row. row.phase ≡ Phase.Deleting)
 IsInOne s h = IsSettledIn s
 
--- two rounds more, if that: it is cleaned up, or nearer
+-- two rounds more, if that: it is cleaned up, a making is polled that runs, or it is nearer
 abbrev IsInTwo : State → Held → Type 0
 IsInTwo Cleaning h = ⊤
+IsInTwo Polling h = (h.work ≡ None) × (h.waiting ≡ false) × IsSomeAnd h.row (λ row. row.phase ≡ Phase.Making)
 IsInTwo s h = IsInOne s h
 
 in_two_too : (s : State) (h : Held) → IsInOne s h → IsInTwo s h
 in_two_too Cleaning h n = tt
+in_two_too Polling h n = absurd n
 in_two_too s h n = n
 
 -- so near, and with so many numbers left
@@ -427,109 +466,171 @@ near_by near n c rec e is room =
     subst (λ (r : Option Recorded). IfSome r (λ rec. near rec.row.state c.held
     × (rec.attempt + n ≤ 18446744073709551615))) (sym e) (is, room)
 
+-- so near after a request of the kind
+abbrev After : (State → Held → Type 0) → Order → State → Kind → Held → Type 0
+After near o s k h = near (state_after s k (exch o h k).1) (exch o h k).0
+
 near_exchanged : (near : State → Held → Type 0) (n : ℕ) (c d : Cell) (rec : Recorded) (k : Kind) (s : State)
     → IsExchanged c d rec k → rec.row.state ≡ s → rec.attempt + (n + 1) ≤ 18446744073709551615
-    → near (state_after s k (decided c.order.mode c.held.row (request_of c.order k) Done).answer)
-    (kept_by (work_due c.order.mode c.held.row (request_of c.order k)) c.order.mode c.held.row c.held.marked
-    (request_of c.order k))
-    → IsNear near n d
+    → After near c.order s k c.held → IsNear near n d
 near_exchanged near n c d rec k s x e room is =
-    let q : Request = request_of c.order k in
-    let a : Answer = (decided c.order.mode c.held.row q Done).answer in
+    let p : Held × Answer = exch c.order c.held k in
     near_by near n d (later c rec k) x.recorded
-    (subst (near (state_after rec.row.state k a)) (sym x.held)
-    (subst (λ (s : State). near (state_after s k a)
-    (kept_by (work_due c.order.mode c.held.row q) c.order.mode c.held.row c.held.marked q)) (sym e) is))
+    (subst (near (state_after rec.row.state k p.1)) (sym x.held)
+    (subst (λ (s : State). near (state_after s k p.1) p.0) (sym e) is))
     (omega arith)
 
--- ---- the tables, for a row that nothing runs on
+-- ---- the tables, for what nothing runs on
 
-abbrev Cleaned : Order → Phase → Bool → Type 0
-Cleaned o h x =
-    IsInOne (state_after_deprovision (decided o.mode (Some (row_of o h)) (request_of o Deprovision) Done).answer)
-    (kept_by (work_due o.mode (Some (row_of o h)) (request_of o Deprovision)) o.mode (Some (row_of o h)) x
-    (request_of o Deprovision))
+-- the same of what is held of an order, whose requests conflict with nothing
+abbrev After_now : (State → Held → Type 0) → Order → State → Kind → Held → Type 0
+After_now near o s k h =
+    near (state_after s k (done_as (begun_now o h k).1 (begun_now o h k).0 o.mode (request_of o k)).1)
+    (done_as (begun_now o h k).1 (begun_now o h k).0 o.mode (request_of o k)).0
 
-cleaned_sync : (i v p : ℕ) (a : Bool) (h : Phase) (x : Bool) → is_running_in h ≡ false
-    → Cleaned (order i v p (Some Sync) a) h x
-cleaned_sync i v p a Phase.Making x off = cc
-cleaned_sync i v p a Phase.Deleting x off = cc
-cleaned_sync i v p a Phase.Ready x off = simp (same_number v, same_number p) tt
-cleaned_sync i v p a Phase.Failed x off = simp (same_number v, same_number p) tt
-cleaned_sync i v p a Phase.DeleteFailed x off = simp (same_number v, same_number p) tt
+is_held_as : (o : Order) (h : Held) (t : Resource) → IsKept o h t → h.work ≡ None
+    → h ≡ held_as o h.row None h.tombstone h.waiting
+is_held_as o h t kept e = λ i. record {
+  row = h.row;
+  work = e i;
+  tombstone = h.tombstone;
+  waiting = h.waiting;
+  attributes = (kept.1 ∙ ap (attributes_of o h.row) e) i;
+}
 
-cleaned_async : (i v p : ℕ) (a : Bool) (h : Phase) (x : Bool) → is_running_in h ≡ false
-    → Cleaned (order i v p (Some Async) a) h x
-cleaned_async i v p a Phase.Making x off = cc
-cleaned_async i v p a Phase.Deleting x off = cc
-cleaned_async i v p a Phase.Ready x off = simp (same_number v, same_number p) (refl, refl)
-cleaned_async i v p a Phase.Failed x off = simp (same_number v, same_number p) (refl, refl)
-cleaned_async i v p a Phase.DeleteFailed x off = simp (same_number v, same_number p) (refl, refl)
+after_of : (near : State → Held → Type 0) (o : Order) (s : State) (k : Kind) (h : Held) (t : Resource) → IsKept o h t
+    → h.work ≡ None → After_now near o s k (held_as o h.row None h.tombstone h.waiting) → After near o s k h
+after_of near o s k h t kept e is =
+    subst (λ (g : Held). After near o s k g) (sym (is_held_as o h t kept e))
+    (subst (λ (p : Held × Begun). near (state_after s k (done_as p.1 p.0 o.mode (request_of o k)).1)
+    (done_as p.1 p.0 o.mode (request_of o k)).0) (sym (begun_is_now o k h.row None h.tombstone h.waiting)) is)
 
-cleaned_by : (i v p : ℕ) (m : Option Mode) (a : Bool) (h : Phase) (x : Bool) → refuses m a ≡ false
-    → is_running_in h ≡ false → Cleaned (order i v p m a) h x
-cleaned_by i v p None a h x taken off = cc
-cleaned_by i v p (Some Sync) a h x taken off = cleaned_sync i v p a h x off
-cleaned_by i v p (Some Async) a h x taken off = cleaned_async i v p a h x off
+abbrev Cleaned : Order → Held → Type 0
+Cleaned o h = After_now IsInOne o Cleaning Deprovision h
+
+cleaned_sync : (i v p : ℕ) (a f : Bool) (d : Digest) (h : Phase) → (is_running_in h && not false) ≡ false
+    → Cleaned (order i v p (Some Sync) a f d) (row_held (order i v p (Some Sync) a f d) h)
+cleaned_sync i v p a f d Phase.Making off = cc
+cleaned_sync i v p a f d Phase.Deleting off = cc
+cleaned_sync i v p a f d Phase.Ready off = simp (same_number v, same_number p) tt
+cleaned_sync i v p a f d Phase.Failed off = simp (same_number v, same_number p) tt
+cleaned_sync i v p a f d Phase.DeleteFailed off = simp (same_number v, same_number p) tt
+
+cleaned_async : (i v p : ℕ) (a f : Bool) (d : Digest) (h : Phase) → (is_running_in h && not false) ≡ false
+    → Cleaned (order i v p (Some Async) a f d) (row_held (order i v p (Some Async) a f d) h)
+cleaned_async i v p a f d Phase.Making off = cc
+cleaned_async i v p a f d Phase.Deleting off = cc
+cleaned_async i v p a f d Phase.Ready off = simp (same_number v, same_number p) (refl, refl, refl)
+cleaned_async i v p a f d Phase.Failed off = simp (same_number v, same_number p) (refl, refl, refl)
+cleaned_async i v p a f d Phase.DeleteFailed off = simp (same_number v, same_number p) (refl, refl, refl)
+
+cleaned_by : (i v p : ℕ) (m : Option Mode) (a f : Bool) (d : Digest) (h : Phase) → refuses m a ≡ false
+    → (is_running_in h && not false) ≡ false → Cleaned (order i v p m a f d) (row_held (order i v p m a f d) h)
+cleaned_by i v p None a f d h taken off = cc
+cleaned_by i v p (Some Sync) a f d h taken off = cleaned_sync i v p a f d h off
+cleaned_by i v p (Some Async) a f d h taken off = cleaned_async i v p a f d h off
+
+cleaned_waiting : (i v p : ℕ) (m : Option Mode) (a f : Bool) (d : Digest)
+    → IsRow (order i v p m a f d) (row_of (order i v p m a f d) Phase.Making)
+    → Cleaned (order i v p m a f d) (waiting_held (order i v p m a f d))
+cleaned_waiting i v p None a f d row = let e = row.taken in cc
+cleaned_waiting i v p (Some Sync) a f d row = let e = row.ready refl in cc
+cleaned_waiting i v p (Some Async) a f d row = simp (same_number v, same_number p) tt
 
 -- what is polled
-abbrev Polled : Order → State → Phase → Held → Type 0
-Polled o s h g =
-    IsInTwo (state_after_poll s (decided o.mode (Some (row_of o h)) (request_of o Poll) Done).answer) g
+polled_by : (i v p : ℕ) (m : Option Mode) (a f : Bool) (d : Digest) (s : State) (h : Phase)
+    → IsInTwo (state_after_poll s (own_poll h table.Done)) (row_held (order i v p m a f d) h)
+    → After_now IsInTwo (order i v p m a f d) s Poll (row_held (order i v p m a f d) h)
+polled_by i v p m a f d s h is = simp (same_number v, same_number p) is
 
-polled_by : (i v p : ℕ) (m : Option Mode) (a : Bool) (s : State) (h : Phase) (g : Held)
-    → IsInTwo (state_after_poll s (own_poll h Done)) g → Polled (order i v p m a) s h g
-polled_by i v p m a s h g is = simp (same_number v, same_number p) is
-
-polled_making : (h : Phase) (g : Held) → is_running_in h ≡ false
-    → IsInTwo (state_after_poll Polling (own_poll h Done)) g
+polled_making : (h : Phase) (g : Held) → (is_running_in h && not false) ≡ false
+    → IsInTwo (state_after_poll Polling (own_poll h table.Done)) g
 polled_making Phase.Making g off = cc
 polled_making Phase.Deleting g off = cc
 polled_making h g off = tt
 
-polled_deleting : (h : Phase) (g : Held) → is_running_in h ≡ false
-    → IsInTwo (state_after_poll CleaningPolling (own_poll h Done)) g
+polled_deleting : (h : Phase) (g : Held) → (is_running_in h && not false) ≡ false
+    → IsInTwo (state_after_poll CleaningPolling (own_poll h table.Done)) g
 polled_deleting Phase.Making g off = cc
 polled_deleting Phase.Deleting g off = cc
 polled_deleting h g off = tt
 
--- a row is the order's
-row_kept : (o : Order) (b : Option BrokerRow) (w : Option Request) (x : Bool) (t : Thing) → IsKeptAs o b w x t
-    → IfSome b (IsRow o)
-row_kept o None w x t kept = tt
-row_kept o (Some b) None false t kept = kept
-row_kept o (Some b) (Some q) false t kept = kept.1
-row_kept o (Some b) None true t kept = absurd kept
-row_kept o (Some b) (Some q) true t kept = absurd kept
+polled_waiting : (i v p : ℕ) (m : Option Mode) (a f : Bool) (d : Digest)
+    → After_now IsInTwo (order i v p m a f d) Polling Poll (waiting_held (order i v p m a f d))
+polled_waiting i v p m a f d = simp (same_number v, same_number p) (refl, refl, refl)
 
-abbrev After : (State → Held → Type 0) → Order → State → Kind → Option BrokerRow → Bool → Type 0
-After near o s k b x =
-    near (state_after s k (decided o.mode b (request_of o k) Done).answer)
-    (kept_by (work_due o.mode b (request_of o k)) o.mode b x (request_of o k))
+-- what is kept without work, case by case
+cleaned : (o : Order) (b : Option BrokerRow) (x v : Bool) (t : Resource) → IsKeptAs o b None x v t → IsQuiet b v
+    → Cleaned o (held_as o b None x v)
+cleaned o None true false t kept off = tt
+cleaned o None false false t kept off = tt
+cleaned o None x true t kept off = absurd kept
+cleaned o (Some b) true v t kept off = absurd kept
+cleaned o (Some b) false false t kept off =
+    subst (λ (r : BrokerRow). Cleaned o (held o (Some r) None false)) (sym kept.same)
+    (cleaned_by o.id o.service o.plan o.mode o.accepts o.first_poll o.attributes b.phase kept.taken off)
+cleaned o (Some b) false true t kept off =
+    let is : b ≡ row_of o Phase.Making = kept.0.same ∙ ap (row_of o) kept.1 in
+    subst (λ (r : BrokerRow). Cleaned o (held_as o (Some r) None false true)) (sym is)
+    (cleaned_waiting o.id o.service o.plan o.mode o.accepts o.first_poll o.attributes (subst (IsRow o) is kept.0))
 
-cleaned : (o : Order) (b : Option BrokerRow) (x : Bool) → IfSome b (IsRow o) → IsQuiet b
-    → After IsInOne o Cleaning Deprovision b x
-cleaned o None x row off = tt
-cleaned o (Some b) x row off =
-    subst (λ (r : BrokerRow). After IsInOne o Cleaning Deprovision (Some r) x) (sym row.same)
-    (cleaned_by o.id o.service o.plan o.mode o.accepts b.phase x row.taken off)
+polled_row : (o : Order) (b : Option BrokerRow) (x v : Bool) (t : Resource) → IsKeptAs o b None x v t → IsQuiet b v
+    → IsSome b → After_now IsInTwo o Polling Poll (held_as o b None x v)
+polled_row o None x v t kept off some = cc
+polled_row o (Some b) true v t kept off some = absurd kept
+polled_row o (Some b) false false t kept off some =
+    subst (λ (r : BrokerRow). After_now IsInTwo o Polling Poll (held o (Some r) None false)) (sym kept.same)
+    (polled_by o.id o.service o.plan o.mode o.accepts o.first_poll o.attributes Polling b.phase
+    (polled_making b.phase _ off))
+polled_row o (Some b) false true t kept off some =
+    let is : b ≡ row_of o Phase.Making = kept.0.same ∙ ap (row_of o) kept.1 in
+    subst (λ (r : BrokerRow). After_now IsInTwo o Polling Poll (held_as o (Some r) None false true)) (sym is)
+    (polled_waiting o.id o.service o.plan o.mode o.accepts o.first_poll o.attributes)
 
-polled : (o : Order) (s : State) (b : BrokerRow) (x : Bool) → IsRow o b
-    → ((g : Held) → IsInTwo (state_after_poll s (own_poll b.phase Done)) g)
-    → After IsInTwo o s Poll (Some b) x
-polled o s b x row is =
-    subst (λ (r : BrokerRow). After IsInTwo o s Poll (Some r) x) (sym row.same)
-    (polled_by o.id o.service o.plan o.mode o.accepts s b.phase _ (is _))
+not_leaving : (p : Phase) → p ≡ Phase.Making → IsInDeletion p → ⊥
+not_leaving Phase.Deleting e l = cc
+not_leaving Phase.DeleteFailed e l = cc
+not_leaving p e l = l
 
-polled_row : (o : Order) (b : Option BrokerRow) (x : Bool) → IfSome b (IsRow o) → IsQuiet b → IsSome b
-    → After IsInTwo o Polling Poll b x
-polled_row o None x row off some = cc
-polled_row o (Some b) x row off some = polled o Polling b x row (λ g. polled_making b.phase g off)
+polled_end : (o : Order) (b : Option BrokerRow) (x v : Bool) (t : Resource) → IsKeptAs o b None x v t → IsQuiet b v
+    → IsLeavingAs b x → After_now IsInTwo o CleaningPolling Poll (held_as o b None x v)
+polled_end o None true false t kept off leaves = tt
+polled_end o None false false t kept off leaves = tt
+polled_end o None x true t kept off leaves = absurd kept
+polled_end o (Some b) true v t kept off leaves = absurd kept
+polled_end o (Some b) false false t kept off leaves =
+    subst (λ (r : BrokerRow). After_now IsInTwo o CleaningPolling Poll (held o (Some r) None false)) (sym kept.same)
+    (polled_by o.id o.service o.plan o.mode o.accepts o.first_poll o.attributes CleaningPolling b.phase
+    (polled_deleting b.phase _ off))
+polled_end o (Some b) false true t kept off leaves = absurd (not_leaving b.phase kept.1 leaves)
 
-polled_end : (o : Order) (b : Option BrokerRow) (x : Bool) → IfSome b (IsRow o) → IsQuiet b
-    → After IsInTwo o CleaningPolling Poll b x
-polled_end o None x row off = tt
-polled_end o (Some b) x row off = polled o CleaningPolling b x row (λ g. polled_deleting b.phase g off)
+-- the deletion has ended
+gone_now : (near : State → Held → Type 0) (o : Order) (x v : Bool) (t : Resource) → IsKeptAs o None None x v t
+    → ((h : Held) → near Gone h) → After_now near o CleaningPolling Poll (held_as o None None x v)
+gone_now near o true false t kept is = is _
+gone_now near o false false t kept is = is _
+gone_now near o x true t kept is = absurd kept
+
+gone : (near : State → Held → Type 0) (o : Order) (b : Option BrokerRow) (x v : Bool) (t : Resource)
+    → IsKeptAs o b None x v t → ((h : Held) → near Gone h) → b ≡ None
+    → After_now near o CleaningPolling Poll (held_as o b None x v)
+gone near o None x v t kept is e = gone_now near o x v t kept is
+gone near o (Some b) x v t kept is e = cc
+
+-- the making has ended
+ready_by : (i v p : ℕ) (m : Option Mode) (a f : Bool) (d : Digest)
+    → After_now IsInOne (order i v p m a f d) Polling Poll (row_held (order i v p m a f d) Phase.Ready)
+ready_by i v p m a f d = simp (same_number v, same_number p) tt
+
+made : (o : Order) (b : Option BrokerRow) (x v : Bool) (t : Resource) → IsKeptAs o b None x v t → IsReadyRow b
+    → After_now IsInOne o Polling Poll (held_as o b None x v)
+made o None x v t kept ready = absurd ready
+made o (Some b) true v t kept ready = absurd kept
+made o (Some b) false false t kept ready =
+    let is : b ≡ row_of o Phase.Ready = kept.same ∙ ap (row_of o) ready in
+    subst (λ (r : BrokerRow). After_now IsInOne o Polling Poll (held o (Some r) None false)) (sym is)
+    (ready_by o.id o.service o.plan o.mode o.accepts o.first_poll o.attributes)
+made o (Some b) false true t kept ready = (let e : Phase.Making ≡ Phase.Ready = sym kept.1 ∙ ready in cc)
 
 -- ---- the second half of a round, from a cell in which nothing is out and nothing under way
 
@@ -538,15 +639,33 @@ record IsCalm (c : Cell) (rec : Recorded) : Type 0 where
   pub possible : IsPossibleRecord c rec
   pub out : rec.row.out ≡ None
   pub idle : c.held.work ≡ None
-  pub quiet : IsQuiet c.held.row
+  pub quiet : IsQuiet c.held.row c.held.waiting
 
 has_room : (i n : ℕ) → i + (n + 1) ≤ 18446744073709551615 → nat_lt i 18446744073709551615 ≡ true
 has_room i n h = grind (arith, nat_tests)
 
+-- what the broker keeps, without work
+kept_idle : (c : Cell) (rec : Recorded) → IsCalm c rec
+    → IsKeptAs c.order c.held.row None c.held.tombstone c.held.waiting c.resource
+kept_idle c rec calm =
+    subst (λ (w : Option Request). IsKeptAs c.order c.held.row w c.held.tombstone c.held.waiting c.resource) calm.idle
+    calm.possible.parts.kept.0
+
 exchanges : (c : Cell) (rec : Recorded) (k : Kind) (n : ℕ) → IsCalm c rec → due rec.row.state ≡ Some k
     → rec.attempt + (n + 1) ≤ 18446744073709551615 → IsExchanged c (exchanged c) rec k
 exchanges c rec k n calm d room =
-    exchange c rec k calm.recorded calm.out d (has_room rec.attempt n room) calm.possible.numbered calm.idle
+    exchange c rec k calm.recorded calm.out d (has_room rec.attempt n room) calm.possible.numbered
+    (right_of c.order rec.row.state k c.held c.resource (late_due rec.row.state k d) calm.possible.parts.kept
+    calm.possible.parts.holds calm.idle)
+
+-- so near by a table
+nears : (near : State → Held → Type 0) (n : ℕ) (c : Cell) (rec : Recorded) (k : Kind) (s : State) → IsCalm c rec
+    → rec.row.state ≡ s → due s ≡ Some k → rec.attempt + (n + 1) ≤ 18446744073709551615
+    → After_now near c.order s k (held_as c.order c.held.row None c.held.tombstone c.held.waiting)
+    → IsNear near n (exchanged c)
+nears near n c rec k s calm e d room is =
+    near_exchanged near n c (exchanged c) rec k s (exchanges c rec k n calm (ap due e ∙ d) room) e room
+    (after_of near c.order s k c.held c.resource calm.possible.parts.kept calm.idle is)
 
 rests : (near : State → Held → Type 0) (n : ℕ) (c : Cell) (rec : Recorded) → IsCalm c rec
     → due rec.row.state ≡ None → near rec.row.state (exchanged c).held
@@ -554,55 +673,48 @@ rests : (near : State → Held → Type 0) (n : ℕ) (c : Cell) (rec : Recorded)
 rests near n c rec calm d is room =
     near_by near n (exchanged c) rec (unexchanged c rec calm.recorded calm.out d) is (omega arith)
 
+holds_in : (c : Cell) (rec : Recorded) (s : State) → IsCalm c rec → rec.row.state ≡ s
+    → HeldByState c.order s c.held c.resource
+holds_in c rec s calm e =
+    subst (λ (s : State). HeldByState c.order s c.held c.resource) e calm.possible.parts.holds
+
 first : (c : Cell) (rec : Recorded) (n : ℕ) (s : State) → rec.row.state ≡ s → IsCalm c rec
     → rec.attempt + (n + 1) ≤ 18446744073709551615 → IsNear IsInTwo n (exchanged c)
 first c rec n Wanted e calm room = (let f = calm.possible.sound.wanted e in let g = calm.out in cc)
 first c rec n Polling e calm room =
-    let holds : HeldByState c.order Polling c.held c.thing =
-    subst (λ s. HeldByState c.order s c.held c.thing) e calm.possible.parts.holds in
-    near_exchanged IsInTwo n c (exchanged c) rec Poll Polling (exchanges c rec Poll n calm (ap due e) room) e room
-    (polled_row c.order c.held.row c.held.marked
-    (row_kept c.order c.held.row c.held.work c.held.marked c.thing calm.possible.parts.kept) calm.quiet holds.1.1)
+    nears IsInTwo n c rec Poll Polling calm e refl room
+    (polled_row c.order c.held.row c.held.tombstone c.held.waiting c.resource (kept_idle c rec calm) calm.quiet
+    (holds_in c rec Polling calm e).1.1)
 first c rec n Cleaning e calm room =
-    near_exchanged IsInTwo n c (exchanged c) rec Deprovision Cleaning
-    (exchanges c rec Deprovision n calm (ap due e) room) e room
-    (in_two_too _ _ (cleaned c.order c.held.row c.held.marked
-    (row_kept c.order c.held.row c.held.work c.held.marked c.thing calm.possible.parts.kept) calm.quiet))
+    nears IsInTwo n c rec Deprovision Cleaning calm e refl room
+    (in_two_too _ _ (cleaned c.order c.held.row c.held.tombstone c.held.waiting c.resource (kept_idle c rec calm)
+    calm.quiet))
 first c rec n CleaningPolling e calm room =
-    near_exchanged IsInTwo n c (exchanged c) rec Poll CleaningPolling (exchanges c rec Poll n calm (ap due e) room) e
-    room
-    (polled_end c.order c.held.row c.held.marked
-    (row_kept c.order c.held.row c.held.work c.held.marked c.thing calm.possible.parts.kept) calm.quiet)
+    nears IsInTwo n c rec Poll CleaningPolling calm e refl room
+    (polled_end c.order c.held.row c.held.tombstone c.held.waiting c.resource (kept_idle c rec calm) calm.quiet
+    (holds_in c rec CleaningPolling calm e))
 first c rec n s e calm room =
     rests IsInTwo n c rec calm (ap due e) (subst (λ s. IsInTwo s (exchanged c).held) (sym e) tt) room
 
--- the deletion has ended
-gone : (o : Order) (b : Option BrokerRow) (x : Bool) → b ≡ None → After IsInOne o CleaningPolling Poll b x
-gone o None x e = tt
-gone o (Some b) x e = cc
-
 second : (c : Cell) (rec : Recorded) (n : ℕ) (s : State) → rec.row.state ≡ s → IsCalm c rec
-    → (s ≡ CleaningPolling → c.held.row ≡ None) → s ≢ Polling
+    → (s ≡ CleaningPolling → c.held.row ≡ None) → (s ≡ Polling → IsReadyRow c.held.row)
     → rec.attempt + (n + 1) ≤ 18446744073709551615 → IsNear IsInOne n (exchanged c)
-second c rec n Wanted e calm ends not_polling room = (let f = calm.possible.sound.wanted e in let g = calm.out in cc)
-second c rec n Polling e calm ends not_polling room = absurd (not_polling refl)
-second c rec n Cleaning e calm ends not_polling room =
-    near_exchanged IsInOne n c (exchanged c) rec Deprovision Cleaning
-    (exchanges c rec Deprovision n calm (ap due e) room) e room
-    (cleaned c.order c.held.row c.held.marked
-    (row_kept c.order c.held.row c.held.work c.held.marked c.thing calm.possible.parts.kept) calm.quiet)
-second c rec n CleaningPolling e calm ends not_polling room =
-    near_exchanged IsInOne n c (exchanged c) rec Poll CleaningPolling (exchanges c rec Poll n calm (ap due e) room) e
-    room (gone c.order c.held.row c.held.marked (ends refl))
-second c rec n s e calm ends not_polling room =
+second c rec n Wanted e calm ends ready room = (let f = calm.possible.sound.wanted e in let g = calm.out in cc)
+second c rec n Polling e calm ends ready room =
+    nears IsInOne n c rec Poll Polling calm e refl room
+    (made c.order c.held.row c.held.tombstone c.held.waiting c.resource (kept_idle c rec calm) (ready refl))
+second c rec n Cleaning e calm ends ready room =
+    nears IsInOne n c rec Deprovision Cleaning calm e refl room
+    (cleaned c.order c.held.row c.held.tombstone c.held.waiting c.resource (kept_idle c rec calm) calm.quiet)
+second c rec n CleaningPolling e calm ends ready room =
+    nears IsInOne n c rec Poll CleaningPolling calm e refl room
+    (gone IsInOne c.order c.held.row c.held.tombstone c.held.waiting c.resource (kept_idle c rec calm) (λ h. tt)
+    (ends refl))
+second c rec n s e calm ends ready room =
     rests IsInOne n c rec calm (ap due e) (subst (λ s. IsInOne s (exchanged c).held) (sym e) tt) room
 
 abbrev Settles : State → Held → Type 0
 Settles s h = IsSettledIn s
-
-ended_poll : (o : Order) (b : Option BrokerRow) (x : Bool) → b ≡ None → After Settles o CleaningPolling Poll b x
-ended_poll o None x e = tt
-ended_poll o (Some b) x e = cc
 
 third : (c : Cell) (rec : Recorded) (n : ℕ) (s : State) → rec.row.state ≡ s → IsCalm c rec
     → (s ≡ CleaningPolling → c.held.row ≡ None) → s ≢ Polling → s ≢ Cleaning
@@ -612,8 +724,9 @@ third c rec n Wanted e calm ends not_polling not_cleaning room =
 third c rec n Polling e calm ends not_polling not_cleaning room = absurd (not_polling refl)
 third c rec n Cleaning e calm ends not_polling not_cleaning room = absurd (not_cleaning refl)
 third c rec n CleaningPolling e calm ends not_polling not_cleaning room =
-    near_exchanged Settles n c (exchanged c) rec Poll CleaningPolling (exchanges c rec Poll n calm (ap due e) room) e
-    room (ended_poll c.order c.held.row c.held.marked (ends refl))
+    nears Settles n c rec Poll CleaningPolling calm e refl room
+    (gone Settles c.order c.held.row c.held.tombstone c.held.waiting c.resource (kept_idle c rec calm) (λ h. tt)
+    (ends refl))
 third c rec n s e calm ends not_polling not_cleaning room =
     rests Settles n c rec calm (ap due e) (subst (λ s. Settles s (exchanged c).held) (sym e) tt) room
 
@@ -638,16 +751,18 @@ calm_after c rec e h =
     let possible : IsPossible one = kept_step c Event.Timeout h in
     let idle : two.held.work ≡ None =
     no_work_after one one.held.work refl
-    (work_kinds one.order one.held.row one.held.work one.held.marked one.thing
-    (with_rec one one.recorded rest possible here).parts.kept) in
-    let last : IsOperated two two.held.row = operated two idle in
+    (work_kinds one.order one.held.row one.held.work one.held.tombstone one.held.waiting one.resource
+    (with_rec one one.recorded rest possible here).parts.kept.0) in
+    let last : IsOperated two two.held.row two.held.waiting = operated two idle in
     let recorded : (calmed c).recorded ≡ Some rest = operated_recorded two ∙ worked_recorded one ∙ here in
     record {
       recorded = recorded;
       possible = with_rec (calmed c) (calmed c).recorded rest (kept_operated two (kept_worked one possible)) recorded;
       out = refl;
-      idle = last.1;
-      quiet = subst IsQuiet (sym last.0) (quiet_after two.held.row);
+      idle = last.work;
+      quiet = subst (λ (b : Option BrokerRow). IsQuiet b (calmed c).held.waiting) (sym last.row)
+          (subst (IsQuiet (operated_row two.held.waiting two.held.row)) (sym last.waiting)
+          (quiet_after two.held.row two.held.waiting));
     }
 
 -- ---- a round, from any cell that can come about
@@ -686,28 +801,42 @@ first_round c None e h room = none_near IsInTwo 2 (after_round c) (unrecorded c 
 first_round c (Some rec) e h room =
     first (calmed c) (resting rec (after_timeout rec.row.state)) 2 _ refl (calm_after c rec e h) room
 
--- a deletion that runs has ended by the second half
-deleted : (c : Cell) → c.held.work ≡ None → IfSome c.held.row (λ row. row.phase ≡ Phase.Deleting)
-    → (calmed c).held.row ≡ None
-deleted c idle deleting =
+-- what runs has ended by the second half
+operated_after : (c : Cell) → c.held.work ≡ None → c.held.waiting ≡ false
+    → (calmed c).held.row ≡ finished c.held.row true
+operated_after c idle off =
     let one : Cell = cell_step c Event.Timeout in
     let same : one.held ≡ c.held = timeout_held c c.recorded in
     let free : one.held.work ≡ None = ap (λ (h : Held). h.work) same ∙ idle in
     let two : (worked_well one).held ≡ c.held =
     ap (λ (d : Cell). d.held) (idle_worked one free) ∙ good_keeps (λ (d : Cell). d.held) one (λ t. refl) ∙ same in
-    (operated (worked_well one) (ap (λ (h : Held). h.work) two ∙ idle)).0
-    ∙ ap (λ (h : Held). finished h.row true) two ∙ deleted_after c.held.row deleting
+    (operated (worked_well one) (ap (λ (h : Held). h.work) two ∙ idle)).row
+    ∙ ap (λ (h : Held). operated_row h.waiting h.row) two ∙ ap (λ (v : Bool). operated_row v c.held.row) off
+
+deleted : (c : Cell) → c.held.work ≡ None → c.held.waiting ≡ false
+    → IfSome c.held.row (λ row. row.phase ≡ Phase.Deleting) → (calmed c).held.row ≡ None
+deleted c idle off deleting = operated_after c idle off ∙ deleted_after c.held.row deleting
 
 ends_in : (c : Cell) (s : State) → IsInTwo s c.held → after_timeout s ≡ CleaningPolling → (calmed c).held.row ≡ None
 ends_in c Wanted near e = cc
 ends_in c Cleaning near e = cc
-ends_in c CleaningPolling near e = deleted c near.0 near.1
+ends_in c CleaningPolling near e = deleted c near.0 near.1 near.2
 ends_in c Polling near e = cc
 ends_in c Ready near e = cc
 ends_in c Gone near e = cc
 ends_in c Unsettled near e = cc
 
-polls_no_more : (s : State) (h : Held) → IsInTwo s h → after_timeout s ≢ Polling
+ready_in : (c : Cell) (s : State) → IsInTwo s c.held → after_timeout s ≡ Polling → IsReadyRow (calmed c).held.row
+ready_in c Wanted near e = cc
+ready_in c Cleaning near e = cc
+ready_in c CleaningPolling near e = cc
+ready_in c Polling near e =
+    subst IsReadyRow (sym (operated_after c near.0 near.1)) (made_after c.held.row near.2)
+ready_in c Ready near e = cc
+ready_in c Gone near e = cc
+ready_in c Unsettled near e = cc
+
+polls_no_more : (s : State) (h : Held) → IsInOne s h → after_timeout s ≢ Polling
 polls_no_more Polling h near = absurd near
 polls_no_more Wanted h near = absurd near
 polls_no_more s h near = λ e. cc
@@ -725,7 +854,7 @@ second_round : (c : Cell) (r : Option Recorded) → c.recorded ≡ r → IsPossi
 second_round c None e h near = none_near IsInOne 1 (after_round c) (unrecorded c e)
 second_round c (Some rec) e h near =
     second (calmed c) (resting rec (after_timeout rec.row.state)) 1 _ refl (calm_after c rec e h)
-    (ends_in c rec.row.state near.0) (polls_no_more rec.row.state c.held near.0) near.1
+    (ends_in c rec.row.state near.0) (ready_in c rec.row.state near.0) near.1
 
 third_round : (c : Cell) (r : Option Recorded) → c.recorded ≡ r → IsPossible c → NearBy IsInOne 1 c.held r
     → IsNear Settles 0 (after_round c)
@@ -733,7 +862,7 @@ third_round c None e h near = none_near Settles 0 (after_round c) (unrecorded c 
 third_round c (Some rec) e h near =
     let two : IsInTwo rec.row.state c.held = in_two_too rec.row.state c.held near.0 in
     third (calmed c) (resting rec (after_timeout rec.row.state)) 0 _ refl (calm_after c rec e h)
-    (ends_in c rec.row.state two) (polls_no_more rec.row.state c.held two)
+    (ends_in c rec.row.state two) (polls_no_more rec.row.state c.held near.0)
     (cleans_no_more rec.row.state c.held near.0) near.1
 
 settled_by : (h : Held) (r : Option Recorded) → NearBy Settles 0 h r → IfSome r (λ rec. IsSettledIn rec.row.state)

@@ -11,7 +11,7 @@ use Rattle.osb_platform.specs.declared.state.State.{State}
 use Rattle.osb_platform.specs.declared.state.State.TheVariants.{Wanted, Polling, Ready, Cleaning}
 use Rattle.osb_platform.specs.declared.state.State.TheVariants.{CleaningPolling, Gone, Unsettled}
 use Rattle.osb_instance.specs.Held.{Held}
-use Rattle.osb_network.specs.declared.thing.Thing.{Thing}
+use Rattle.osb_network.specs.declared.resource.Resource.{Resource}
 use Rattle.osb_network.specs.declared.order.Order.{Order}
 use Rattle.osb_network.specs.Possible.{refuses}
 use Rattle.osb_network.specs.Possible.{IsKept, IsKeptAs, IsEarly, IsEarlyAs, IsLeaving}
@@ -27,10 +27,10 @@ use Rattle.osb_platform.specs.State.{state_after_deprovision}
 use Rattle.osb_network.proofs.Arrivals.{provisioned_failed, deprovisioned_failed}
 
 -- what is kept goes with the state, which is no earlier than the one before
-abbrev pub Rests : Order → State → Held → Thing → State → Type 0
+abbrev pub Rests : Order → State → Held → Resource → State → Type 0
 Rests o s h t n = HeldByState o n h t × (IsBefore n → IsBefore s)
 
-by_test : (o : Order) (s : State) (h : Held) (t : Thing) (x : Bool) (n m : State) → (x ≡ true → Rests o s h t n)
+by_test : (o : Order) (s : State) (h : Held) (t : Resource) (x : Bool) (n m : State) → (x ≡ true → Rests o s h t n)
     → (x ≡ false → Rests o s h t m) → Rests o s h t (if x then n else m)
 by_test o s h t true n m on off = on refl
 by_test o s h t false n m on off = off refl
@@ -50,19 +50,36 @@ is_deleted n e h = grind (arith, nat_tests)
 is_status : (n m : ℕ) → (n == m) ≡ true → n ≡ m
 is_status n m h = grind (arith, nat_tests)
 
+-- an end that was told is one
+ended_parts : (o : Order) (b : Option BrokerRow) (w : Option Request) (x v : Bool) (t : Resource) → IsKeptAs o b w x v t
+    → x ≡ true → (b ≡ None) × (w ≡ None)
+ended_parts o None None x v t kept e = (refl, refl)
+ended_parts o b w false v t kept e = cc
+ended_parts o (Some b) None true v t kept e = absurd kept
+ended_parts o None (Some q) true v t kept e = absurd kept
+ended_parts o (Some b) (Some q) true v t kept e = absurd kept
+
+is_gone : (o : Order) (h : Held) (t : Resource) → IsKept o h t → h.tombstone ≡ true → IsGone o h
+is_gone o h t kept e =
+    let n = ended_parts o h.row h.work h.tombstone h.waiting t kept.0 e in (n.0, n.1, inl e)
+
 -- where the Provision is refused, and no deletion was begun, there is nothing
-refused_parts : (o : Order) (b : Option BrokerRow) (w : Option Request) (x : Bool) (t : Thing) → IsKeptAs o b w x t
-    → IsEarlyAs b w x t → refuses o.mode o.accepts ≡ true → (b ≡ None) × (w ≡ None)
-refused_parts o None None x t kept early e = (refl, refl)
-refused_parts o (Some b) None false t kept early e = let f = kept.taken in cc
-refused_parts o None (Some q) false t kept early e = let f = kept.1 in cc
-refused_parts o b w x t kept early e = absurd early
+refused_parts : (o : Order) (b : Option BrokerRow) (w : Option Request) (x v : Bool) (t : Resource)
+    → IsKeptAs o b w x v t → IsEarlyAs b w x t → refuses o.mode o.accepts ≡ true → (b ≡ None) × (w ≡ None)
+refused_parts o None None x v t kept early e = (refl, refl)
+refused_parts o (Some b) None false false t kept early e = let f = kept.taken in cc
+refused_parts o (Some b) None false true t kept early e = let f = kept.0.taken in cc
+refused_parts o None (Some q) false false t kept early e = let f = kept.1 in cc
+refused_parts o None (Some q) false true t kept early e = absurd kept
+refused_parts o b w x v t kept early e = absurd early
 
-none_refused : (o : Order) (h : Held) (t : Thing) → IsKept o h t → IsEarly h t → refuses o.mode o.accepts ≡ true
-    → IsGone o h
-none_refused o h t kept early e = let n = refused_parts o h.row h.work h.marked t kept early e in (n.0, n.1, inr e)
+none_refused : (o : Order) (h : Held) (t : Resource) → IsKept o h t → IsEarly h t
+    → (refuses o.mode o.accepts ≡ true) ⊎ (h.tombstone ≡ true) → IsGone o h
+none_refused o h t kept early (inl e) =
+    let n = refused_parts o h.row h.work h.tombstone h.waiting t kept.0 early e in (n.0, n.1, inr e)
+none_refused o h t kept early (inr e) = is_gone o h t kept e
 
-rests_provision : (o : Order) (h : Held) (t : Thing) (a : Answer) → IsKept o h t → IsEarly h t → IsProvisioned o h a
+rests_provision : (o : Order) (h : Held) (t : Resource) (a : Answer) → IsKept o h t → IsEarly h t → IsProvisioned o h a
     → Rests o Wanted h t (state_after_provision a)
 rests_provision o h t a kept early told =
     by_test o Wanted h t (says_made a) Ready
@@ -78,14 +95,14 @@ rests_provision o h t a kept early told =
     (λ x. let r = is_rejected a.status x in (none_refused o h t kept early (told.refused r.0 r.1), λ b. tt))
     (λ _. (tt, λ b. tt)))))
 
-rests_operation : (o : Order) (s : State) (h : Held) (t : Thing) (n m : State) (body : Body) → Rests o s h t n
+rests_operation : (o : Order) (s : State) (h : Held) (t : Resource) (n m : State) (body : Body) → Rests o s h t n
     → (IsBefore Cleaning → IsBefore s) → (body ≡ Body.State Succeeded → Rests o s h t m)
     → Rests o s h t (state_after_operation n m body)
 rests_operation o s h t n m (Body.State Succeeded) now cleaning later = later refl
 rests_operation o s h t n m (Body.State Failed) now cleaning later = (tt, cleaning)
 rests_operation o s h t n m body now cleaning later = now
 
-rests_polled : (o : Order) (h : Held) (t : Thing) (a : Answer) → HeldByState o Polling h t → IsPolled h a
+rests_polled : (o : Order) (h : Held) (t : Resource) (a : Answer) → HeldByState o Polling h t → IsPolled h a
     → Rests o Polling h t (state_after_poll Polling a)
 rests_polled o h t a holds told =
     by_test o Polling h t (a.status == 200) (state_after_operation Polling Ready a.body) Polling
@@ -93,19 +110,7 @@ rests_polled o h t a holds told =
     (λ e. ((holds.0, told (is_status a.status 200 x) e), λ b. tt)))
     (λ _. (holds, λ b. tt))
 
--- an end that was told is one
-ended_parts : (o : Order) (b : Option BrokerRow) (w : Option Request) (x : Bool) (t : Thing) → IsKeptAs o b w x t
-    → x ≡ true → (b ≡ None) × (w ≡ None)
-ended_parts o None None x t kept e = (refl, refl)
-ended_parts o (Some b) None false t kept e = cc
-ended_parts o None (Some q) false t kept e = cc
-ended_parts o (Some b) (Some q) false t kept e = cc
-ended_parts o b w x t kept e = absurd kept
-
-is_gone : (o : Order) (h : Held) (t : Thing) → IsKept o h t → h.marked ≡ true → IsGone o h
-is_gone o h t kept e = let n = ended_parts o h.row h.work h.marked t kept e in (n.0, n.1, inl e)
-
-rests_polled_in_deletion : (o : Order) (h : Held) (t : Thing) (a : Answer) → IsKept o h t → IsLeaving h
+rests_polled_in_deletion : (o : Order) (h : Held) (t : Resource) (a : Answer) → IsKept o h t → IsLeaving h
     → IsPolledInDeletion h a → Rests o CleaningPolling h t (state_after_poll CleaningPolling a)
 rests_polled_in_deletion o h t a kept holds told =
     by_test o CleaningPolling h t (a.status == 200) (state_after_operation CleaningPolling Gone a.body)
@@ -116,7 +121,7 @@ rests_polled_in_deletion o h t a kept holds told =
     (λ x. (is_gone o h t kept (told.deleted (is_status a.status 410 x)), λ b. b))
     (λ _. (holds, λ b. b)))
 
-rests_deprovision : (o : Order) (h : Held) (t : Thing) (a : Answer) → IsKept o h t → IsDeprovisioned h a
+rests_deprovision : (o : Order) (h : Held) (t : Resource) (a : Answer) → IsKept o h t → IsDeprovisioned h a
     → Rests o Cleaning h t (state_after_deprovision a)
 rests_deprovision o h t a kept told =
     by_test o Cleaning h t (says_deleted a) Gone (if says_started a then CleaningPolling else Cleaning)
@@ -126,7 +131,7 @@ rests_deprovision o h t a kept told =
     (λ _. (tt, λ b. b)))
 
 -- any answer that tells what is so
-pub rests_answered : (o : Order) (s : State) (k : Kind) (h : Held) (t : Thing) (a : Answer) → sent_in s ≡ Some k
+pub rests_answered : (o : Order) (s : State) (k : Kind) (h : Held) (t : Resource) (a : Answer) → sent_in s ≡ Some k
     → IsKept o h t → HeldByState o s h t → ToldByState o s h a → Rests o s h t (state_after s k a)
 rests_answered o Wanted Provision h t a e kept holds told = rests_provision o h t a kept holds told
 rests_answered o Polling Poll h t a e kept holds told = rests_polled o h t a holds told
@@ -134,7 +139,7 @@ rests_answered o Cleaning Deprovision h t a e kept holds told = rests_deprovisio
 rests_answered o CleaningPolling Poll h t a e kept holds told = rests_polled_in_deletion o h t a kept holds told
 rests_answered o s k h t a e kept holds told = cc
 
-pub rests_timeout : (o : Order) (s : State) (h : Held) (t : Thing) → HeldByState o s h t
+pub rests_timeout : (o : Order) (s : State) (h : Held) (t : Resource) → HeldByState o s h t
     → Rests o s h t (after_timeout s)
 rests_timeout o Wanted h t holds = (tt, λ b. tt)
 rests_timeout o s h t holds = (holds, λ b. b)

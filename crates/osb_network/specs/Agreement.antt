@@ -3,17 +3,17 @@ use Rattle.std.specs.Prelude.{◌≡◌, Some, None}
 use Rattle.osb_broker.specs.declared.row.Phase.TheVariants as Phase
 use Rattle.osb_platform.specs.declared.state.State.TheVariants as State
 use Rattle.osb_instance.specs.Recorded.{Recorded}
-use Rattle.osb_network.specs.declared.thing.Thing.TheVariants.{Absent, Whole}
+use Rattle.osb_network.specs.declared.resource.Resource.TheVariants.{Absent, Whole}
 use Rattle.osb_network.specs.Cell.{Cell}
 
--- there is nothing of it: no thing, no row, no work
+-- there is nothing of it: no resource, no row, no work
 abbrev pub IsNowhere : Cell → Type 0
-IsNowhere cell = (cell.thing ≡ Absent) × (cell.held.row ≡ None) × (cell.held.work ≡ None)
+IsNowhere cell = (cell.resource ≡ Absent) × (cell.held.row ≡ None) × (cell.held.work ≡ None)
 
 -- it is there, whole: the broker holds it with the recorded service and plan, and does no work
 abbrev pub IsThere : Cell → Recorded → Type 0
 IsThere cell recorded =
-    (cell.thing ≡ Whole)
+    (cell.resource ≡ Whole)
     × (cell.held.row
     ≡ Some (record { service = recorded.row.service; plan = recorded.row.plan; phase = Phase.Ready }))
     × (cell.held.work ≡ None)

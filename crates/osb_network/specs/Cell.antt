@@ -10,8 +10,8 @@ use Rattle.osb_instance.specs.Held.{Held, nothing_held}
 use Rattle.osb_instance.specs.Recorded.{Recorded}
 use Rattle.osb_network.specs.declared.event.Given.{Given}
 use Rattle.osb_network.specs.declared.order.Order.{Order}
-use Rattle.osb_network.specs.declared.thing.Thing.{Thing}
-use Rattle.osb_network.specs.declared.thing.Thing.TheVariants.{Absent}
+use Rattle.osb_network.specs.declared.resource.Resource.{Resource}
+use Rattle.osb_network.specs.declared.resource.Resource.TheVariants.{Absent}
 use Rattle.osb_network.specs.Possible.{request_of, sent_in, IsBefore, IsKept, HeldByState, ToldByState}
 
 pub record Cell : Type 0 where
@@ -24,7 +24,7 @@ pub record Cell : Type 0 where
   -- that nobody knows how the work went
   pub worker : Option ℕ
   -- what there is in the backend
-  pub thing : Thing
+  pub resource : Resource
   -- every request ever sent
   pub sent : List Sent
   -- every answer ever given
@@ -37,7 +37,7 @@ empty_cell order = record {
   recorded = None;
   held = nothing_held;
   worker = None;
-  thing = Absent;
+  resource = Absent;
   sent = [];
   given = [];
 }
@@ -70,10 +70,10 @@ pub record IsWorkOf (out : Option Kind) (attempt : ℕ) (held : Held) (worker : 
 
 -- what goes with a record of the platform's
 pub record IsPossibleAt (order : Order) (state : State) (out : Option Kind) (attempt : ℕ) (held : Held)
-    (worker : Option ℕ) (thing : Thing) (sent : List Sent) (given : List Given) : Type 0 where
+    (worker : Option ℕ) (resource : Resource) (sent : List Sent) (given : List Given) : Type 0 where
   pub is_out : IfSome out (λ kind. sent_in state ≡ Some kind)
-  pub kept : IsKept order held thing
-  pub holds : HeldByState order state held thing
+  pub kept : IsKept order held resource
+  pub holds : HeldByState order state held resource
   pub all_sent : Each (IsSentOf order state out attempt) sent
   pub all_given : Each (IsGivenOf order state out attempt held) given
   pub works : IfSome worker (IsWorkOf out attempt held)
@@ -84,13 +84,13 @@ pub record IsPossibleRecord (cell : Cell) (recorded : Recorded) : Type 0 where
   pub service : recorded.row.service ≡ cell.order.service
   pub plan : recorded.row.plan ≡ cell.order.plan
   pub parts : IsPossibleAt cell.order recorded.row.state recorded.row.out recorded.attempt cell.held cell.worker
-      cell.thing cell.sent cell.given
+      cell.resource cell.sent cell.given
 
 -- without a record there is nothing
 pub record IsUntouched (cell : Cell) : Type 0 where
   pub held : cell.held ≡ nothing_held
   pub worker : cell.worker ≡ None
-  pub thing : cell.thing ≡ Absent
+  pub resource : cell.resource ≡ Absent
   pub sent : cell.sent ≡ []
   pub given : cell.given ≡ []
 

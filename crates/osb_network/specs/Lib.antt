@@ -1,4 +1,5 @@
 pub mod Agreement
+pub mod AnyPlatform
 pub mod Cell
 pub mod Each
 pub mod Many

@@ -6,31 +6,31 @@ use Rattle.std.specs.Prelude.{Option, Some, None, IfSome, List, [], ◌∷◌, �
 use Rattle.osb_message.specs.declared.messages.Kind.{Kind}
 use Rattle.osb_message.specs.declared.messages.Kind.TheVariants.{Provision}
 use Rattle.osb_message.specs.declared.messages.Request.{Request}
-use Rattle.osb_broker.specs.declared.outcome.Outcome.TheVariants.{Done}
+use Rattle.osb_instance.specs.declared.outcome.WorkOutcome.TheVariants.{Done}
 use Rattle.osb_broker.specs.declared.row.BrokerRow.{BrokerRow}
 use Rattle.osb_broker.specs.declared.row.Phase.{Phase}
 use Rattle.osb_platform.specs.declared.state.State.{State}
 use Rattle.osb_platform.specs.declared.state.State.TheVariants.{Ready, Gone, Unsettled}
 use Rattle.osb_instance.specs.Recorded.{Recorded}
 use Rattle.osb_network.specs.declared.event.Event.{Event}
-use Rattle.osb_network.specs.declared.thing.Thing.{Thing}
-use Rattle.osb_network.specs.declared.thing.Thing.TheVariants.{Absent, Whole}
+use Rattle.osb_network.specs.declared.resource.Resource.{Resource}
+use Rattle.osb_network.specs.declared.resource.Resource.TheVariants.{Absent, Whole}
 use Rattle.osb_network.specs.Cell.{Cell, IsPossible}
 use Rattle.osb_network.specs.Steps.{cell_step}
 
--- what there is of the thing once the recorded work has gone well, or the operation that runs
-abbrev pub good_of : Kind → Thing
+-- what there is of the resource once the pending work has gone well, or the operation that runs
+abbrev pub good_of : Kind → Resource
 good_of Provision = Whole
 good_of kind = Absent
 
-abbrev pub good_in : Phase → Thing
+abbrev pub good_in : Phase → Resource
 good_in Phase.Making = Whole
 good_in phase = Absent
 
-abbrev pub good_thing : Option Request → Option BrokerRow → Thing
-good_thing (Some request) row = good_of request.kind
-good_thing None (Some row) = good_in row.phase
-good_thing None None = Absent
+abbrev pub good_resource : Option Request → Option BrokerRow → Resource
+good_resource (Some request) row = good_of request.kind
+good_resource None (Some row) = good_in row.phase
+good_resource None None = Absent
 
 -- the number of the request that is out, and 0, which no request has, where none is
 abbrev pub number_out : Option Recorded → ℕ
@@ -39,9 +39,9 @@ number_out (Some recorded) = if is_some recorded.row.out then recorded.attempt e
 
 -- ---- the events of a fault-free round, each as it turns on the cell that it happens to
 
--- what is under way goes well for the thing
+-- what is under way goes well for the resource
 abbrev pub good_work : Cell → Event
-good_work cell = Event.Work (good_thing cell.held.work cell.held.row)
+good_work cell = Event.Work (good_resource cell.held.work cell.held.row)
 
 -- what is out arrives
 abbrev pub arrival : Cell → Event
@@ -51,7 +51,7 @@ arrival cell = Event.Arrive (number_out cell.recorded)
 abbrev pub latest_answer : Cell → Event
 latest_answer cell = Event.Take (length cell.given - 1)
 
--- the recorded work ends well, if there is some
+-- the pending work ends well, if there is some
 abbrev pub work_events : List (Cell → Event)
 work_events = good_work ∷ (λ cell. Event.End Done) ∷ []
 
@@ -63,7 +63,7 @@ operation_events = good_work ∷ (λ cell. Event.Finish true) ∷ []
 abbrev pub exchange_events : List (Cell → Event)
 exchange_events = (λ cell. Event.Send) ∷ arrival ∷ (work_events ++ latest_answer ∷ [])
 
--- the request that is out is given up, the recorded work ends well, the operation that runs ends well, and the
+-- the request that is out is given up, the pending work ends well, the operation that runs ends well, and the
 -- request that is due is sent, done and answered
 abbrev pub round_events : List (Cell → Event)
 round_events = (λ cell. Event.Timeout) ∷ (work_events ++ (operation_events ++ exchange_events))
@@ -84,11 +84,11 @@ IsPartWay events old new = (n : ℕ) × (n < length events) × (new ≡ after_fi
 
 -- ---- what they lead to
 
--- what is under way has gone well for the thing
+-- what is under way has gone well for the resource
 abbrev pub with_good : Cell → Cell
 with_good cell = cell_step cell (good_work cell)
 
--- the recorded work ends well, if there is some
+-- the pending work ends well, if there is some
 abbrev pub worked_well : Cell → Cell
 worked_well cell = cell_step (with_good cell) (Event.End Done)
 
@@ -108,7 +108,7 @@ with_answer cell = cell_step cell (latest_answer cell)
 abbrev pub exchanged : Cell → Cell
 exchanged cell = with_answer (worked_well (with_arrival (cell_step cell Event.Send)))
 
--- the cell after a fault-free round: the request that is out is given up, the recorded work ends well, the
+-- the cell after a fault-free round: the request that is out is given up, the pending work ends well, the
 -- operation that runs ends well, and the request that is due is sent, done and answered
 abbrev pub after_round : Cell → Cell
 after_round cell = exchanged (operated_well (worked_well (cell_step cell Event.Timeout)))

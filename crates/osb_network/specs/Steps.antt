@@ -9,9 +9,7 @@ use Rattle.osb_message.specs.declared.messages.ErrorCode.TheVariants.{Other}
 use Rattle.osb_message.specs.declared.messages.Kind.{Kind}
 use Rattle.osb_message.specs.declared.messages.Kind.TheVariants.{Provision}
 use Rattle.osb_message.specs.declared.messages.Request.{Request}
-use Rattle.osb_broker.specs.declared.outcome.Outcome.{Outcome}
 use Rattle.osb_broker.specs.Answers.{error}
-use Rattle.osb_broker.specs.Finished.{is_running}
 use Rattle.osb_platform.specs.declared.state.State.{State}
 use Rattle.osb_platform.specs.declared.state.State.TheVariants.{Cleaning}
 use Rattle.osb_platform.specs.PlatformRow.{in_state, wanted_row}
@@ -20,13 +18,14 @@ use Rattle.osb_platform.specs.Statuses.{is_within}
 use Rattle.osb_instance.specs.declared.record.Sent.{Sent}
 use Rattle.osb_instance.specs.declared.work.Begun.{Begun}
 use Rattle.osb_instance.specs.declared.work.Begun.TheVariants.{Answered}
-use Rattle.osb_instance.specs.Begin.{begun, worked, finished_held}
+use Rattle.osb_instance.specs.declared.outcome.WorkOutcome.{WorkOutcome}
+use Rattle.osb_instance.specs.Begin.{begun, busy, worked, finished_held, given_up, is_operating}
 use Rattle.osb_instance.specs.Held.{Held}
-use Rattle.osb_instance.specs.Recorded.{Recorded}
+use Rattle.osb_instance.specs.Recorded.{Recorded, is_deleting}
 use Rattle.osb_network.specs.declared.event.Event.{Event}
 use Rattle.osb_network.specs.declared.event.Given.{Given}
 use Rattle.osb_network.specs.declared.step.Step.{Step}
-use Rattle.osb_network.specs.declared.thing.Thing.{Thing}
+use Rattle.osb_network.specs.declared.resource.Resource.{Resource}
 use Rattle.osb_network.specs.Cell.{Cell}
 use Rattle.osb_network.specs.Possible.{request_of}
 use Rattle.osb_network.specs.Truth.{is_true_end, is_true_finish_of, is_under_way}
@@ -155,21 +154,26 @@ arrived cell sent held (Begun.Work work) = record cell { held = held; worker = S
 abbrev pub arrive : Cell → Option Sent → Cell
 arrive cell None = cell
 arrive cell (Some sent) =
-    let after = begun cell.order.mode cell.held sent.request in arrived cell sent after.0 after.1
+    let after = begun cell.order.mode cell.order.first_poll cell.held sent.request cell.order.attributes in arrived cell sent after.0 after.1
+
+-- a request arrives and is put off: it is answered as if work were pending, and nothing else changes
+abbrev pub put_off : Cell → Option Sent → Cell
+put_off cell None = cell
+put_off cell (Some sent) = with_given cell sent.attempt (busy sent.request.kind)
 
 -- the work ends, and is answered, unless nobody waits for that any more
 abbrev pub ended : Cell → Held → Answer → Option ℕ → Cell
 ended cell held answer None = record cell { held = held }
 ended cell held answer (Some attempt) = with_given (record cell { held = held; worker = None }) attempt answer
 
-abbrev pub may_end : Cell → Option Request → Outcome → Bool
+abbrev pub may_end : Cell → Option Request → WorkOutcome → Bool
 may_end cell None outcome = false
-may_end cell (Some request) outcome = is_true_end cell.order.mode request.kind outcome cell.thing
+may_end cell (Some request) outcome = is_true_end cell.order.mode request.kind outcome cell.resource
 
-abbrev pub end : Cell → Option Request → Outcome → Cell
+abbrev pub end : Cell → Option Request → WorkOutcome → Cell
 end cell None outcome = cell
 end cell (Some request) outcome =
-    if is_true_end cell.order.mode request.kind outcome cell.thing
+    if is_true_end cell.order.mode request.kind outcome cell.resource
     then (let after = worked cell.order.mode cell.held request outcome in ended cell after.0 after.1 cell.worker)
     else cell
 
@@ -184,13 +188,17 @@ end_unknown cell (Some attempt) = with_given (record cell { worker = None }) att
 -- an operation runs, and may end so
 abbrev pub can_finish : Cell → Bool → Bool
 can_finish cell ok =
-    is_none cell.held.work && is_running cell.held.row && is_true_finish_of cell.held.row ok cell.thing
+    is_none cell.held.work && is_operating cell.held && is_true_finish_of cell.held.row ok cell.resource
 
 abbrev pub finish : Cell → Bool → Cell
 finish cell ok = if can_finish cell ok then record cell { held = finished_held cell.held ok } else cell
 
-abbrev pub work : Cell → Thing → Cell
-work cell thing = if is_under_way cell.held then record cell { thing = thing } else cell
+-- the instance has waited too long for its first Poll
+abbrev pub give_up_waiting : Cell → Cell
+give_up_waiting cell = if cell.held.waiting then record cell { held = given_up cell.held } else cell
+
+abbrev pub work : Cell → Resource → Cell
+work cell resource = if is_under_way cell.held then record cell { resource = resource } else cell
 
 abbrev pub crash_broker : Cell → Cell
 crash_broker cell = record cell { worker = None }
@@ -201,16 +209,19 @@ abbrev pub cell_step : Cell → Event → Cell
 cell_step cell Event.Create = create cell cell.recorded
 cell_step cell Event.Send = send cell cell.recorded
 cell_step cell Event.Expire = clean_up is_polling cell cell.recorded
+cell_step cell Event.Retry = clean_up is_deleting cell cell.recorded
 cell_step cell Event.Remove = clean_up is_removable cell cell.recorded
 cell_step cell Event.Timeout = give_up cell cell.recorded
 cell_step cell (Event.Arrive attempt) = arrive cell (sent_as cell.sent attempt)
+cell_step cell (Event.PutOff attempt) = put_off cell (sent_as cell.sent attempt)
 cell_step cell (Event.Take at) = take_given cell (slice_get cell.given at)
 cell_step cell (Event.TakeGarbled at) = take_garbled cell (slice_get cell.given at)
 cell_step cell (Event.TakeGateway status) = take_gateway cell cell.recorded status
 cell_step cell (Event.End outcome) = end cell cell.held.work outcome
 cell_step cell Event.EndUnknown = end_unknown cell cell.worker
 cell_step cell (Event.Finish ok) = finish cell ok
-cell_step cell (Event.Work thing) = work cell thing
+cell_step cell Event.GiveUpWaiting = give_up_waiting cell
+cell_step cell (Event.Work resource) = work cell resource
 cell_step cell Event.CrashBroker = crash_broker cell
 cell_step cell Event.CrashPlatform = cell
 
@@ -224,16 +235,19 @@ abbrev pub applies : Cell → Event → Bool
 applies cell Event.Create = is_none cell.recorded
 applies cell Event.Send = may_send cell.recorded
 applies cell Event.Expire = may_clean_up is_polling cell.recorded
+applies cell Event.Retry = may_clean_up is_deleting cell.recorded
 applies cell Event.Remove = may_clean_up is_removable cell.recorded
 applies cell Event.Timeout = has_out cell.recorded
 applies cell (Event.Arrive attempt) = is_some (sent_as cell.sent attempt)
+applies cell (Event.PutOff attempt) = is_some (sent_as cell.sent attempt)
 applies cell (Event.Take at) = may_take cell (slice_get cell.given at)
 applies cell (Event.TakeGarbled at) = may_take cell (slice_get cell.given at)
 applies cell (Event.TakeGateway status) = is_within 500 599 status && has_out cell.recorded
 applies cell (Event.End outcome) = may_end cell cell.held.work outcome
 applies cell Event.EndUnknown = is_some cell.worker
 applies cell (Event.Finish ok) = can_finish cell ok
-applies cell (Event.Work thing) = is_under_way cell.held
+applies cell Event.GiveUpWaiting = cell.held.waiting
+applies cell (Event.Work resource) = is_under_way cell.held
 applies cell Event.CrashBroker = true
 applies cell Event.CrashPlatform = true
 
@@ -249,13 +263,14 @@ is_answered (Begun.Work work) = false
 
 abbrev pub answers : Cell → Option Sent → Bool
 answers cell None = false
-answers cell (Some sent) = is_answered (begun cell.order.mode cell.held sent.request).1
+answers cell (Some sent) = is_answered (begun cell.order.mode cell.order.first_poll cell.held sent.request cell.order.attributes).1
 
 -- whether the event may ask for memory: for a request more, for an answer more, or for a text
 abbrev pub takes_memory : Cell → Event → Bool
 takes_memory cell Event.Create = is_none cell.recorded
 takes_memory cell Event.Send = may_send cell.recorded
 takes_memory cell (Event.Arrive attempt) = answers cell (sent_as cell.sent attempt)
+takes_memory cell (Event.PutOff attempt) = is_some (sent_as cell.sent attempt)
 takes_memory cell (Event.End outcome) = may_end cell cell.held.work outcome && is_some cell.worker
 takes_memory cell Event.EndUnknown = is_some cell.worker
 takes_memory cell Event.CrashBroker = true

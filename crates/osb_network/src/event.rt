@@ -1,6 +1,6 @@
 //! What can happen to an instance.
-use crate::Thing;
-use osb_broker::Outcome;
+use crate::Resource;
+use osb_instance::WorkOutcome;
 use osb_message::{Answer, InstanceId};
 
 /// An answer that was given, and the number of the request that it answers.
@@ -13,7 +13,7 @@ pub struct Given {
 }
 
 /// What can happen to an instance: what the two sides do, what a network does to what they send, what the work does to
-/// the thing, and the crashes (this project's choice). Where it says "applies" below and that isn't so, the event
+/// the resource, and the crashes (this project's choice). Where it says "applies" below and that isn't so, the event
 /// changes nothing.
 #[derive(Clone, Copy, Debug, PartialEq, Eq, Hash)]
 pub enum Event {
@@ -24,6 +24,8 @@ pub enum Event {
     Send,
     /// The platform gives up polling. It applies in `polling` with nothing out.
     Expire,
+    /// The platform sends a deletion again. It applies in `cleaning-polling` with nothing out.
+    Retry,
     /// An operator has it deleted. It applies in `polling`, `ready` and `unsettled` with nothing out.
     Remove,
     /// The platform gives up the request that is out. It applies where one is.
@@ -31,6 +33,13 @@ pub enum Event {
     /// The request of this number arrives at the broker: for the first time or again, in time or long after it was
     /// given up. It applies where it was ever sent.
     Arrive {
+        /// The number, from 1.
+        attempt: u64,
+    },
+    /// The request of this number arrives at the broker, as at [`Event::Arrive`], and is put off: it is answered as if
+    /// work were pending, whatever is held, and nothing else changes. So a broker answers that lets no work begin for a
+    /// reason of its own. It applies if the request was ever sent.
+    PutOff {
         /// The number, from 1.
         attempt: u64,
     },
@@ -47,33 +56,35 @@ pub enum Event {
     },
     /// A gateway answers the request that is out, with a body that can't be read. It applies where one is out and the
     /// status is from 500 to 599. Whatever else a gateway says has to be told from what the broker says, and is a
-    /// [`Event::Timeout`]: a premise.
+    /// [`Event::Timeout`]: an assumption.
     TakeGateway {
         /// The status.
         status: u16,
     },
-    /// The work ends so, and its request is answered, unless the broker has crashed since it arrived or has told of
-    /// an unknown outcome. It applies where work is recorded, and may have left the thing that is there: a Provision
-    /// that ends with `Before` has left none; with a synchronous plan one that ends otherwise has left all of it, and
-    /// a Deprovision that ends with `Done` or `After` none.
+    /// The pending work ends so, and its request is answered, unless the broker has crashed since it arrived or has
+    /// reported an unknown outcome. It applies if work is pending, and may have left the resource that exists: a
+    /// Provision that ends with `Before` or `Refused` has left none; with a synchronous plan one that ends otherwise has
+    /// left all of it, and a Deprovision that ends with `Done` or `After` none. A Deprovision isn't refused.
     End {
         /// How it ends.
-        outcome: Outcome,
+        outcome: WorkOutcome,
     },
     /// Nobody knows how the work went: its request is answered with 500, and the work stays recorded. It applies where
     /// work goes on whose request isn't answered yet.
     EndUnknown,
-    /// The operation that runs ends. It applies where one runs and no work is recorded, and the thing is there whole
+    /// The operation that runs ends. It applies if one runs and no work is pending, and the resource is there whole
     /// where a making ends well, and none is there where a deletion ends well.
     Finish {
         /// Whether it ends well.
         ok: bool,
     },
-    /// The thing becomes this: it is made or deleted, a part of it or all, or what was done is undone. It applies where
-    /// work is recorded or an operation runs. Nothing else changes the thing: a premise.
+    /// The broker gives up a row that waits for its first Poll. It applies if one does.
+    GiveUpWaiting,
+    /// The resource becomes this: it is made or deleted, a part of it or all, or what was done is undone. It applies where
+    /// work is pending or an operation runs. Nothing else changes the resource: an assumption.
     Work {
         /// What there is of it then.
-        thing: Thing,
+        resource: Resource,
     },
     /// The broker crashes and starts again: what it holds goes through its text and back, and a request whose work
     /// goes on is never answered. It always applies.

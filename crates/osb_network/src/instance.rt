@@ -10,15 +10,14 @@ ghost use Rattle.osb_network.specs.Steps.{applies, cell_step, cell_steps, step_o
 ghost use Rattle.osb_instance.specs.declared.record.Sent.{Sent};
 
 use crate::parts::Parts;
-use crate::truth::good_thing;
-use crate::{Event, Given, Order, Step, Thing};
-use osb_broker::Outcome;
-use osb_instance::{Holding, Record, Sent};
+use crate::truth::{good_resource, table_row};
+use crate::{Event, Given, Order, Resource, Step};
+use osb_instance::{Holding, Record, Sent, WorkOutcome};
 use osb_message::Memory;
 use std::alloc::Global;
 use std::marker::Model;
 
-/// One instance: what the platform records, what the broker holds, the thing in the backend, every request ever sent
+/// One instance: what the platform records, what the broker holds, the resource in the backend, every request ever sent
 /// and every answer ever given (this project's choice, and so are its calls).
 ///
 /// Contracts see its cell, which can come about (`IsPossible`); and so both sides and the backend agree on it,
@@ -93,10 +92,10 @@ impl Instance {
     }
 
     /// What there is in the backend. It takes no memory.
-    pub fn thing(&self) -> Thing
-        ensures thing { result ≡ self.now.thing }
+    pub fn resource(&self) -> Resource
+        ensures resource { result ≡ self.now.resource }
     {
-        self.parts.thing
+        self.parts.resource
     }
 
     /// Every request ever sent, in the order of their numbers: at place n is the one with the number n + 1. It takes
@@ -124,23 +123,23 @@ impl Instance {
         let _ = &self.parts;
     }
 
-    // The recorded work, or the operation that runs, has gone well for the thing.
+    // The pending work, or the operation that runs, has gone well for the resource.
     fn go_well(&mut self, alloc: Global) -> Result<(), Memory>
         ensures cell { OnOk result (self.new ≡ with_good self.old) }
         ensures err { OnErr result (self.new ≡ self.old) }
     {
-        let thing = good_thing(self.parts.holding.work(), self.parts.holding.row());
-        self.step(alloc, Event::Work { thing })?;
+        let resource = good_resource(self.parts.holding.work(), table_row(self.parts.holding));
+        self.step(alloc, Event::Work { resource })?;
         Ok(())
     }
 
-    // The recorded work ends well, if there is some.
+    // The pending work ends well, if there is some.
     fn work_well(&mut self, alloc: Global) -> Result<(), Memory>
         ensures cell { OnOk result (self.new ≡ worked_well self.old) }
         ensures err { OnErr result (IsPartWay work_events self.old self.new) }
     {
         self.go_well(alloc)?;
-        let outcome = Outcome::Done;
+        let outcome = WorkOutcome::Done;
         self.step(alloc, Event::End { outcome })?;
         Ok(())
     }
@@ -214,7 +213,7 @@ impl Instance {
     }
 
     /// Cleans up after the instance, as it ends once nothing goes wrong any more: three fault-free rounds (this
-    /// project's choice). In a round the request that is out is given up, the recorded work ends well, an operation
+    /// project's choice). In a round the request that is out is given up, the pending work ends well, an operation
     /// that runs ends well, and the request that is due is sent, arrives, its work ends well, and its answer is taken;
     /// each of these is passed over where it doesn't apply.
     ///

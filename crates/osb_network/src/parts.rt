@@ -2,15 +2,16 @@
 ghost use Rattle.std.specs.Prelude.{◌≡◌, ◌&&◌, false, is_some, IfOk, IsOk, OnOk, OnErr, slice_get};
 ghost use Rattle.osb_platform.specs.State.{is_polling, is_removable};
 ghost use Rattle.osb_platform.specs.Statuses.{is_within};
+ghost use Rattle.osb_instance.specs.Begin.{begun};
+ghost use Rattle.osb_instance.specs.Recorded.{is_deleting};
 ghost use Rattle.osb_network.specs.Cell.{IsPossible, empty_cell};
 ghost use Rattle.osb_network.specs.Steps as step;
 ghost use Rattle.osb_network.specs.Steps.{step_of};
 
-use crate::truth::{is_true_end, is_true_finish, is_under_way};
-use crate::{Event, Given, Order, Step, Thing};
-use osb_broker::Outcome;
-use osb_instance::{Begun, Holding, Record, Sent, TextFault};
-use osb_message::{Answer, Body, ErrorCode, Memory};
+use crate::truth::{is_true_end, is_true_finish, is_under_way, table_row};
+use crate::{Event, Given, Order, Resource, Step};
+use osb_instance::{Begun, Holding, Record, Sent, TextFault, WorkOutcome, busy};
+use osb_message::{Answer, Body, ErrorCode, Memory, Request};
 use std::alloc::Global;
 use std::marker::Model;
 
@@ -21,7 +22,7 @@ pub(crate) struct Parts {
     pub(crate) recorded: Option<Record>,
     pub(crate) holding: Holding,
     pub(crate) worker: Option<u64>,
-    pub(crate) thing: Thing,
+    pub(crate) resource: Resource,
     pub(crate) sent: Vec<Sent>,
     pub(crate) given: Vec<Given>,
 }
@@ -36,7 +37,7 @@ impl Model for Parts {
       recorded = p.recorded;
       held = p.holding;
       worker = p.worker;
-      thing = p.thing;
+      resource = p.resource;
       sent = p.sent.items;
       given = p.given.items;
     } };
@@ -63,7 +64,7 @@ fn unknown() -> Answer
 }
 
 // What a holding is after a crash: its text, read back.
-fn holding_read_back(alloc: Global, holding: Holding) -> Result<Holding, Memory>
+pub(crate) fn holding_read_back(alloc: Global, holding: Holding) -> Result<Holding, Memory>
     ensures same { IfOk result (λ read. read ≡ holding) }
 {
     let text = holding.to_text(alloc)?;
@@ -95,7 +96,7 @@ impl Parts {
             recorded: None,
             holding: Holding::NONE,
             worker: None,
-            thing: Thing::Absent,
+            resource: Resource::Absent,
             sent: Vec::new(alloc),
             given: Vec::new(alloc),
         }
@@ -148,6 +149,20 @@ impl Parts {
             return Step::Skipped;
         };
         let Ok(after) = record.expire() else {
+            return Step::Skipped;
+        };
+        self.recorded = Some(after);
+        Step::Applied
+    }
+
+    fn retry(&mut self) -> Step
+        ensures cell { self.new ≡ step.cell_step self.old Event.Retry }
+        ensures step { result ≡ step_of (step.applies self.old Event.Retry) }
+    {
+        let Some(record) = self.recorded else {
+            return Step::Skipped;
+        };
+        let Ok(after) = record.retry() else {
             return Step::Skipped;
         };
         self.recorded = Some(after);
@@ -253,8 +268,35 @@ impl Parts {
         let Some(sent) = self.sent_as(attempt) else {
             return Ok(Step::Skipped);
         };
-        let (holding, begun) = self.holding.begin(self.order.mode, &sent.request);
+        let (holding, begun) = self.begin(&sent.request);
         self.arrived(sent, holding, begun)?;
+        Ok(Step::Applied)
+    }
+
+    // The holding and what begins, once a request has come.
+    fn begin(&self, request: &Request) -> (Holding, Begun)
+        ensures begun { result ≡ begun self.now.order.mode self.now.order.first_poll self.now.held request.now
+            self.now.order.attributes }
+    {
+        let Order {
+            mode,
+            first_poll,
+            attributes,
+            ..
+        } = self.order;
+        self.holding.begin(mode, first_poll, request, attributes)
+    }
+
+    fn put_off(&mut self, attempt: u64) -> Result<Step, Memory>
+        ensures cell { OnOk result (self.new ≡ step.cell_step self.old (Event.PutOff attempt)) }
+        ensures step { IfOk result (λ s. s ≡ step_of (step.applies self.old (Event.PutOff attempt))) }
+        ensures err { OnErr result (self.new ≡ self.old) }
+        ensures no_memory { step.takes_memory self.old (Event.PutOff attempt) ≡ false → IsOk result }
+    {
+        let Some(sent) = self.sent_as(attempt) else {
+            return Ok(Step::Skipped);
+        };
+        self.give(sent.attempt, busy(sent.request.kind))?;
         Ok(Step::Applied)
     }
 
@@ -310,7 +352,7 @@ impl Parts {
         }
     }
 
-    fn end(&mut self, outcome: Outcome) -> Result<Step, Memory>
+    fn end(&mut self, outcome: WorkOutcome) -> Result<Step, Memory>
         ensures cell { OnOk result (self.new ≡ step.cell_step self.old (Event.End outcome)) }
         ensures step { IfOk result (λ s. s ≡ step_of (step.applies self.old (Event.End outcome))) }
         ensures err { OnErr result (self.new ≡ self.old) }
@@ -319,7 +361,7 @@ impl Parts {
         let Some(request) = self.holding.work() else {
             return Ok(Step::Skipped);
         };
-        if !is_true_end(self.order.mode, request.kind, outcome, self.thing) {
+        if !is_true_end(self.order.mode, request.kind, outcome, self.resource) {
             return Ok(Step::Skipped);
         }
         let Ok((holding, answer)) = self.holding.end(self.order.mode, outcome) else {
@@ -347,7 +389,7 @@ impl Parts {
         ensures cell { self.new ≡ step.cell_step self.old (Event.Finish ok) }
         ensures step { result ≡ step_of (step.applies self.old (Event.Finish ok)) }
     {
-        if !is_true_finish(self.holding.row(), ok, self.thing) {
+        if !is_true_finish(table_row(self.holding), ok, self.resource) {
             return Step::Skipped;
         }
         let Ok(after) = self.holding.finish(ok) else {
@@ -357,14 +399,25 @@ impl Parts {
         Step::Applied
     }
 
-    fn work(&mut self, thing: Thing) -> Step
-        ensures cell { self.new ≡ step.cell_step self.old (Event.Work thing) }
-        ensures step { result ≡ step_of (step.applies self.old (Event.Work thing)) }
+    fn give_up_waiting(&mut self) -> Step
+        ensures cell { self.new ≡ step.cell_step self.old Event.GiveUpWaiting }
+        ensures step { result ≡ step_of (step.applies self.old Event.GiveUpWaiting) }
     {
-        if !is_under_way(self.holding.work(), self.holding.row()) {
+        let Ok(after) = self.holding.give_up_waiting() else {
+            return Step::Skipped;
+        };
+        self.holding = after;
+        Step::Applied
+    }
+
+    fn work(&mut self, resource: Resource) -> Step
+        ensures cell { self.new ≡ step.cell_step self.old (Event.Work resource) }
+        ensures step { result ≡ step_of (step.applies self.old (Event.Work resource)) }
+    {
+        if !is_under_way(self.holding) {
             return Step::Skipped;
         }
-        self.thing = thing;
+        self.resource = resource;
         Step::Applied
     }
 
@@ -402,16 +455,19 @@ impl Parts {
             Event::Create => self.create(),
             Event::Send => self.send(),
             Event::Expire => Ok(self.expire()),
+            Event::Retry => Ok(self.retry()),
             Event::Remove => Ok(self.remove()),
             Event::Timeout => Ok(self.timeout()),
             Event::Arrive { attempt } => self.arrive(attempt),
+            Event::PutOff { attempt } => self.put_off(attempt),
             Event::Take { at } => Ok(self.take_given(at)),
             Event::TakeGarbled { at } => Ok(self.take_garbled(at)),
             Event::TakeGateway { status } => Ok(self.take_gateway(status)),
             Event::End { outcome } => self.end(outcome),
             Event::EndUnknown => self.end_unknown(),
             Event::Finish { ok } => Ok(self.finish(ok)),
-            Event::Work { thing } => Ok(self.work(thing)),
+            Event::GiveUpWaiting => Ok(self.give_up_waiting()),
+            Event::Work { resource } => Ok(self.work(resource)),
             Event::CrashBroker => self.crash_broker(alloc),
             Event::CrashPlatform => self.crash_platform(alloc),
         }

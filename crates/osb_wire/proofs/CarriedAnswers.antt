@@ -56,34 +56,38 @@ no_error status None = refl
 no_error status (Some text) =
     cond_both (status == 202) _ _ (λ (ms : Members). error_in (object ms) ≡ Empty) (λ _. refl) (λ _. refl)
 
-same_body : (kind : Kind) (status : ℕ) (operation : Option (List ℕ)) (body : Body) → fits kind status body ≡ true
-    → body_of kind status (option_and_then if_object (body_value status operation body)) ≡ body
-same_body kind status operation Malformed h = refl
-same_body Provision status operation Empty h = rw (no_error status (option_and_then if_short operation)) (alike (is_success status) Empty)
-same_body Poll status operation Empty h =
+same_body : (kind : Kind) (status : ℕ) (operation told : Option (List ℕ)) (body : Body) → fits kind status body ≡ true
+    → body_of kind status (option_and_then if_object (body_value status operation told body)) ≡ body
+same_body kind status operation told Malformed h = refl
+same_body Provision status operation told Empty h = rw (no_error status (option_and_then if_short operation)) (alike (is_success status) Empty)
+same_body Poll status operation told Empty h =
     rw (no_error status (option_and_then if_short operation), no_state status (option_and_then if_short operation)) (alike (status == 200) Empty)
-same_body Deprovision status operation Empty h = rw (no_error status (option_and_then if_short operation)) (alike (is_success status) Empty)
-same_body Poll status operation (State InProgress) h = rw h refl
-same_body Poll status operation (State Succeeded) h = rw h refl
-same_body Poll status operation (State Failed) h = rw h refl
-same_body Provision status operation (State state) h = absurd (true≢false (sym h))
-same_body Deprovision status operation (State state) h = absurd (true≢false (sym h))
-same_body Provision status operation (Error AsyncRequired) h = where_not (is_success status) _ _ h
-same_body Provision status operation (Error ConcurrencyError) h = where_not (is_success status) _ _ h
-same_body Provision status operation (Error Other) h = where_not (is_success status) _ _ h ∙ ap Error (reason_is_other status)
-same_body Deprovision status operation (Error AsyncRequired) h = where_not (is_success status) _ _ h
-same_body Deprovision status operation (Error ConcurrencyError) h = where_not (is_success status) _ _ h
-same_body Deprovision status operation (Error Other) h = where_not (is_success status) _ _ h ∙ ap Error (reason_is_other status)
-same_body Poll status operation (Error AsyncRequired) h = where_not (status == 200) _ _ h
-same_body Poll status operation (Error ConcurrencyError) h = where_not (status == 200) _ _ h
-same_body Poll status operation (Error Other) h = where_not (status == 200) _ _ h ∙ ap Error (reason_is_other status)
+same_body Deprovision status operation told Empty h = rw (no_error status (option_and_then if_short operation)) (alike (is_success status) Empty)
+same_body Poll status operation told (State InProgress) h = rw h refl
+same_body Poll status operation told (State Succeeded) h = rw h refl
+same_body Poll status operation None (State Failed) h = rw h refl
+same_body Poll status operation (Some text) (State Failed) h = rw h refl
+same_body Provision status operation told (State state) h = absurd (true≢false (sym h))
+same_body Deprovision status operation told (State state) h = absurd (true≢false (sym h))
+same_body Provision status operation told (Error AsyncRequired) h = where_not (is_success status) _ _ h
+same_body Provision status operation told (Error ConcurrencyError) h = where_not (is_success status) _ _ h
+same_body Provision status operation told (Error Other) h = where_not (is_success status) _ _ h ∙ ap Error (reason_is_other status)
+same_body Deprovision status operation told (Error AsyncRequired) h = where_not (is_success status) _ _ h
+same_body Deprovision status operation told (Error ConcurrencyError) h = where_not (is_success status) _ _ h
+same_body Deprovision status operation told (Error Other) h = where_not (is_success status) _ _ h ∙ ap Error (reason_is_other status)
+same_body Poll status operation told (Error AsyncRequired) h = where_not (status == 200) _ _ h
+same_body Poll status operation told (Error ConcurrencyError) h = where_not (status == 200) _ _ h
+same_body Poll status operation told (Error Other) h = where_not (status == 200) _ _ h ∙ ap Error (reason_is_other status)
 
-is_object_if_readable : (status : ℕ) (operation : Option (List ℕ)) (body : Body)
-    → is_some (option_and_then if_object (body_value status operation body)) ≡ is_readable body
-is_object_if_readable status operation Malformed = refl
-is_object_if_readable status operation Empty = refl
-is_object_if_readable status operation (State state) = refl
-is_object_if_readable status operation (Error code) = refl
+is_object_if_readable : (status : ℕ) (operation told : Option (List ℕ)) (body : Body)
+    → is_some (option_and_then if_object (body_value status operation told body)) ≡ is_readable body
+is_object_if_readable status operation told Malformed = refl
+is_object_if_readable status operation told Empty = refl
+is_object_if_readable status operation told (State InProgress) = refl
+is_object_if_readable status operation told (State Succeeded) = refl
+is_object_if_readable status operation None (State Failed) = refl
+is_object_if_readable status operation (Some text) (State Failed) = refl
+is_object_if_readable status operation told (Error code) = refl
 
 abbrev response : ℕ → Body → Answer
 response status body = record { status = status; body = body }
@@ -93,11 +97,11 @@ sure : (u v : Bool) (status : ℕ) (found body : Body) → (not u && v) ≡ true
 sure true v status found body h same = absurd (true≢false (sym h))
 sure false v status found body h same = ap (λ b. Some (response status b)) (same h)
 
-carried_object : (kind : Kind) (a : Answer) (operation : Option (List ℕ)) → is_carried kind a ≡ true
-    → answer_of_object kind a.status (option_and_then if_object (body_value a.status operation a.body)) ≡ Some a
-carried_object kind a operation h =
-    let readable = is_object_if_readable a.status operation a.body in
-    rw readable (sure _ _ a.status _ a.body h (same_body kind a.status operation a.body))
+carried_object : (kind : Kind) (a : Answer) (operation told : Option (List ℕ)) → is_carried kind a ≡ true
+    → answer_of_object kind a.status (option_and_then if_object (body_value a.status operation told a.body)) ≡ Some a
+carried_object kind a operation told h =
+    let readable = is_object_if_readable a.status operation told a.body in
+    rw readable (sure _ _ a.status _ a.body h (same_body kind a.status operation told a.body))
 
 -- ---- the texts
 
@@ -108,38 +112,41 @@ reads_nothing = refl
 no_value : value_in [] ≡ None
 no_value = value_in_text [] ([], (refl, refl)) ∙ reads_nothing
 
-pub carried_nothing : (kind : Kind) (a : Answer) (operation : Option (List ℕ)) (text : List ℕ)
-    → None ≡ body_value a.status operation a.body → text ≡ [] → is_carried kind a ≡ true
+pub carried_nothing : (kind : Kind) (a : Answer) (operation told : Option (List ℕ)) (text : List ℕ)
+    → None ≡ body_value a.status operation told a.body → text ≡ [] → is_carried kind a ≡ true
     → answer_in kind a.status text ≡ Some a
-carried_nothing kind a operation text none empty h =
+carried_nothing kind a operation told text none empty h =
     let object = ap (option_and_then if_object) (ap value_in empty ∙ no_value ∙ none) in
-    ap (answer_of_object kind a.status) object ∙ carried_object kind a operation h
+    ap (answer_of_object kind a.status) object ∙ carried_object kind a operation told h
 
-pub carried_text : (kind : Kind) (a : Answer) (operation : Option (List ℕ)) (d : Data) (text : List ℕ)
-    → Some d ≡ body_value a.status operation a.body → IsUtf8 text → read text ≡ Some d → is_carried kind a ≡ true
+pub carried_text : (kind : Kind) (a : Answer) (operation told : Option (List ℕ)) (d : Data) (text : List ℕ)
+    → Some d ≡ body_value a.status operation told a.body → IsUtf8 text → read text ≡ Some d → is_carried kind a ≡ true
     → answer_in kind a.status text ≡ Some a
-carried_text kind a operation d text value utf8 reads h =
+carried_text kind a operation told d text value utf8 reads h =
     let object = ap (option_and_then if_object) (value_in_text text utf8 ∙ reads ∙ value) in
-    ap (answer_of_object kind a.status) object ∙ carried_object kind a operation h
+    ap (answer_of_object kind a.status) object ∙ carried_object kind a operation told h
 
 -- the text reads as the object that is meant
-same_object : (status : ℕ) (operation : Option (List ℕ)) (body : Body)
-    → option_and_then if_object (body_value status operation body) ≡ body_value status operation body
-same_object status operation Malformed = refl
-same_object status operation Empty = refl
-same_object status operation (State state) = refl
-same_object status operation (Error code) = refl
+same_object : (status : ℕ) (operation told : Option (List ℕ)) (body : Body)
+    → option_and_then if_object (body_value status operation told body) ≡ body_value status operation told body
+same_object status operation told Malformed = refl
+same_object status operation told Empty = refl
+same_object status operation told (State InProgress) = refl
+same_object status operation told (State Succeeded) = refl
+same_object status operation None (State Failed) = refl
+same_object status operation (Some text) (State Failed) = refl
+same_object status operation told (Error code) = refl
 
-pub object_of_nothing : (status : ℕ) (operation : Option (List ℕ)) (body : Body) (text : List ℕ)
-    → None ≡ body_value status operation body → text ≡ [] → object_in text ≡ body_value status operation body
-object_of_nothing status operation body text none empty =
-    ap (option_and_then if_object) (ap value_in empty ∙ no_value ∙ none) ∙ same_object status operation body
+pub object_of_nothing : (status : ℕ) (operation told : Option (List ℕ)) (body : Body) (text : List ℕ)
+    → None ≡ body_value status operation told body → text ≡ [] → object_in text ≡ body_value status operation told body
+object_of_nothing status operation told body text none empty =
+    ap (option_and_then if_object) (ap value_in empty ∙ no_value ∙ none) ∙ same_object status operation told body
 
-pub object_of_text : (status : ℕ) (operation : Option (List ℕ)) (body : Body) (d : Data) (text : List ℕ)
-    → Some d ≡ body_value status operation body → IsUtf8 text → read text ≡ Some d
-    → object_in text ≡ body_value status operation body
-object_of_text status operation body d text value utf8 reads =
-    ap (option_and_then if_object) (value_in_text text utf8 ∙ reads ∙ value) ∙ same_object status operation body
+pub object_of_text : (status : ℕ) (operation told : Option (List ℕ)) (body : Body) (d : Data) (text : List ℕ)
+    → Some d ≡ body_value status operation told body → IsUtf8 text → read text ≡ Some d
+    → object_in text ≡ body_value status operation told body
+object_of_text status operation told body d text value utf8 reads =
+    ap (option_and_then if_object) (value_in_text text utf8 ∙ reads ∙ value) ∙ same_object status operation told body
 
 -- the operation of an empty 202
 operation_of_plain : (operation : Option (List ℕ))
@@ -149,11 +156,11 @@ operation_of_plain (Some text) =
     cond_both (nat_le (length (chars text)) longest_operation) (Some text) None
     (λ short. operation_at (object (operation_members 202 short)) ≡ short) (λ fits. rw fits refl) (λ _. refl)
 
-pub carried_operation : (status : ℕ) (body : Body) (operation : Option (List ℕ)) (d : Data) (text : List ℕ)
-    → Some d ≡ body_value status operation body → IsUtf8 text → read text ≡ Some d → status ≡ 202 → body ≡ Empty
+pub carried_operation : (status : ℕ) (body : Body) (operation told : Option (List ℕ)) (d : Data) (text : List ℕ)
+    → Some d ≡ body_value status operation told body → IsUtf8 text → read text ≡ Some d → status ≡ 202 → body ≡ Empty
     → operation_in text ≡ option_and_then if_short operation
-carried_operation status body operation d text value utf8 reads accepted empty =
-    let plain = value ∙ (λ i. body_value (accepted i) operation (empty i)) in
+carried_operation status body operation told d text value utf8 reads accepted empty =
+    let plain = value ∙ (λ i. body_value (accepted i) operation told (empty i)) in
     let object = ap (option_and_then if_object) (value_in_text text utf8 ∙ reads ∙ plain) in
     ap (option_and_then operation_at) object ∙ operation_of_plain operation
 

@@ -1,6 +1,14 @@
 pub mod BodyValues
+pub mod CanonicalValues
 pub mod CarriedAnswers
+pub mod ConflictText
+pub mod CutTexts
 pub mod IdBytes
+pub mod JsonBodies
+pub mod JudgedNames
+pub mod JudgedRules
+pub mod KnownTexts
+pub mod ObjectTexts
 pub mod Paths
 pub mod ProvisionsBack
 pub mod Queries
@@ -8,4 +16,5 @@ pub mod RefusalTexts
 pub mod RequestsBack
 pub mod SameBytes
 pub mod Seconds
+pub mod Segments
 pub mod TargetsBack

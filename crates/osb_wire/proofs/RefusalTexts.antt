@@ -33,7 +33,7 @@ pub too_long : IsTextOf TooLong (codes "{\"description\":\"The body is too long.
 unfolding serde_json_on_literals value_in is_utf8 chars
 too_long = (refl, refl)
 
-pub bad_instance : IsTextOf BadInstance (codes "{\"description\":\"The instance id must be a GUID.\",\"error\":\"BadRequest\"}")
+pub bad_instance : IsTextOf BadInstance (codes "{\"description\":\"The instance id must be UTF-8 of 1 to 255 bytes, and no dot segment.\",\"error\":\"BadRequest\"}")
 unfolding serde_json_on_literals value_in is_utf8 chars
 bad_instance = (refl, refl)
 
@@ -41,11 +41,11 @@ pub repeated : IsTextOf Repeated (codes "{\"description\":\"A parameter stands t
 unfolding serde_json_on_literals value_in is_utf8 chars
 repeated = (refl, refl)
 
-pub bad_service : IsTextOf BadService (codes "{\"description\":\"service_id must be a GUID.\",\"error\":\"BadRequest\"}")
+pub bad_service : IsTextOf BadService (codes "{\"description\":\"service_id must be a string of 1 to 255 bytes.\",\"error\":\"BadRequest\"}")
 unfolding serde_json_on_literals value_in is_utf8 chars
 bad_service = (refl, refl)
 
-pub bad_plan : IsTextOf BadPlan (codes "{\"description\":\"plan_id must be a GUID.\",\"error\":\"BadRequest\"}")
+pub bad_plan : IsTextOf BadPlan (codes "{\"description\":\"plan_id must be a string of 1 to 255 bytes.\",\"error\":\"BadRequest\"}")
 unfolding serde_json_on_literals value_in is_utf8 chars
 bad_plan = (refl, refl)
 

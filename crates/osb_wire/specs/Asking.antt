@@ -11,6 +11,12 @@ instance_of (Asked.Provision id service plan accepts) = id
 instance_of (Asked.Deprovision id service plan accepts) = id
 instance_of (Asked.Poll id service plan accepts) = id
 
+-- what kind of request it is
+abbrev pub kind_of : Asked → Kind
+kind_of (Asked.Provision id service plan accepts) = Provision
+kind_of (Asked.Deprovision id service plan accepts) = Deprovision
+kind_of (Asked.Poll id service plan accepts) = Poll
+
 -- the id that a request names, or else the one that is held; where neither is there, the one of the value 0
 abbrev pub id_or : Option ℕ → Option ℕ → ℕ
 id_or (Some id) held = id

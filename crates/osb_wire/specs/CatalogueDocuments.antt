@@ -1,17 +1,17 @@
--- The catalogue that a document names (section Catalog Management). That each plan says by `asynchronous`
+-- The catalogue that a document names (section Catalog Management). That each plan says by `x-osb-asynchronous`
 -- how it works, and that a plan without it works synchronously, is this project's choice.
 use Rattle.std.specs.Prelude.{ℕ, Bool, if◌then◌else◌, List, codes, Option, Some, None, Result, Ok, Err, is_some, option_and_then}
-use Rattle.std.specs.Option.{ok_or}
+use Rattle.std.specs.Option.{ok_or, option_or}
 use Rattle.std.specs.FinMap.{FinMap, empty, get, insert}
 use Rattle.serde_json.specs.Data.{Data, Items, no_items, item}
 use Rattle.serde_json.specs.Find as json
 use Rattle.serde_json.specs.Find.{as_array, as_bool}
 use Rattle.osb_message.specs.Catalogue.{pair_cmp}
-use Rattle.osb_message.specs.IdText.{id_of}
 use Rattle.osb_message.specs.declared.catalogue.Mode.{Mode}
 use Rattle.osb_message.specs.declared.catalogue.Mode.TheVariants.{Sync, Async}
 use Rattle.osb_json.specs.Members.{text_at}
 use Rattle.osb_wire.specs.Bodies.{value_in, and_then}
+use Rattle.osb_wire.specs.IdTexts.{number_of}
 use Rattle.osb_wire.specs.declared.catalogue_reading.CatalogueFault.{CatalogueFault}
 use Rattle.osb_wire.specs.declared.catalogue_reading.CatalogueFault.TheVariants.{NotJson, NoServices, BadService, NoPlans}
 use Rattle.osb_wire.specs.declared.catalogue_reading.CatalogueFault.TheVariants.{BadPlan, BadMode, Repeated}
@@ -27,13 +27,13 @@ abbrev pub mode_given : Option Data → Result Mode CatalogueFault
 mode_given None = Ok Sync
 mode_given (Some d) = mode_by (as_bool d)
 
--- how a plan works
+-- how a plan works, by the member of this project's prefix, or else by the older one without
 abbrev pub mode_of : Data → Result Mode CatalogueFault
-mode_of d = mode_given (json.get (codes "asynchronous") d)
+mode_of d = mode_given (option_or (json.get (codes "x-osb-asynchronous") d) (json.get (codes "asynchronous") d))
 
 -- the id of a service or of a plan
 abbrev pub own_id : CatalogueFault → Data → Result ℕ CatalogueFault
-own_id fault d = ok_or (option_and_then id_of (text_at (codes "id") d)) fault
+own_id fault d = ok_or (option_and_then number_of (text_at (codes "id") d)) fault
 
 -- the list that stands under a name
 abbrev pub list_at : CatalogueFault → List ℕ → Data → Result Items CatalogueFault

@@ -6,15 +6,16 @@ use Rattle.serde_json.specs.Data.{Data, string, object, Members, put, depth}
 use Rattle.serde_json.specs.Read.{max_depth}
 use Rattle.osb_message.specs.declared.messages.Kind.{Kind}
 use Rattle.osb_message.specs.declared.messages.Kind.TheVariants.{Provision, Poll, Deprovision}
-use Rattle.osb_message.specs.IdText.{id_text, id_of}
+use Rattle.osb_message.specs.IdText.{id_text}
 use Rattle.osb_json.specs.Members.{text_at}
 use Rattle.osb_wire.specs.Bodies.{object_in, and_then}
+use Rattle.osb_wire.specs.IdTexts.{number_of}
 use Rattle.osb_wire.specs.declared.refusal.Refusal.{Refusal}
 use Rattle.osb_wire.specs.declared.refusal.Refusal.TheVariants.{NotAnObject, BadService, BadPlan, BadOrganization, BadSpace}
 
 -- the id whose text stands under a name
 abbrev pub id_member : Refusal → List ℕ → Data → Result ℕ Refusal
-id_member fault name d = ok_or (option_and_then id_of (text_at name d)) fault
+id_member fault name d = ok_or (option_and_then number_of (text_at name d)) fault
 
 -- whether a string that isn't empty stands under a name
 abbrev pub has_text : List ℕ → Data → Bool
@@ -41,12 +42,17 @@ abbrev pub provision_in : List ℕ → Result (ℕ × ℕ) Refusal
 provision_in body = named_if (object_in body)
 
 -- the members of a body: those of the caller, and ours in place of any of the same names
-abbrev pub provision_members : ℕ → ℕ → List ℕ → List ℕ → Members → Members
-provision_members service plan organization space further =
+abbrev pub members_with : List ℕ → List ℕ → List ℕ → List ℕ → Members → Members
+members_with service plan organization space further =
     put (codes "space_guid") (string space)
     (put (codes "organization_guid") (string organization)
-    (put (codes "plan_id") (string (id_text plan))
-    (put (codes "service_id") (string (id_text service)) further)))
+    (put (codes "plan_id") (string plan)
+    (put (codes "service_id") (string service) further)))
+
+-- the same for ids that are GUIDs in lower case
+abbrev pub provision_members : ℕ → ℕ → List ℕ → List ℕ → Members → Members
+provision_members service plan organization space further =
+    members_with (id_text service) (id_text plan) organization space further
 
 -- a body names this service and this plan, where it is a Provision's
 abbrev pub Names : Kind → List ℕ → ℕ → ℕ → Type 0

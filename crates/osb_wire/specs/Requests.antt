@@ -1,11 +1,13 @@
 -- What a request asks for, from its method, its target and its body.
-use Rattle.std.specs.Prelude.{ℕ, nat_lt, if◌then◌else◌, List, codes, length, Result, Ok, Err}
+use Rattle.std.specs.Prelude.{ℕ, nat_lt, if◌then◌else◌, List, [], codes, length, Option, None, Result, Ok, Err, option_and_then}
 use Rattle.form_urlencoded.specs.Form.{split_once}
 use Rattle.osb_message.specs.declared.messages.Kind.{Kind}
 use Rattle.osb_message.specs.declared.messages.Kind.TheVariants.{Provision, Poll, Deprovision}
-use Rattle.osb_wire.specs.Bodies.{and_then}
+use Rattle.osb_json.specs.Members.{text_at}
+use Rattle.osb_wire.specs.Bodies.{and_then, object_in}
 use Rattle.osb_wire.specs.Provisions.{provision_in}
-use Rattle.osb_wire.specs.Targets.{Parameter, value_in, flag_in, id_in, needed_id_in, instance_in, parameters_of_target}
+use Rattle.osb_wire.specs.Targets.{Parameter, value_in, flag_in, id_in, needed_id_in, instance_in, instance_text}
+use Rattle.osb_wire.specs.Targets.{parameters_of_target}
 use Rattle.osb_wire.specs.declared.asked.Asked.{Asked}
 use Rattle.osb_wire.specs.declared.refusal.Refusal.{Refusal}
 use Rattle.osb_wire.specs.declared.refusal.Refusal.TheVariants.{BadService, BadPlan, TooLong}
@@ -51,6 +53,34 @@ asked_within longest ps body place =
 -- what is asked for by the method, and of which instance: that is judged first
 abbrev pub instance_asked : List ℕ → List ℕ → List ℕ → Result (Kind × ℕ) Refusal
 instance_asked prefix method target = instance_in prefix method ((split_once 63 target).0)
+
+-- the text of the instance's id in a target
+abbrev pub instance_text_in : List ℕ → List ℕ → Option (List ℕ)
+instance_text_in prefix target = instance_text prefix ((split_once 63 target).0)
+
+-- the one value that a parameter has
+abbrev pub if_one : Result (Option (List ℕ)) Refusal → Option (List ℕ)
+if_one (Ok value) = value
+if_one (Err fault) = None
+
+-- the text under a name: of a Provision in the body, else in the query
+abbrev pub text_under : List ℕ → Kind → List Parameter → List ℕ → Option (List ℕ)
+text_under name Provision ps body = option_and_then (text_at name) (object_in body)
+text_under name Poll ps body = if_one (value_in name ps)
+text_under name Deprovision ps body = if_one (value_in name ps)
+
+-- the texts of the service's id and of the plan's, where a request names them
+abbrev pub service_text : Kind → List ℕ → List ℕ → Option (List ℕ)
+service_text kind target body = text_under (codes "service_id") kind (parameters_of_target target) body
+
+abbrev pub plan_text : Kind → List ℕ → List ℕ → Option (List ℕ)
+plan_text kind target body = text_under (codes "plan_id") kind (parameters_of_target target) body
+
+-- the body whose parts are read: of a Provision its own, else none
+abbrev pub body_read : Kind → List ℕ → List ℕ
+body_read Provision body = body
+body_read Poll body = []
+body_read Deprovision body = []
 
 -- what is asked for, or the first fault: of the path, the method, the instance's id, the length of the body, the
 -- parameters service_id, plan_id, accepts_incomplete and operation, and then of the body, which a Provision alone has

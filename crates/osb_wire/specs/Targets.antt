@@ -1,17 +1,18 @@
 -- The method and the target of a request: which instance it asks of, and its query's parameters.
-use Rattle.std.specs.Prelude.{ℕ, ◌<◌, ◌^◌, Bool, true, false, ◌==◌, if◌then◌else◌}
+use Rattle.std.specs.Prelude.{◌≡◌, ℕ, ◌<◌, Bool, true, false, ◌||◌, ◌==◌, if◌then◌else◌, unwrap_or}
 use Rattle.std.specs.Prelude.{List, [], ◌∷◌, ◌++◌, codes, map, take, drop, length, All, IsUtf8, Option, Some, None, option_map, option_and_then}
 use Rattle.std.specs.Prelude.{Result, Ok, Err}
 use Rattle.std.specs.Option.{ok_or}
-use Rattle.std.specs.List.{position_or_len}
 use Rattle.std.specs.Str.{bytes_eq}
 use Rattle.std.specs.Str.Lossy.{utf8_lossy}
 use Rattle.form_urlencoded.specs.Form.{split_once, raw_pairs, decode, extend_pairs}
-use Rattle.osb_message.specs.IdText.{id_text, id_of}
+use Rattle.osb_message.specs.IdText.{id_text}
 use Rattle.osb_message.specs.declared.messages.Kind.{Kind}
 use Rattle.osb_message.specs.declared.messages.Kind.TheVariants.{Provision, Poll, Deprovision}
 use Rattle.osb_message.specs.declared.messages.Request.{Request}
 use Rattle.osb_wire.specs.Bodies.{and_then}
+use Rattle.osb_wire.specs.IdTexts.{number_of}
+use Rattle.osb_wire.specs.Paths.{slash_at, plain_path, segment_of, segment_text, segment_number, is_dots}
 use Rattle.osb_wire.specs.declared.refusal.Refusal.{Refusal}
 use Rattle.osb_wire.specs.declared.refusal.Refusal.TheVariants.{NoSuchTarget, NoSuchMethod, BadInstance, Repeated}
 use Rattle.osb_wire.specs.declared.refusal.Refusal.TheVariants.{BadAcceptsIncomplete}
@@ -36,17 +37,27 @@ method_of Provision = codes "PUT"
 method_of Poll = codes "GET"
 method_of Deprovision = codes "DELETE"
 
--- the path of a request, after the broker's prefix
-abbrev pub path_of : List ℕ → Kind → ℕ → List ℕ
-path_of prefix Provision id = prefix ++ (instances_path ++ id_text id)
-path_of prefix Poll id = prefix ++ (instances_path ++ (id_text id ++ last_operation))
-path_of prefix Deprovision id = prefix ++ (instances_path ++ id_text id)
+-- the texts of the ids of a request
+pub record Texts : Type 0 where
+  pub instance : List ℕ
+  pub service : List ℕ
+  pub plan : List ℕ
 
-abbrev pub plan_parameters : ℕ → ℕ → List Parameter
-plan_parameters service plan = (codes "service_id", id_text service) ∷ (codes "plan_id", id_text plan) ∷ []
+-- the texts of ids that are GUIDs in lower case
+abbrev pub own_texts : Request → Texts
+own_texts r = record { instance = id_text r.id; service = id_text r.service; plan = id_text r.plan }
+
+-- the path of a request, after the broker's prefix, with the text of the instance's id
+abbrev pub path_of : List ℕ → Kind → List ℕ → List ℕ
+path_of prefix Provision text = prefix ++ (instances_path ++ segment_of text)
+path_of prefix Poll text = prefix ++ (instances_path ++ (segment_of text ++ last_operation))
+path_of prefix Deprovision text = prefix ++ (instances_path ++ segment_of text)
+
+abbrev pub plan_parameters : List ℕ → List ℕ → List Parameter
+plan_parameters service plan = (codes "service_id", service) ∷ (codes "plan_id", plan) ∷ []
 
 -- the service and the plan, which a Provision has in its body
-abbrev pub id_parameters : Kind → ℕ → ℕ → List Parameter
+abbrev pub id_parameters : Kind → List ℕ → List ℕ → List Parameter
 id_parameters Provision service plan = []
 id_parameters Poll service plan = plan_parameters service plan
 id_parameters Deprovision service plan = plan_parameters service plan
@@ -60,20 +71,24 @@ abbrev pub operation_parameters : Option (List ℕ) → List Parameter
 operation_parameters None = []
 operation_parameters (Some text) = (codes "operation", text) ∷ []
 
-abbrev pub parameters_of : Request → Option (List ℕ) → List Parameter
-parameters_of r operation =
-    id_parameters r.kind r.service r.plan ++ (flag_parameters r.accepts_incomplete ++ operation_parameters operation)
+abbrev pub parameters_of : Request → Texts → Option (List ℕ) → List Parameter
+parameters_of r t operation =
+    id_parameters r.kind t.service t.plan ++ (flag_parameters r.accepts_incomplete ++ operation_parameters operation)
 
-abbrev pub query_of : Request → Option (List ℕ) → List ℕ
-query_of r operation = extend_pairs [] (parameters_of r operation)
+abbrev pub query_of : Request → Texts → Option (List ℕ) → List ℕ
+query_of r t operation = extend_pairs [] (parameters_of r t operation)
 
 -- a path and a query, with `?` between them where there is a query
 abbrev pub with_query : List ℕ → List ℕ → List ℕ
 with_query path query = if length query == 0 then path else path ++ (63 ∷ query)
 
--- the target of a request
+-- the target of a request whose ids have these texts
+abbrev pub target_with : List ℕ → Request → Texts → Option (List ℕ) → List ℕ
+target_with prefix r t operation = with_query (path_of prefix r.kind t.instance) (query_of r t operation)
+
+-- the target of a request whose ids are GUIDs in lower case
 abbrev pub target_text : List ℕ → Request → Option (List ℕ) → List ℕ
-target_text prefix r operation = with_query (path_of prefix r.kind r.id) (query_of r operation)
+target_text prefix r operation = target_with prefix r (own_texts r) operation
 
 -- ---- what is read: the path
 
@@ -82,11 +97,7 @@ abbrev pub after_front : List ℕ → List ℕ → Option (List ℕ)
 after_front front text =
     if bytes_eq (take (length front) text) front then Some (drop (length front) text) else None
 
--- where the first `/` stands, or the end
-abbrev pub slash_at : List ℕ → ℕ
-slash_at text = position_or_len (λ b. b == 47) text
-
--- the text of an id, and whether its last operation is asked for
+-- the segment of an id, and whether its last operation is asked for
 abbrev pub Place : Type 0
 Place = List ℕ × Bool
 
@@ -106,9 +117,30 @@ place_if (Some rest) = place_below rest
 abbrev pub below_instances : List ℕ → List ℕ → Option (List ℕ)
 below_instances prefix path = option_and_then (after_front instances_path) (after_front prefix path)
 
--- the place that a path names, after the broker's prefix
+-- the place that a path names as it stands, after the broker's prefix
+abbrev pub place_as_it_stands : List ℕ → List ℕ → Option Place
+place_as_it_stands prefix path = place_if (below_instances prefix path)
+
+abbrev pub place_or : Option Place → Option Place → Option Place
+place_or None otherwise = otherwise
+place_or (Some place) otherwise = Some place
+
+-- the place that a path names, as it stands or by the plain path that it stands for
 abbrev pub place_in : List ℕ → List ℕ → Option Place
-place_in prefix path = place_if (below_instances prefix path)
+place_in prefix path = place_or (place_as_it_stands prefix path) (place_as_it_stands prefix (plain_path path))
+
+-- whether a path is the catalogue's as it stands (section Catalog Management)
+abbrev pub is_catalogue_path : List ℕ → List ℕ → Bool
+is_catalogue_path prefix path =
+    unwrap_or (option_map (λ rest. bytes_eq rest (codes "/v2/catalog")) (after_front prefix path)) false
+
+-- whether a path asks for the catalogue, as it stands or by the plain path that it stands for
+abbrev pub asks_for_catalogue : List ℕ → List ℕ → Bool
+asks_for_catalogue prefix path = is_catalogue_path prefix path || is_catalogue_path prefix (plain_path path)
+
+-- the text of the instance's id in a path
+abbrev pub instance_text : List ℕ → List ℕ → Option (List ℕ)
+instance_text prefix path = option_and_then (λ place. segment_text place.0) (place_in prefix path)
 
 -- what is asked for by a method at an instance, or at its last operation
 abbrev pub kind_at : List ℕ → Bool → Option Kind
@@ -119,7 +151,7 @@ kind_at method false =
 
 abbrev pub instance_named : List ℕ → Option Kind → Result (Kind × ℕ) Refusal
 instance_named text None = Err NoSuchMethod
-instance_named text (Some kind) = ok_or (option_map (λ id. (kind, id)) (id_of text)) BadInstance
+instance_named text (Some kind) = ok_or (option_map (λ id. (kind, id)) (segment_number text)) BadInstance
 
 abbrev pub instance_at : List ℕ → Option Place → Result (Kind × ℕ) Refusal
 instance_at method None = Err NoSuchTarget
@@ -163,10 +195,10 @@ value_in name ps = at_most_one (values_of name ps)
 -- an id that may be missing, and one that may not
 abbrev pub id_given : Refusal → Option (List ℕ) → Result (Option ℕ) Refusal
 id_given fault None = Ok None
-id_given fault (Some text) = ok_or (option_map Some (id_of text)) fault
+id_given fault (Some text) = ok_or (option_map Some (number_of text)) fault
 
 abbrev pub id_needed : Refusal → Option (List ℕ) → Result ℕ Refusal
-id_needed fault text = ok_or (option_and_then id_of text) fault
+id_needed fault text = ok_or (option_and_then number_of text) fault
 
 abbrev pub flag_given : Option (List ℕ) → Result Bool Refusal
 flag_given None = Ok false
@@ -196,11 +228,18 @@ operation_asked target = value_in (codes "operation") (parameters_of_target targ
 
 -- ---- of a request
 
--- its ids are numbers of 128 bits
-pub record HasIds (r : Request) : Type 0 where
-  pub id : r.id < 2 ^ 128
-  pub service : r.service < 2 ^ 128
-  pub plan : r.plan < 2 ^ 128
+-- these are texts of its ids, and that of the instance can stand in a path
+pub record AreTextsOf (r : Request) (t : Texts) : Type 0 where
+  pub instance : number_of t.instance ≡ Some r.id
+  pub service : number_of t.service ≡ Some r.service
+  pub plan : number_of t.plan ≡ Some r.plan
+  pub segment : is_dots t.instance ≡ false
+
+-- each is UTF-8, and bytes
+pub record AreUtf8 (t : Texts) : Type 0 where
+  pub instance : IsUtf8 t.instance × All (λ b. b < 256) t.instance
+  pub service : IsUtf8 t.service × All (λ b. b < 256) t.service
+  pub plan : IsUtf8 t.plan × All (λ b. b < 256) t.plan
 
 -- where there is a text, it is one
 abbrev pub IsTextIfAny : Option (List ℕ) → Type 0

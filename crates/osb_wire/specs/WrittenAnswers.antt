@@ -2,6 +2,7 @@
 use Rattle.std.specs.Prelude.{ℕ, Bool, true, false, not, ◌&&◌, ◌||◌, ◌==◌, if◌then◌else◌}
 use Rattle.std.specs.Prelude.{List, [], ◌∷◌, codes, Option, Some, None, option_map, option_and_then, unwrap_or}
 use Rattle.std.specs.List.{list_any}
+use Rattle.std.specs.Fmt.{take_chars}
 use Rattle.serde_json.specs.Data.{Data, Members, string, object, no_members, member}
 use Rattle.serde_json.specs.Written.{compact_text}
 use Rattle.osb_message.specs.Messages.{is_empty, is_state}
@@ -10,6 +11,8 @@ use Rattle.osb_message.specs.declared.messages.Body.{Body}
 use Rattle.osb_message.specs.declared.messages.Body.TheVariants.{Malformed, Empty, State, Error}
 use Rattle.osb_message.specs.declared.messages.ErrorCode.{ErrorCode}
 use Rattle.osb_message.specs.declared.messages.ErrorCode.TheVariants.{AsyncRequired, ConcurrencyError, Other}
+use Rattle.osb_message.specs.declared.messages.LastState.{LastState}
+use Rattle.osb_message.specs.declared.messages.LastState.TheVariants.{InProgress, Succeeded, Failed}
 use Rattle.osb_message.specs.declared.messages.Kind.{Kind}
 use Rattle.osb_message.specs.declared.messages.Kind.TheVariants.{Provision, Poll, Deprovision}
 use Rattle.osb_wire.specs.Answers.{if_short, state_word, is_success, may_be_a_gateways}
@@ -48,6 +51,19 @@ description status AsyncRequired = codes "This plan needs a client that takes as
 description status ConcurrencyError = codes "Another operation on this instance is in progress."
 description status Other = sentence status
 
+-- the longest description that is given, in characters (this project's choice)
+abbrev pub longest_description : ℕ
+longest_description = 1000
+
+-- a text without the characters that are too many
+abbrev pub cut : List ℕ → List ℕ
+cut text = take_chars longest_description text
+
+-- the description that is given, or else the usual one
+abbrev pub description_of : ℕ → ErrorCode → Option (List ℕ) → List ℕ
+description_of status code None = description status code
+description_of status code (Some text) = cut text
+
 -- an operation that isn't too long, in a 202 (section Provisioning)
 abbrev pub operation_members : ℕ → Option (List ℕ) → Members
 operation_members status None = no_members
@@ -63,17 +79,27 @@ abbrev pub error_value : List ℕ → List ℕ → Data
 error_value description word =
     object (member (codes "description") (string description) (member (codes "error") (string word) no_members))
 
+abbrev pub state_members : LastState → Members
+state_members state = member (codes "state") (string (state_word state)) no_members
+
+-- the object of a last operation, with the reason if it failed (section Polling Last Operation for Service Instances)
+abbrev pub state_value : LastState → Option (List ℕ) → Data
+state_value InProgress told = object (state_members InProgress)
+state_value Succeeded told = object (state_members Succeeded)
+state_value Failed None = object (state_members Failed)
+state_value Failed (Some text) = object (member (codes "description") (string (cut text)) (state_members Failed))
+
 -- the value of a body, where it has one
-abbrev pub body_value : ℕ → Option (List ℕ) → Body → Option Data
-body_value status operation Malformed = None
-body_value status operation Empty = Some (plain_value status operation)
-body_value status operation (State state) =
-    Some (object (member (codes "state") (string (state_word state)) no_members))
-body_value status operation (Error code) = Some (error_value (description status code) (error_word status code))
+abbrev pub body_value : ℕ → Option (List ℕ) → Option (List ℕ) → Body → Option Data
+body_value status operation told Malformed = None
+body_value status operation told Empty = Some (plain_value status operation)
+body_value status operation told (State state) = Some (state_value state told)
+body_value status operation told (Error code) =
+    Some (error_value (description_of status code told) (error_word status code))
 
 -- the body's text, with no spaces: nothing, where it has no value
-abbrev pub answer_text : Answer → Option (List ℕ) → List ℕ
-answer_text a operation = unwrap_or (option_map compact_text (body_value a.status operation a.body)) []
+abbrev pub answer_text : Answer → Option (List ℕ) → Option (List ℕ) → List ℕ
+answer_text a operation told = unwrap_or (option_map compact_text (body_value a.status operation told a.body)) []
 
 -- whether a body can be read
 abbrev pub is_readable : Body → Bool

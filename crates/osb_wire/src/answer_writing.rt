@@ -64,8 +64,8 @@ fn sentence(status: u16) -> &'static str
     }
 }
 
-// A sentence for a person.
-fn description(status: u16, code: ErrorCode) -> &'static str
+// The usual sentence for a person.
+fn usual_description(status: u16, code: ErrorCode) -> &'static str
     ensures text { result.now ≡ written.description status code }
 {
     match code {
@@ -86,28 +86,75 @@ fn plain_value(alloc: Global, status: u16, operation: Option<&str>) -> Result<Va
     }
 }
 
+// A text without the characters that are too many.
+fn cut(alloc: Global, text: &str) -> Result<String, AllocError>
+    ensures text { IfOk result (λ cut. string_bytes cut ≡ written.cut text.now) }
+{
+    // The precision is the longest description.
+    format!(in alloc; "{text:.1000}")
+}
+
+// The object of a last operation.
+fn state_value(
+    alloc: Global,
+    state: LastState,
+    description: Option<&str>,
+) -> Result<Value, AllocError>
+    ensures value { IfOk result (λ value. view value
+        ≡ written.state_value state (option_map (λ text. text.now) description.entry)) }
+{
+    let word = state_word(state);
+    match (state, description) {
+        (LastState::Failed, Some(text)) => {
+            let reason = cut(alloc, text)?;
+            let reason = reason.as_str();
+            json!(in alloc; {"description": reason, "state": word})
+        }
+        _ => json!(in alloc; {"state": word}),
+    }
+}
+
+// The object of an error.
+fn error_value(
+    alloc: Global,
+    status: u16,
+    code: ErrorCode,
+    description: Option<&str>,
+) -> Result<Value, AllocError>
+    ensures value { IfOk result (λ value. view value ≡ written.error_value
+        (written.description_of status code (option_map (λ text. text.now) description.entry))
+        (written.error_word status code)) }
+{
+    let word = error_word(status, code);
+    match description {
+        Some(text) => {
+            let given = cut(alloc, text)?;
+            let given = given.as_str();
+            json!(in alloc; {"description": given, "error": word})
+        }
+        None => {
+            let usual = usual_description(status, code);
+            json!(in alloc; {"description": usual, "error": word})
+        }
+    }
+}
+
 // The value of a body, where it has one.
 fn body_value(
     alloc: Global,
     status: u16,
     body: Body,
     operation: Option<&str>,
+    description: Option<&str>,
 ) -> Result<Option<Value>, AllocError>
-    ensures value { IfOk result (λ value. option_map view value
-        ≡ written.body_value status (option_map (λ text. text.now) operation.entry) body) }
+    ensures value { IfOk result (λ value. option_map view value ≡ written.body_value status
+        (option_map (λ text. text.now) operation.entry) (option_map (λ text. text.now) description.entry) body) }
 {
     let value = match body {
         Body::Malformed => return Ok(None),
         Body::Empty => plain_value(alloc, status, operation)?,
-        Body::State(state) => {
-            let word = state_word(state);
-            json!(in alloc; {"state": word})?
-        }
-        Body::Error(code) => {
-            let description = description(status, code);
-            let word = error_word(status, code);
-            json!(in alloc; {"description": description, "error": word})?
-        }
+        Body::State(state) => state_value(alloc, state, description)?,
+        Body::Error(code) => error_value(alloc, status, code, description)?,
     };
     Ok(Some(value))
 }
@@ -116,7 +163,9 @@ fn body_value(
 /// [`CONTENT_TYPE`](crate::CONTENT_TYPE): `{}` for [`Body::Empty`], `{"state":"in progress"}` and so on,
 /// for an error an object with `error` and a `description` for a person, and nothing for
 /// [`Body::Malformed`]. An operation of at most 10,000 characters is written in an empty 202, as the member
-/// `operation`, and nowhere else; a longer one, which the standard forbids, isn't written.
+/// `operation`, and nowhere else; a longer one, which the standard forbids, isn't written. A description is written for
+/// an error, in place of the usual sentence, and beside the state `failed`; of one with more than 1,000 characters the
+/// first 1,000. So a person reads why a broker rejected a request, or why an operation failed.
 ///
 /// [`read_answer`](crate::read_answer) gives the same answer back for 200, 201 and 202 with an empty body, of
 /// a Poll 200 with a state, and 400, 409, 410, 422, 500 and 503 with an error, which are all that the tables
@@ -131,11 +180,13 @@ pub fn write_answer(
     alloc: Global,
     answer: Answer,
     operation: Option<&str>,
+    description: Option<&str>,
 ) -> Result<String, Memory>
-    ensures text { IfOk result (λ text. string_bytes text
-        ≡ written.answer_text answer (option_map (λ text. text.now) operation.entry)) }
-    ensures object { IfOk result (λ text. object_in (string_bytes text)
-        ≡ written.body_value answer.status (option_map (λ text. text.now) operation.entry) answer.body) }
+    ensures text { IfOk result (λ text. string_bytes text ≡ written.answer_text answer
+        (option_map (λ text. text.now) operation.entry) (option_map (λ text. text.now) description.entry)) }
+    ensures object { IfOk result (λ text. object_in (string_bytes text) ≡ written.body_value answer.status
+        (option_map (λ text. text.now) operation.entry) (option_map (λ text. text.now) description.entry)
+        answer.body) }
     ensures reads { (kind : Kind) → written.is_carried kind answer ≡ true
         → IfOk result (λ text. answer_in kind answer.status (string_bytes text) ≡ Some answer) }
     ensures given { (kind : Kind) → written.is_given kind answer ≡ true
@@ -144,7 +195,7 @@ pub fn write_answer(
         operation_in (string_bytes text)
         ≡ option_and_then if_short (option_map (λ text. text.now) operation.entry)) }
 {
-    let Some(value) = body_value(alloc, answer.status, answer.body, operation)? else {
+    let Some(value) = body_value(alloc, answer.status, answer.body, operation, description)? else {
         return Ok(String::new(alloc));
     };
     let text = value.to_string(alloc)?;

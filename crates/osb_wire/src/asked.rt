@@ -65,6 +65,17 @@ impl Asked {
         }
     }
 
+    /// What kind of request it is. It takes no memory.
+    pub fn kind(&self) -> Kind
+        ensures kind { result ≡ asking.kind_of self.now }
+    {
+        match self {
+            Asked::Provision { .. } => Kind::Provision,
+            Asked::Deprovision { .. } => Kind::Deprovision,
+            Asked::Poll { .. } => Kind::Poll,
+        }
+    }
+
     /// The request for a broker, with the service and the plan of the instance that the broker holds, none
     /// where it holds none. They stand in the place of those that a Poll may lack, and nowhere else. Where
     /// nothing is held either, a Poll has ids of the value 0, on which no answer of `osb_broker` depends: it

@@ -3,6 +3,7 @@ ghost use Rattle.std.specs.Prelude.{◌≡◌, ◌⊎◌, Ok, Err, OnOk, IfOk, I
 ghost use Rattle.serde_json.specs.View.{view, items_view};
 ghost use Rattle.osb_wire.specs.CatalogueDocuments as documents;
 
+use crate::id_texts::id_of_text;
 use crate::json_body::read_value;
 use osb_json::text_at;
 use osb_message::{AddFault, Catalogue, Id, Mode, ServiceId};
@@ -19,17 +20,17 @@ pub enum CatalogueFault {
     /// It has no list `services`.
     #[error("the document must have a list of services")]
     NoServices,
-    /// The `id` of a service is missing or no GUID.
-    #[error("the id of a service must be a GUID")]
+    /// The `id` of a service is missing, no string, empty or longer than 255 bytes.
+    #[error("the id of a service must be a string of 1 to 255 bytes")]
     BadService,
     /// A service has no list `plans`.
     #[error("a service must have a list of plans")]
     NoPlans,
-    /// The `id` of a plan is missing or no GUID.
-    #[error("the id of a plan must be a GUID")]
+    /// The `id` of a plan is missing, no string, empty or longer than 255 bytes.
+    #[error("the id of a plan must be a string of 1 to 255 bytes")]
     BadPlan,
-    /// `asynchronous` of a plan is neither `true` nor `false`.
-    #[error("asynchronous must be true or false")]
+    /// `x-osb-asynchronous` of a plan, or `asynchronous` where it lacks that, is neither `true` nor `false`.
+    #[error("x-osb-asynchronous must be true or false")]
     BadMode,
     /// A plan of a service stands twice.
     #[error("a plan of a service stands twice")]
@@ -43,7 +44,8 @@ pub enum CatalogueFault {
 fn mode_of(plan: &Value) -> Result<Mode, CatalogueFault>
     ensures mode { result ≡ documents.mode_of (view plan.now) }
 {
-    let Some(value) = plan.get("asynchronous") else {
+    let own = plan.get("x-osb-asynchronous");
+    let Some(value) = own.or(plan.get("asynchronous")) else {
         return Ok(Mode::Sync);
     };
     match value.as_bool() {
@@ -60,9 +62,9 @@ fn own_id<K>(object: &Value, fault: CatalogueFault) -> Result<Id<K>, CatalogueFa
     let Some(text) = text_at(object, "id") else {
         return Err(fault);
     };
-    match Id::from_text(text) {
-        Ok(id) => Ok(id),
-        Err(_) => Err(fault),
+    match id_of_text(text) {
+        Some(id) => Ok(id),
+        None => Err(fault),
     }
 }
 
@@ -159,21 +161,22 @@ fn add_services(catalogue: &mut Catalogue, services: &Vec<Value>) -> Result<(), 
     Ok(())
 }
 
-/// The catalogue that a document names, as a broker answers it to `GET /v2/catalog` (section Catalog
+/// The plans that a document names, as a broker answers it to `GET /v2/catalog` (section Catalog
 /// Management): an object with a list `services`, each an object with its `id` and a list `plans`, each an
-/// object with its `id`. A plan whose member `asynchronous` is `true` makes and deletes its instances
-/// asynchronously, one where it is `false` or missing at once: that member is this project's choice, since
-/// the standard has none, and platforms pass it over. So are all other members passed over here; of a member
+/// object with its `id`. A plan whose member `x-osb-asynchronous` is `true` makes and deletes its instances
+/// asynchronously, one where it is `false` or missing synchronously: that member is this project's choice, since
+/// the standard has none, and platforms pass it over. `asynchronous` is read where it is missing. All other members are
+/// passed over here, and [`catalogue_document`](crate::catalogue_document) judges them; of a member
 /// that stands twice the last counts. A service may stand twice, and its plans are taken together; one plan
 /// may stand in two services; a list may be empty: this project's choice, where the standard is narrower.
 ///
 /// # Errors
 ///
 /// The first fault: [`CatalogueFault::NotJson`], [`CatalogueFault::NoServices`], and then of the services in
-/// their order, of each its `id`, its list, and of its plans in their order each one's `id`, `asynchronous`,
+/// their order, of each its `id`, its list, and of its plans in their order each one's `id`, `x-osb-asynchronous`,
 /// and [`CatalogueFault::Repeated`]. [`CatalogueFault::Memory`] where an allocation failed; the same call may
 /// be made again.
-pub fn catalogue_document(alloc: Global, text: &[u8]) -> Result<Catalogue, CatalogueFault>
+pub fn catalogue_plans(alloc: Global, text: &[u8]) -> Result<Catalogue, CatalogueFault>
     ensures ok { IfOk result (λ catalogue. documents.catalogue_in text.now ≡ Ok catalogue) }
     ensures err { IfErr result (λ fault. (fault ≡ CatalogueFault.Memory)
         ⊎ (documents.catalogue_in text.now ≡ Err fault)) }

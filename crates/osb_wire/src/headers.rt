@@ -1,17 +1,28 @@
 //! The headers of requests and of responses.
-ghost use Rattle.std.specs.Prelude.{◌≡◌, IfOk, option_map};
+ghost use Rattle.std.specs.Prelude.{◌≡◌, IfOk, option_map, string_bytes};
 ghost use Rattle.std.specs.Char.{is_ascii_digit};
 ghost use Rattle.std.specs.List.{list_all};
 ghost use Rattle.std.specs.Str.{bytes_eq};
+ghost use Rattle.base64.specs.Engines.{standard};
+ghost use Rattle.base64.specs.GeneralPurpose.{decode_of};
 ghost use Rattle.osb_wire.specs.HeaderValues as headers;
 
 use crate::Refusal;
+use crate::json_body::read_object;
+use crate::target_reading::split_at_byte;
+use base64::DecodeAllocError;
 use base64::engine::general_purpose::STANDARD;
 use osb_message::Memory;
 use std::alloc::Global;
 
 /// The header in which a platform names the version that it speaks (section API Version Header).
 pub const API_VERSION_HEADER: &str = "X-Broker-API-Version";
+
+/// The header in which a platform names the user behind a request (section Originating Identity).
+pub const ORIGINATING_IDENTITY_HEADER: &str = "X-Broker-API-Originating-Identity";
+
+/// The header in which a platform names a request, and a broker its answer (section Request Identity).
+pub const REQUEST_IDENTITY_HEADER: &str = "X-Broker-API-Request-Identity";
 
 /// The version that a platform with this library speaks, the value of that header.
 pub const API_VERSION: &str = "2.17";
@@ -117,5 +128,101 @@ pub fn retry_after(value: &str) -> Option<u64>
     match value.parse::<u64>() {
         Ok(seconds) => Some(seconds),
         Err(_) => None,
+    }
+}
+
+/// The user behind a request, as the platform names it in [`ORIGINATING_IDENTITY_HEADER`].
+#[derive(Drop)]
+pub struct OriginatingIdentity {
+    /// The platform, as `cloudfoundry` or `kubernetes`.
+    pub platform: String,
+    /// The text of a JSON object, as it was decoded; its members are the platform's.
+    pub object: String,
+}
+
+// The bytes that base64 stands for.
+fn decoded(alloc: Global, encoded: &[u8]) -> Result<Option<Vec<u8>>, Memory>
+    ensures bytes { IfOk result (λ bytes. option_map (λ bytes. bytes.items) bytes
+        ≡ headers.if_decoded (decode_of standard encoded.now)) }
+{
+    match STANDARD.decode(alloc, encoded) {
+        Ok(bytes) => Ok(Some(bytes)),
+        Err(DecodeAllocError::OutOfMemory) => Err(Memory),
+        Err(DecodeAllocError::DecodeError(_)) => Ok(None),
+    }
+}
+
+// The text of an object that base64 stands for.
+#[tactic(auto, using(crate::proofs::ObjectTexts::object_steps))]
+fn decoded_object(alloc: Global, encoded: &[u8]) -> Result<Option<String>, Memory>
+    ensures text { IfOk result (λ text. option_map string_bytes text ≡ headers.object_text encoded.now) }
+{
+    let Some(bytes) = decoded(alloc, encoded)? else {
+        return Ok(None);
+    };
+    if read_object(alloc, bytes.as_slice())?.is_none() {
+        return Ok(None);
+    }
+    match String::from_utf8(bytes) {
+        Ok(text) => Ok(Some(text)),
+        Err(_) => Ok(None),
+    }
+}
+
+// The platform that bytes name.
+#[tactic(auto, using(crate::proofs::Segments::text_steps))]
+fn platform_in(bytes: &[u8]) -> Option<&str>
+    ensures platform { option_map (λ text. text.now) result ≡ headers.if_platform bytes.now }
+{
+    match std::str::from_utf8(bytes) {
+        Ok(text) => { if text.is_empty() { None } else { Some(text) } }
+        Err(_) => None,
+    }
+}
+
+/// The user behind a request, from the value of [`ORIGINATING_IDENTITY_HEADER`]: the platform, a blank, and a JSON object
+/// in padded base64; none of every other value. Section Originating Identity, which doesn't say what a broker does with
+/// another value.
+///
+/// # Errors
+///
+/// [`Memory`] where an allocation failed. The same call may be made again.
+pub fn originating_identity(
+    alloc: Global,
+    value: &str,
+) -> Result<Option<OriginatingIdentity>, Memory>
+    ensures identity { IfOk result (λ found. option_map
+        (λ found. (string_bytes found.platform, string_bytes found.object)) found ≡ headers.identity_in value.now) }
+{
+    let (front, encoded) = split_at_byte(b' ', value.as_bytes());
+    let Some(platform) = platform_in(front) else {
+        return Ok(None);
+    };
+    match decoded_object(alloc, encoded)? {
+        Some(object) => Ok(Some(OriginatingIdentity {
+            platform: String::from_str(alloc, platform)?,
+            object,
+        })),
+        None => Ok(None),
+    }
+}
+
+// Whether a header of an answer can carry each byte.
+fn are_printable(text: &[u8]) -> bool
+    ensures printable { result ≡ list_all headers.is_printable text.now }
+{
+    text.iter().all(|&byte| byte >= 32 && byte != 127)
+}
+
+/// The text by which a platform names a request, from the value of [`REQUEST_IDENTITY_HEADER`], which a broker returns in
+/// the same header of its answer; none where it is empty or has a control character, which no answer could carry. It takes
+/// no memory. Section Request Identity; that other values count as none is this project's choice.
+pub fn request_identity(value: &str) -> Option<&str>
+    ensures identity { option_map (λ text. text.now) result ≡ headers.request_identity_in value.now }
+{
+    if !value.is_empty() && are_printable(value.as_bytes()) {
+        Some(value)
+    } else {
+        None
     }
 }

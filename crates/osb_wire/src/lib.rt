@@ -5,55 +5,92 @@
 //! broker takes what [`read_request`] makes of the request, and answers with what [`write_answer`] gives:
 //!
 //! ```
-//! let id = InstanceId::from_value(1);
-//! let (service, plan) = (ServiceId::from_value(2), PlanId::from_value(3));
-//! let request = Request { kind: Kind::Provision, id, service, plan, accepts_incomplete: true };
-//! let sent = write_request(alloc, "", &request, None, "an organization", "a space", Map::new(alloc))?;
+//! let names = Names { instance: "a database", service: "postgres", plan: "postgres-small" };
+//! let request = Request {
+//!     kind: Kind::Provision,
+//!     id: id_of_text(names.instance)?,
+//!     service: id_of_text(names.service)?,
+//!     plan: id_of_text(names.plan)?,
+//!     accepts_incomplete: true,
+//! };
+//! let none = Map::new(alloc);
+//! let sent = write_request(alloc, "", &request, &names, None, "an organization", "a space", none)?;
 //! assert_eq!(rt; sent.method, "PUT");
 //! let target = sent.target.as_str();
-//! assert_eq!(rt; target, "/v2/service_instances/00000000-0000-0000-0000-000000000001?accepts_incomplete=true");
-//! let asked = read_request(alloc, "", 1_000_000, sent.method, target.as_bytes(), sent.body.as_bytes())?;
-//! assert_eq!(rt; asked.request(None), request);
-//! let body = write_answer(alloc, Answer { status: 202, body: Body::Empty }, Some("the first"))?;
+//! assert_eq!(rt; target, "/v2/service_instances/a%20database?accepts_incomplete=true");
+//! let received = read_request(alloc, "", 1_000_000, sent.method, target.as_bytes(), sent.body.as_bytes())?;
+//! assert_eq!(rt; received.asked.request(None), request);
+//! assert_eq!(rt; received.instance.as_str(), "a database");
+//! let body = write_answer(alloc, Answer { status: 202, body: Body::Empty }, Some("the first"), None)?;
 //! assert_eq!(rt; body.as_str(), "{\"operation\":\"the first\"}");
 //! let answer = read_answer(alloc, Kind::Provision, 202, body.as_bytes())?;
 //! assert_eq!(rt; answer, Some(Answer { status: 202, body: Body::Empty }));
 //! ```
 //!
+//! Ids are texts: [`id_of_text`] gives each the number that the other crates know it by, and [`Names`] are the texts of a
+//! request. Beside the answer, [`read_details`] returns what a person is told; beside the request, [`Received`] has the
+//! texts of the ids and the parts of the body, and [`attributes_digest`] the digest by which two requests are compared.
+//!
 //! No connection is opened here, and no HTTP is written: the method, the target, the statuses and the
-//! bodies go into an HTTP library and come out of one. [`api_version`] and [`basic_auth`] judge headers
-//! of a request, [`retry_after`] reads one of an answer, and [`catalogue_document`] reads the catalogue
-//! that a broker sells.
+//! bodies go into an HTTP library and come out of one. [`api_version`], [`basic_auth`], [`originating_identity`] and
+//! [`request_identity`] judge headers of a request, and [`retry_after`] reads one of an answer. [`catalogue_document`]
+//! reads and judges the catalogue that a broker sells, and [`served_catalogue`] returns the document that it serves.
 //!
-//! What [`write_request`] gives, [`method_of`], [`write_target`] and [`write_body`] give one at a time.
+//! What [`write_request`] gives, [`method_of`], [`write_named_target`] and [`write_named_body`] give one at a time;
+//! [`write_target`] and [`write_body`] do it of ids that are GUIDs in lower case.
 //!
-//! Each call takes memory but [`api_version`], [`retry_after`], [`method_of`] and those of [`Refusal`] and
-//! [`Asked`]. What the standard doesn't say and is said here is marked as this project's choice.
+//! Each call takes memory but [`api_version`], [`request_identity`], [`retry_after`], [`method_of`], [`id_of_text`],
+//! [`text_of_id`], [`asks_for_catalogue`], [`maintenance_conflict_body`] and those of [`Refusal`] and [`Asked`]. What the standard doesn't say and
+//! is said here is marked as this project's choice.
 #![tactic(auto)]
 
 mod answer_reading;
 mod answer_writing;
 mod asked;
 mod catalogue_reading;
+mod catalogue_rules;
+mod details;
+mod digests;
 mod headers;
+mod id_texts;
 mod json_body;
+mod json_texts;
+mod maintenance;
+mod names;
+mod path_reading;
 mod provision_reading;
 mod provision_writing;
 mod query_reading;
+mod received;
 mod refusal;
 mod request_reading;
 mod request_writing;
+mod sold_document;
 mod target_reading;
 mod target_writing;
 
 pub use answer_reading::{read_answer, read_operation};
 pub use answer_writing::write_answer;
 pub use asked::Asked;
-pub use catalogue_reading::{CatalogueFault, catalogue_document};
+pub use catalogue_reading::{CatalogueFault, catalogue_plans};
+pub use catalogue_rules::{Endpoints, RuleFault};
+pub use details::{Details, read_details};
+pub use digests::{attributes_digest, parameters_digest};
 pub use headers::{
-    API_VERSION, API_VERSION_HEADER, CONTENT_TYPE, api_version, basic_auth, retry_after,
+    API_VERSION, API_VERSION_HEADER, CONTENT_TYPE, ORIGINATING_IDENTITY_HEADER,
+    OriginatingIdentity, REQUEST_IDENTITY_HEADER, api_version, basic_auth, originating_identity,
+    request_identity, retry_after,
 };
+pub use id_texts::id_of_text;
+pub use json_texts::{Parts, body_parts, member_text, served_catalogue};
+pub use maintenance::{
+    MAINTENANCE_CONFLICT_STATUS, maintenance_conflict, maintenance_conflict_body, plan_version,
+};
+pub use names::{NameFault, Names};
+pub use received::Received;
 pub use refusal::Refusal;
 pub use request_reading::{asked_operation, read_request};
-pub use request_writing::{WrittenRequest, write_body, write_request};
-pub use target_writing::{method_of, write_target};
+pub use request_writing::{WrittenRequest, write_body, write_named_body, write_request};
+pub use sold_document::{CatalogueDocument, DocumentFault, catalogue_document, text_of_id};
+pub use target_reading::asks_for_catalogue;
+pub use target_writing::{method_of, write_named_target, write_target};

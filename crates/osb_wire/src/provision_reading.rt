@@ -4,6 +4,7 @@ ghost use Rattle.serde_json.specs.View.{view};
 ghost use Rattle.osb_wire.specs.Provisions as provisions;
 
 use crate::Refusal;
+use crate::id_texts::id_of_text;
 use crate::json_body::read_object;
 use osb_json::text_at;
 use osb_message::{Id, PlanId, ServiceId};
@@ -17,9 +18,9 @@ fn read_id<K>(object: &Value, name: &str, fault: Refusal) -> Result<Id<K>, Refus
     let Some(text) = text_at(object, name) else {
         return Err(fault);
     };
-    match Id::from_text(text) {
-        Ok(id) => Ok(id),
-        Err(_) => Err(fault),
+    match id_of_text(text) {
+        Some(id) => Ok(id),
+        None => Err(fault),
     }
 }
 

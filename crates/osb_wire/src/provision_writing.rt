@@ -1,12 +1,15 @@
 //! The body of a Provision, written.
-ghost use Rattle.std.specs.Prelude.{◌≡◌, ◌≢◌, ◌≤◌, ◌<◌, ◌^◌, ℕ, List, [], Some, Ok, IfOk, OnOk, option_and_then, string_bytes};
+ghost use Rattle.std.specs.Prelude.{◌≡◌, ◌≢◌, ◌≤◌, ℕ, List, [], Some, Ok, IfOk, OnOk, codes, option_and_then, string_bytes};
 ghost use Rattle.serde_json.specs.Data.{string, object, put, depth};
 ghost use Rattle.serde_json.specs.Find.{get, get_member};
 ghost use Rattle.serde_json.specs.Read.{read, max_depth};
 ghost use Rattle.serde_json.specs.View.{view, members_view};
+ghost use Rattle.osb_json.specs.Members.{text_at};
+ghost use Rattle.osb_wire.specs.Bodies.{object_in};
+ghost use Rattle.osb_wire.specs.IdTexts.{number_of};
 ghost use Rattle.osb_wire.specs.Provisions as provisions;
 
-use osb_message::{Memory, PlanId, ServiceId};
+use osb_message::Memory;
 use serde_json::{Map, Value};
 use std::alloc::{AllocError, Global};
 
@@ -27,26 +30,18 @@ fn put_text(
 // The value of a body.
 fn provision_value(
     alloc: Global,
-    service: ServiceId,
-    plan: PlanId,
+    service: &str,
+    plan: &str,
     organization: &str,
     space: &str,
     further: Map<String, Value>,
 ) -> Result<Value, AllocError>
-    ensures value { IfOk result (λ value. view value ≡ object (provisions.provision_members
-        service plan organization.now space.now (members_view further.entries))) }
-    ensures fits { IfOk result (λ _. (service < 2 ^ 128) × (plan < 2 ^ 128)) }
+    ensures value { IfOk result (λ value. view value ≡ object (provisions.members_with
+        service.now plan.now organization.now space.now (members_view further.entries))) }
 {
     let mut members = further;
-    let mut service_text = [0u8; 36];
-    put_text(
-        alloc,
-        &mut members,
-        "service_id",
-        service.text_in(&mut service_text),
-    )?;
-    let mut plan_text = [0u8; 36];
-    put_text(alloc, &mut members, "plan_id", plan.text_in(&mut plan_text))?;
+    put_text(alloc, &mut members, "service_id", service)?;
+    put_text(alloc, &mut members, "plan_id", plan)?;
     put_text(alloc, &mut members, "organization_guid", organization)?;
     put_text(alloc, &mut members, "space_guid", space)?;
     Ok(Value::Object(members))
@@ -56,18 +51,22 @@ fn provision_value(
 // the further members, of which none stands in place of the first four.
 pub(crate) fn write_provision(
     alloc: Global,
-    service: ServiceId,
-    plan: PlanId,
+    service: &str,
+    plan: &str,
     organization: &str,
     space: &str,
     further: Map<String, Value>,
 ) -> Result<String, Memory>
     ensures object { depth (object (members_view further.entries)) ≤ max_depth
-        → IfOk result (λ text. read (string_bytes text) ≡ Some (object (provisions.provision_members
-        service plan organization.now space.now (members_view further.entries)))) }
-    ensures back { depth (object (members_view further.entries)) ≤ max_depth
+        → IfOk result (λ text. read (string_bytes text) ≡ Some (object (provisions.members_with
+        service.now plan.now organization.now space.now (members_view further.entries)))) }
+    ensures back { (s p : ℕ) → number_of service.now ≡ Some s → number_of plan.now ≡ Some p
+        → depth (object (members_view further.entries)) ≤ max_depth
         → organization.now ≢ [] → space.now ≢ []
-        → IfOk result (λ text. provisions.provision_in (string_bytes text) ≡ Ok (service, plan)) }
+        → IfOk result (λ text. provisions.provision_in (string_bytes text) ≡ Ok (s, p)) }
+    ensures texts { depth (object (members_view further.entries)) ≤ max_depth → IfOk result
+        (λ text. (option_and_then (text_at (codes "service_id")) (object_in (string_bytes text)) ≡ Some service.now)
+        × (option_and_then (text_at (codes "plan_id")) (object_in (string_bytes text)) ≡ Some plan.now)) }
     ensures kept { (name : List ℕ) → provisions.IsFurther name
         → depth (object (members_view further.entries)) ≤ max_depth
         → IfOk result (λ text. option_and_then (get name) (read (string_bytes text))

@@ -4,6 +4,7 @@ ghost use Rattle.std.specs.Cow.{cow_str_bytes};
 ghost use Rattle.osb_wire.specs.Targets as targets;
 
 use crate::Refusal;
+use crate::id_texts::id_of_text;
 use osb_message::Id;
 use std::alloc::Global;
 use std::borrow::CowStr;
@@ -48,9 +49,9 @@ pub(crate) fn read_id<K>(
     let Some(text) = read_value(alloc, query, name)? else {
         return Ok(None);
     };
-    match Id::from_text(text.as_str()) {
-        Ok(id) => Ok(Some(id)),
-        Err(_) => Err(fault),
+    match id_of_text(text.as_str()) {
+        Some(id) => Ok(Some(id)),
+        None => Err(fault),
     }
 }
 
@@ -68,9 +69,9 @@ pub(crate) fn read_needed_id<K>(
     let Some(text) = read_value(alloc, query, name)? else {
         return Err(fault);
     };
-    match Id::from_text(text.as_str()) {
-        Ok(id) => Ok(id),
-        Err(_) => Err(fault),
+    match id_of_text(text.as_str()) {
+        Some(id) => Ok(id),
+        None => Err(fault),
     }
 }
 

@@ -24,17 +24,17 @@ pub enum Refusal {
     /// The body is longer than the broker allows: 413.
     #[error("the body is too long")]
     TooLong,
-    /// The id of the instance is no GUID: 400.
-    #[error("the instance id must be a GUID")]
+    /// The id of the instance isn't UTF-8, is empty or longer than 255 bytes, or is `.` or `..`: 400.
+    #[error("the instance id must be UTF-8 of 1 to 255 bytes, and no dot segment")]
     BadInstance,
     /// A parameter of the query stands twice: 400.
     #[error("a parameter stands twice")]
     Repeated,
-    /// `service_id` is missing or no GUID: 400.
-    #[error("service_id must be a GUID")]
+    /// `service_id` is missing, no string, empty or longer than 255 bytes: 400.
+    #[error("service_id must be a string of 1 to 255 bytes")]
     BadService,
-    /// `plan_id` is missing or no GUID: 400.
-    #[error("plan_id must be a GUID")]
+    /// `plan_id` is missing, no string, empty or longer than 255 bytes: 400.
+    #[error("plan_id must be a string of 1 to 255 bytes")]
     BadPlan,
     /// `accepts_incomplete` is neither `true` nor `false`: 400.
     #[error("accepts_incomplete must be true or false")]
@@ -101,16 +101,16 @@ impl Refusal {
                 "{\"description\":\"The body is too long.\",\"error\":\"ContentTooLarge\"}"
             }
             Refusal::BadInstance => {
-                "{\"description\":\"The instance id must be a GUID.\",\"error\":\"BadRequest\"}"
+                "{\"description\":\"The instance id must be UTF-8 of 1 to 255 bytes, and no dot segment.\",\"error\":\"BadRequest\"}"
             }
             Refusal::Repeated => {
                 "{\"description\":\"A parameter stands twice.\",\"error\":\"BadRequest\"}"
             }
             Refusal::BadService => {
-                "{\"description\":\"service_id must be a GUID.\",\"error\":\"BadRequest\"}"
+                "{\"description\":\"service_id must be a string of 1 to 255 bytes.\",\"error\":\"BadRequest\"}"
             }
             Refusal::BadPlan => {
-                "{\"description\":\"plan_id must be a GUID.\",\"error\":\"BadRequest\"}"
+                "{\"description\":\"plan_id must be a string of 1 to 255 bytes.\",\"error\":\"BadRequest\"}"
             }
             Refusal::BadAcceptsIncomplete => {
                 "{\"description\":\"accepts_incomplete must be true or false.\",\"error\":\"BadRequest\"}"

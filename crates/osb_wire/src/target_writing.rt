@@ -1,13 +1,19 @@
 //! The method and the target of a request.
-ghost use Rattle.std.specs.Prelude.{◌≡◌, ◌≢◌, ◌≤◌, ◌<◌, ℕ, All, List, IsUtf8, Ok, IfOk, OnOk, option_map, length, string_bytes};
+ghost use Rattle.std.specs.Prelude.{◌≡◌, ◌≢◌, ◌≤◌, ◌<◌, ◌⊎◌, ◌++◌, ℕ, All, List, IsUtf8, Some, Ok, Err, IfOk, IfErr, OnOk, option_map, length, string_bytes};
 ghost use Rattle.form_urlencoded.specs.Form.{extend_pairs};
+ghost use Rattle.osb_message.specs.declared.messages.Kind.TheVariants as Kind;
 ghost use Rattle.osb_wire.specs.Asking as asking;
+ghost use Rattle.osb_wire.specs.Names as naming;
+ghost use Rattle.osb_wire.specs.Paths as paths;
 ghost use Rattle.osb_wire.specs.Provisions as provisions;
 ghost use Rattle.osb_wire.specs.Requests as requests;
 ghost use Rattle.osb_wire.specs.Targets as targets;
 
+use crate::names::{NameFault, Names, judge_names};
+use crate::path_reading::SEGMENT;
 use form_urlencoded::Serializer;
-use osb_message::{InstanceId, Kind, Memory, PlanId, Request, ServiceId};
+use osb_message::{Kind, Memory, Request};
+use percent_encoding::percent_encode;
 use std::alloc::{AllocError, Global};
 
 /// The method of a request of this kind: `PUT`, `GET` or `DELETE` (sections Provisioning, Polling Last Operation
@@ -22,39 +28,51 @@ pub fn method_of(kind: Kind) -> &'static str
     }
 }
 
-// The path of a request.
-fn write_path(alloc: Global, prefix: &str, kind: Kind, id: InstanceId) -> Result<String, AllocError>
-    ensures path { IfOk result (λ text. string_bytes text ≡ targets.path_of prefix.now kind id) }
+// The path of an instance.
+#[tactic(auto, using(std::proofs::Common::append_assoc))]
+fn write_instance_path(alloc: Global, prefix: &str, instance: &str) -> Result<String, AllocError>
+    ensures path { IfOk result (λ text. string_bytes text
+        ≡ prefix.now ++ (targets.instances_path ++ paths.segment_of instance.now)) }
 {
+    let mut path = format!(in alloc; "{prefix}/v2/service_instances/")?;
+    percent_encode(instance.as_bytes(), SEGMENT).append_to(&mut path)?;
+    Ok(path)
+}
+
+// The path of a request.
+#[tactic(auto, using(std::proofs::Common::append_assoc))]
+fn write_path(alloc: Global, prefix: &str, kind: Kind, instance: &str) -> Result<String, AllocError>
+    ensures path { IfOk result (λ text. string_bytes text ≡ targets.path_of prefix.now kind instance.now) }
+{
+    let mut path = write_instance_path(alloc, prefix, instance)?;
     match kind {
-        Kind::Provision | Kind::Deprovision => {
-            format!(in alloc; "{prefix}/v2/service_instances/{id}")
+        Kind::Provision | Kind::Deprovision => Ok(path),
+        Kind::Poll => {
+            path.push_str("/last_operation")?;
+            Ok(path)
         }
-        Kind::Poll => format!(in alloc; "{prefix}/v2/service_instances/{id}/last_operation"),
     }
 }
 
 // Adds the service and the plan.
-fn add_plan(form: &mut Serializer, service: ServiceId, plan: PlanId) -> Result<(), AllocError>
+fn add_plan(form: &mut Serializer, names: &Names) -> Result<(), AllocError>
     ensures form { OnOk result (form.new.form
-        ≡ extend_pairs form.old.form (targets.plan_parameters service plan)) }
+        ≡ extend_pairs form.old.form (targets.plan_parameters names.now.service.now names.now.plan.now)) }
     ensures prefix { OnOk result (form.new.prefix ≡ form.old.prefix) }
 {
-    let mut service_text = [0u8; 36];
-    form.append_pair("service_id", service.text_in(&mut service_text))?;
-    let mut plan_text = [0u8; 36];
-    form.append_pair("plan_id", plan.text_in(&mut plan_text))
+    form.append_pair("service_id", names.service)?;
+    form.append_pair("plan_id", names.plan)
 }
 
 // Adds the service and the plan, which a Provision has in its body.
-fn add_ids(form: &mut Serializer, request: &Request) -> Result<(), AllocError>
+fn add_ids(form: &mut Serializer, kind: Kind, names: &Names) -> Result<(), AllocError>
     ensures form { OnOk result (form.new.form ≡ extend_pairs form.old.form
-        (targets.id_parameters request.now.kind request.now.service request.now.plan)) }
+        (targets.id_parameters kind names.now.service.now names.now.plan.now)) }
     ensures prefix { OnOk result (form.new.prefix ≡ form.old.prefix) }
 {
-    match request.kind {
+    match kind {
         Kind::Provision => Ok(()),
-        Kind::Poll | Kind::Deprovision => add_plan(form, request.service, request.plan),
+        Kind::Poll | Kind::Deprovision => add_plan(form, names),
     }
 }
 
@@ -98,46 +116,46 @@ fn add_operation(form: &mut Serializer, operation: Option<&str>) -> Result<(), A
 fn write_query(
     alloc: Global,
     request: &Request,
+    names: &Names,
     operation: Option<&str>,
 ) -> Result<String, AllocError>
     ensures query { IfOk result (λ text. string_bytes text
-        ≡ targets.query_of request.now (option_map (λ text. text.now) operation.entry)) }
+        ≡ targets.query_of request.now (naming.texts_of names.now) (option_map (λ text. text.now) operation.entry)) }
     ensures text { IfOk result (λ _. targets.IsTextIfAny (option_map (λ text. text.now) operation.entry)) }
 {
     let mut form = Serializer::new(String::new(alloc));
-    add_ids(&mut form, request)?;
+    add_ids(&mut form, request.kind, names)?;
     add_flag(&mut form, request.accepts_incomplete)?;
     add_operation(&mut form, operation)?;
     Ok(form.finish())
 }
 
-// That ids are numbers of 128 bits.
-fn check_ids(request: &Request)
-    ensures ids { targets.HasIds request.now }
+// That the texts of ids are UTF-8, and bytes.
+fn check_names(names: &Names)
+    ensures utf8 { targets.AreUtf8 (naming.texts_of names.now) }
 {
-    let _ids = (
-        request.id.value(),
-        request.service.value(),
-        request.plan.value(),
-    );
+    check_text(names.instance);
+    check_text(names.service);
+    check_text(names.plan);
 }
 
-// The target, and that what it is made of are ids and a text.
+// The target, and that what it is made of are texts.
 fn target_of(
     alloc: Global,
     prefix: &str,
     request: &Request,
+    names: &Names,
     operation: Option<&str>,
 ) -> Result<String, Memory>
-    ensures text { IfOk result (λ text. string_bytes text
-        ≡ targets.target_text prefix.now request.now (option_map (λ text. text.now) operation.entry)) }
-    ensures ids { targets.HasIds request.now }
+    ensures text { IfOk result (λ text. string_bytes text ≡ targets.target_with prefix.now request.now
+        (naming.texts_of names.now) (option_map (λ text. text.now) operation.entry)) }
+    ensures utf8 { targets.AreUtf8 (naming.texts_of names.now) }
     ensures operation { IfOk result (λ _.
         targets.IsTextIfAny (option_map (λ text. text.now) operation.entry)) }
 {
-    check_ids(request);
-    let path = write_path(alloc, prefix, request.kind, request.id)?;
-    let query = write_query(alloc, request, operation)?;
+    check_names(names);
+    let path = write_path(alloc, prefix, request.kind, names.instance)?;
+    let query = write_query(alloc, request, names, operation)?;
     if query.is_empty() {
         return Ok(path);
     }
@@ -145,16 +163,8 @@ fn target_of(
     Ok(target)
 }
 
-/// The target of a request: the path, and the query where it has one.
-///
-/// It begins with the prefix: empty, or what the broker's own URL has before `/v2`, as a request line has it,
-/// with no `?`, `#`, blank or line end. It is written as it stands. The target names the operation where one is
-/// given, which is the broker's, from its answer; give one to a Poll alone. Sections Provisioning, Polling Last
-/// Operation for Service Instances and Deprovisioning of the standard.
-///
-/// [`read_request`](crate::read_request) gives the request back from it and from [`method_of`] its kind, whatever
-/// the body of a Provision is that names its service and its plan, as [`write_body`](crate::write_body) writes one.
-/// [`asked_operation`](crate::asked_operation) gives the operation back.
+/// The target of a request whose ids are GUIDs in lower case: the path, and the query where it has one. What
+/// [`write_named_target`] returns, with the ids' own texts.
 ///
 /// # Errors
 ///
@@ -175,6 +185,72 @@ pub fn write_target(
         targets.operation_asked (string_bytes text)
         ≡ Ok (option_map (λ text. text.now) operation.entry)) }
 {
-    let target = target_of(alloc, prefix, request, operation)?;
+    let mut instance = [0u8; 36];
+    let mut service = [0u8; 36];
+    let mut plan = [0u8; 36];
+    let names = Names {
+        instance: request.id.text_in(&mut instance),
+        service: request.service.text_in(&mut service),
+        plan: request.plan.text_in(&mut plan),
+    };
+    let target = target_of(alloc, prefix, request, &names, operation)?;
     Ok(target)
+}
+
+/// The target of a request: the path, and the query where it has one.
+///
+/// It begins with the prefix: empty, or what the broker's own URL has before `/v2`, as a request line has it,
+/// with no `?`, `#`, blank or line end. It is written as it stands. The ids are sent as the texts that are given, which
+/// are the request's: that of the instance in the path, where every byte but letters, digits, `-`, `.`, `_` and `~` is
+/// escaped, and those of the service and the plan of a Poll and of a Deprovision in the query. The target names the
+/// operation where one is given, which is the broker's, from its answer; give one to a Poll alone. Sections
+/// Provisioning, Polling Last Operation for Service Instances and Deprovisioning of the standard.
+///
+/// [`read_request`](crate::read_request) gives the request and the texts back from it and from [`method_of`] its kind,
+/// whatever the body of a Provision is that names its service and its plan, as
+/// [`write_named_body`](crate::write_named_body) writes one. [`asked_operation`](crate::asked_operation) gives the
+/// operation back.
+///
+/// # Errors
+///
+/// [`NameFault::BadInstance`], [`NameFault::BadService`] or [`NameFault::BadPlan`], the first that fits, for a text
+/// that isn't the request's, whatever memory there is; else [`NameFault::Memory`] where an allocation failed. The same
+/// call may be made again.
+pub fn write_named_target(
+    alloc: Global,
+    prefix: &str,
+    request: &Request,
+    names: &Names,
+    operation: Option<&str>,
+) -> Result<String, NameFault>
+    ensures text { IfOk result (λ text. string_bytes text ≡ targets.target_with prefix.now request.now
+        (naming.texts_of names.now) (option_map (λ text. text.now) operation.entry)) }
+    ensures named { OnOk result (targets.AreTextsOf request.now (naming.texts_of names.now)) }
+    ensures back { (longest : ℕ) (body : List ℕ) → All (λ b. b ≢ 63) prefix.now → length body ≤ longest
+        → provisions.Names request.now.kind body request.now.service request.now.plan
+        → IfOk result (λ text. requests.request_in prefix.now longest (targets.method_of request.now.kind)
+        (string_bytes text) body ≡ Ok (asking.asked_of request.now)) }
+    ensures instance { All (λ b. b ≢ 63) prefix.now → IfOk result (λ text.
+        requests.instance_text_in prefix.now (string_bytes text) ≡ Some names.now.instance.now) }
+    ensures texts { (body : List ℕ) → All (λ b. b ≢ 63) prefix.now → request.now.kind ≢ Kind.Provision
+        → IfOk result (λ text. (requests.service_text request.now.kind (string_bytes text) body
+        ≡ Some names.now.service.now) × (requests.plan_text request.now.kind (string_bytes text) body
+        ≡ Some names.now.plan.now)) }
+    ensures operation { All (λ b. b ≢ 63) prefix.now → IfOk result (λ text.
+        targets.operation_asked (string_bytes text)
+        ≡ Ok (option_map (λ text. text.now) operation.entry)) }
+
+    ensures rejected { (fault : NameFault) → naming.names_judged request.now (naming.texts_of names.now) ≡ Err fault
+        → result ≡ Err fault }
+    ensures err { IfErr result (λ fault. (fault ≡ NameFault.Memory)
+        ⊎ (naming.names_judged request.now (naming.texts_of names.now) ≡ Err fault)) }
+{
+    match judge_names(request, names) {
+        Ok(()) => {}
+        Err(fault) => return Err(fault),
+    }
+    match target_of(alloc, prefix, request, names, operation) {
+        Ok(target) => Ok(target),
+        Err(Memory) => Err(NameFault::Memory),
+    }
 }

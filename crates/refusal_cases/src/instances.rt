@@ -24,17 +24,8 @@ pub fn second() -> InstanceId {
     InstanceId::from_value(2)
 }
 
-// Only the part `world-full` records it.
 pub fn third() -> InstanceId {
     InstanceId::from_value(3)
-}
-
-pub fn fourth() -> InstanceId {
-    InstanceId::from_value(4)
-}
-
-pub fn fifth() -> InstanceId {
-    InstanceId::from_value(5)
 }
 
 // The two plans on sale.
@@ -51,15 +42,6 @@ pub fn create(id: InstanceId) -> Event {
         service: service(),
         plan: synchronous(),
         accepts: false,
-    }
-}
-
-pub fn create_asynchronous(id: InstanceId) -> Event {
-    Event::Create {
-        id,
-        service: service(),
-        plan: asynchronous(),
-        accepts: true,
     }
 }
 

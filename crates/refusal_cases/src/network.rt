@@ -2,9 +2,9 @@
 use crate::instances::{first, second, service, synchronous, third};
 use crate::telling::{Case, Returned, done, tell};
 use anyhow::Result;
-use osb_broker::Outcome;
+use osb_instance::{Digest, WorkOutcome};
 use osb_message::{InstanceId, Memory, Mode};
-use osb_network::{Event, Instance, InstanceEvent, Network, Order, Step, Thing, run};
+use osb_network::{Event, Instance, InstanceEvent, Network, Order, Resource, Step, run};
 use std::alloc::Global;
 
 const CREATE: Event = Event::Create;
@@ -12,11 +12,11 @@ const CREATE: Event = Event::Create;
 const ARRIVE: Event = Event::Arrive { attempt: 1 };
 
 const WHOLE: Event = Event::Work {
-    thing: Thing::Whole,
+    resource: Resource::Whole,
 };
 
 const DONE: Event = Event::End {
-    outcome: Outcome::Done,
+    outcome: WorkOutcome::Done,
 };
 
 fn order(id: InstanceId) -> Order {
@@ -26,21 +26,25 @@ fn order(id: InstanceId) -> Order {
         plan: synchronous(),
         mode: Some(Mode::Sync),
         accepts: false,
+        first_poll: false,
+        attributes: Digest::NONE,
     }
 }
 
-// What the platform records, what the broker holds, the thing, and how much was sent and answered.
+// What the platform records, what the broker holds, the resource, and how much was sent and answered.
 fn instance_text(alloc: Global, instance: &Instance) -> Result<String> {
     let state = instance.record().map(|record| record.row().state);
     let out = instance.record().and_then(|record| record.row().out);
     let holding = instance.holding();
     let phase = holding.row().map(|row| row.phase);
     let work = holding.work().map(|request| request.kind);
-    let marked = holding.is_marked();
-    let thing = instance.thing();
+    let tombstone = holding.has_tombstone();
+    let resource = instance.resource();
     let sent = instance.sent().len();
     let given = instance.given().len();
-    Ok(format!(in alloc; "{state:?} {out:?} {phase:?} {work:?} {marked} {thing:?} {sent} {given}")?)
+    Ok(format!(in alloc;
+        "{state:?} {out:?} {phase:?} {work:?} {tombstone} {resource:?} {sent} {given}"
+    )?)
 }
 
 fn stepped(returned: Result<Step, Memory>) -> Returned {

@@ -1,6 +1,6 @@
 //! What is told of a call.
 use anyhow::Result;
-use osb_message::{Answer, InstanceId, Memory};
+use osb_message::{InstanceId, Memory};
 use osb_platform::SaveFault;
 use osb_schedule::ScheduleFault;
 use std::alloc::Global;
@@ -13,7 +13,6 @@ const TRIES: u32 = 2;
 pub enum Returned {
     Memory,
     Word(&'static str),
-    Answer(Answer),
     Fault(ScheduleFault),
     Ids(Vec<InstanceId>),
     Text(String),
@@ -52,7 +51,6 @@ fn tell_returned(rt: &impl Print, returned: &Returned) -> Result<()> {
     match returned {
         Returned::Memory => println!(rt; "returned Memory")?,
         Returned::Word(word) => println!(rt; "returned {word}")?,
-        Returned::Answer(answer) => println!(rt; "returned {answer:?}")?,
         Returned::Fault(fault) => println!(rt; "returned {fault}")?,
         Returned::Ids(ids) => println!(rt; "returned {ids:?}")?,
         Returned::Text(text) => println!(rt; "returned {text}")?,

@@ -7,8 +7,8 @@ use osb_broker::{Broker, Outcome};
 use osb_message::{Answer, InstanceId, PlanId, Request, ServiceId};
 use osb_platform::Platform;
 use osb_wire::{
-    asked_operation, catalogue_document, read_answer, read_operation, read_request, write_answer,
-    write_request,
+    Endpoints, Names, asked_operation, catalogue_document, read_answer, read_operation,
+    read_request, write_answer, write_request,
 };
 use serde_json::Map;
 use std::alloc::Global;
@@ -21,8 +21,24 @@ const PLAN: &str = "00000000-0000-0000-0000-0000000000b2";
 
 // What the broker sells, as its author writes it.
 const CATALOGUE: &[u8] =
-    br#"{"services":[{"id":"00000000-0000-0000-0000-0000000000a0","name":"postgres","plans":[
-    {"id":"00000000-0000-0000-0000-0000000000b2","name":"small","asynchronous":true}]}]}"#;
+    br#"{"services":[{"id":"00000000-0000-0000-0000-0000000000a0","name":"postgres","description":"PostgreSQL",
+    "bindable":false,"plans":[{"id":"00000000-0000-0000-0000-0000000000b2","name":"small","description":"1 GB",
+    "x-osb-asynchronous":true}]}]}"#;
+
+// The broker serves no endpoint besides those of an instance and its last operation.
+const SERVES: Endpoints = Endpoints {
+    updating: false,
+    bindings: false,
+    fetching_instances: false,
+    fetching_bindings: false,
+};
+
+// The texts of the ids, as the platform and the catalogue have them.
+const NAMES: Names<'static> = Names {
+    instance: INSTANCE,
+    service: SERVICE,
+    plan: PLAN,
+};
 
 // What stands before `/v2` in the broker's URL.
 const PREFIX: &str = "/postgres";
@@ -39,7 +55,7 @@ fn serve(
     target: &str,
     body: &str,
 ) -> Result<(u16, String)> {
-    let asked = match read_request(
+    let received = match read_request(
         alloc,
         PREFIX,
         LONGEST_BODY,
@@ -47,7 +63,7 @@ fn serve(
         target.as_bytes(),
         body.as_bytes(),
     ) {
-        Ok(asked) => asked,
+        Ok(received) => received,
         Err(refusal) => {
             return Ok((refusal.status(), String::from_str(alloc, refusal.body())?));
         }
@@ -55,9 +71,10 @@ fn serve(
     if let Some(operation) = asked_operation(alloc, target.as_bytes())? {
         println!(rt; "  (it is asked about {})", operation.as_str())?;
     }
+    let asked = received.asked;
     let held = broker.row(asked.id()).map(|row| (row.service, row.plan));
     let answer = broker.handle(&asked.request(held), Outcome::Done)?;
-    let text = write_answer(alloc, answer, Some("making 1"))?;
+    let text = write_answer(alloc, answer, Some("making 1"), None)?;
     Ok((answer.status, text))
 }
 
@@ -74,6 +91,7 @@ fn carry(
         alloc,
         PREFIX,
         request,
+        &NAMES,
         operation,
         "an organization",
         "a space",
@@ -102,7 +120,8 @@ fn main(rt: HostRuntime) -> Result<()> {
     let id = InstanceId::from_text(INSTANCE)?;
     let service = ServiceId::from_text(SERVICE)?;
     let plan = PlanId::from_text(PLAN)?;
-    let mut broker = Broker::new(alloc, catalogue_document(alloc, CATALOGUE)?);
+    let document = catalogue_document(alloc, CATALOGUE, SERVES)?;
+    let mut broker = Broker::new(alloc, document.catalogue);
     let mut platform = Platform::new(alloc);
 
     let provision = platform

@@ -102,7 +102,11 @@ func TestRestart(t *testing.T) {
 	ctx := context.Background()
 	running := func(h osb.Holding) (osb.Holding, error) {
 		_, sent := osb.Create(instance, service, plan, true)
-		next, _, err := h.Handle(osb.ModeAsync, sent.Request, osb.OutcomeDone)
+		begun, _, err := h.Begin(osb.ModeAsync, sent.Request, osb.Rules{})
+		if err != nil {
+			return h, err
+		}
+		next, _, err := begun.End(osb.ModeAsync, osb.OutcomeDone)
 		return next, err
 	}
 	if err := s.store.Change(ctx, instance, running); err != nil {

@@ -40,7 +40,7 @@ func (h Holdings) Change(ctx context.Context, id osb.ID, step func(osb.Holding) 
 	})
 }
 
-// Recorded lists the instances with recorded work.
+// Recorded lists the instances with pending work.
 func (h Holdings) Recorded(ctx context.Context) ([]osb.ID, error) {
 	rows, err := h.DB.QueryContext(ctx, `SELECT id FROM holdings WHERE holding -> 'work' <> 'null'`)
 	if err != nil {

@@ -14,9 +14,9 @@ from osb._header import VERSION
 from osb._lib import version
 from osb.enums import Body, Kind, Mode, Outcome, Phase, State, Status, Work
 from osb.errors import OsbError, Refusal
-from osb.holding import Holding, work_of
+from osb.holding import NO_ATTRIBUTES, Holding, work_of
 from osb.ids import Id
-from osb.messages import Answer, BrokerRow, Plan, PlatformRow, Request
+from osb.messages import Answer, BrokerRow, Endpoints, Plan, PlatformRow, Request
 from osb.record import Record
 
 __version__ = f"{VERSION // 10000}.{VERSION // 100 % 100}.{VERSION % 100}"
@@ -26,10 +26,12 @@ __all__ = [
     "Answer",
     "Body",
     "BrokerRow",
+    "Endpoints",
     "Holding",
     "Id",
     "Kind",
     "Mode",
+    "NO_ATTRIBUTES",
     "OsbError",
     "Outcome",
     "Phase",

@@ -1,10 +1,10 @@
 """Values as the structs that cross to the library, and back."""
 from __future__ import annotations
 
-from osb._header import KIND_NONE, MODE_NONE, CAnswer, CBrokerRow, CId, CPlan, CPlatformRow, CRequest
+from osb._header import KIND_NONE, MODE_NONE, CAnswer, CBrokerRow, CEndpoints, CId, CPlan, CPlatformRow, CRequest
 from osb.enums import Body, Kind, Mode, Phase, State
 from osb.ids import Id
-from osb.messages import Answer, BrokerRow, Plan, PlatformRow, Request
+from osb.messages import Answer, BrokerRow, Endpoints, Plan, PlatformRow, Request
 
 
 def id_to(id: Id) -> CId:
@@ -61,6 +61,15 @@ def platform_row_to(row: PlatformRow) -> CPlatformRow:
 
 def plan_from(plan: CPlan) -> Plan:
     return Plan(id_from(plan.service), id_from(plan.plan), bool(plan.is_asynchronous))
+
+
+def endpoints_to(serves: Endpoints) -> CEndpoints:
+    return CEndpoints(
+        bool(serves.updating),
+        bool(serves.bindings),
+        bool(serves.fetching_instances),
+        bool(serves.fetching_bindings),
+    )
 
 
 def broker_row_to(row: BrokerRow) -> CBrokerRow:

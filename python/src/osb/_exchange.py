@@ -20,6 +20,8 @@ _PIECE = 1 << 14
 # How many bytes a response may have besides its body: its head, and what parts the body.
 _AROUND = 1 << 20
 
+_BOOT_TIME: int | None = getattr(time, "CLOCK_BOOTTIME", None)
+
 
 class Response(NamedTuple):
     """A response that arrived whole."""
@@ -54,17 +56,24 @@ class Address(NamedTuple):
 
 
 class Deadline:
-    """The moment until which an exchange may last."""
+    """The moment until which an exchange may last. The time for which the machine is suspended counts."""
 
     def __init__(self, seconds: float) -> None:
-        self._until = time.monotonic() + seconds
+        self._until = _now() + seconds
 
     def left(self) -> float:
         """The seconds that are left. Raises TimeoutError where none are."""
-        left = self._until - time.monotonic()
+        left = self._until - _now()
         if left <= 0:
             raise TimeoutError("the exchange has taken too long")
         return left
+
+
+def _now() -> float:
+    """The seconds of a clock that nobody sets. On Linux `time.monotonic` stands still while the machine is suspended,
+    and this clock doesn't.
+    """
+    return time.monotonic() if _BOOT_TIME is None else time.clock_gettime(_BOOT_TIME)
 
 
 class _Reader(io.RawIOBase):

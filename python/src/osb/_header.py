@@ -52,12 +52,32 @@ class CHolding(c.Structure):
         ("work", CRequest),
         ("has_row", c.c_bool),
         ("has_work", c.c_bool),
-        ("is_marked", c.c_bool),
+        ("has_tombstone", c.c_bool),
+        ("attributes", c.c_uint8 * 32),
     ]
 
 
 class CBegun(c.Structure):
     _fields_ = [("answer", CAnswer), ("work", c.c_uint8)]
+
+
+class CDetails(c.Structure):
+    _fields_ = [
+        ("has_description", c.c_bool),
+        ("has_error", c.c_bool),
+        ("has_dashboard_url", c.c_bool),
+        ("has_operation", c.c_bool),
+        ("has_metadata", c.c_bool),
+        ("has_instance_usable", c.c_bool),
+        ("instance_usable", c.c_bool),
+        ("has_update_repeatable", c.c_bool),
+        ("update_repeatable", c.c_bool),
+        ("description", c.c_size_t),
+        ("error", c.c_size_t),
+        ("dashboard_url", c.c_size_t),
+        ("operation", c.c_size_t),
+        ("metadata", c.c_size_t),
+    ]
 
 
 class CAsked(c.Structure):
@@ -72,8 +92,36 @@ class CAsked(c.Structure):
     ]
 
 
+class CReceived(c.Structure):
+    _fields_ = [
+        ("has_service", c.c_bool),
+        ("has_plan", c.c_bool),
+        ("has_parameters", c.c_bool),
+        ("has_context", c.c_bool),
+        ("has_maintenance_info", c.c_bool),
+        ("has_others", c.c_bool),
+        ("instance", c.c_size_t),
+        ("service", c.c_size_t),
+        ("plan", c.c_size_t),
+        ("parameters", c.c_size_t),
+        ("context", c.c_size_t),
+        ("maintenance_info", c.c_size_t),
+        ("others", c.c_size_t),
+    ]
+
+
+class CEndpoints(c.Structure):
+    _fields_ = [
+        ("updating", c.c_bool),
+        ("bindings", c.c_bool),
+        ("fetching_instances", c.c_bool),
+        ("fetching_bindings", c.c_bool),
+    ]
+
+
 EXPORTS: list[tuple[str, Any, list[Any]]] = [
     ("osb_version", c.c_uint32, []),
+    ("osb_id_of_text", c.c_uint32, [*_READ, _AT(CId)]),
     ("osb_id_from_text", c.c_uint32, [*_READ, _AT(CId)]),
     ("osb_id_to_text", None, [CId, c.c_char_p]),
     ("osb_well_formed", c.c_bool, [c.c_uint8, CAnswer]),
@@ -89,31 +137,55 @@ EXPORTS: list[tuple[str, Any, list[Any]]] = [
     ("osb_record_answer", c.c_uint32, [_AT(CRecord), c.c_uint64, CAnswer]),
     ("osb_record_timeout", c.c_uint32, [_AT(CRecord), c.c_uint64]),
     ("osb_record_expire", c.c_uint32, [_AT(CRecord)]),
+    ("osb_record_retry", c.c_uint32, [_AT(CRecord)]),
     ("osb_record_remove", c.c_uint32, [_AT(CRecord)]),
     ("osb_record_to_text", c.c_uint32, [_AT(CRecord), *_WRITTEN]),
     ("osb_record_from_text", c.c_uint32, [*_READ, _AT(CRecord)]),
     ("osb_holding_fits", c.c_bool, [_AT(CHolding), c.c_uint8]),
-    ("osb_holding_begin", c.c_uint32, [_AT(CHolding), c.c_uint8, _AT(CRequest), _AT(CBegun)]),
+    ("osb_holding_begin", c.c_uint32, [_AT(CHolding), c.c_uint8, c.c_bool, _AT(CRequest), c.c_char_p, _AT(CBegun)]),
     ("osb_holding_end", c.c_uint32, [_AT(CHolding), c.c_uint8, c.c_uint8, _AT(CAnswer)]),
     ("osb_holding_finish", c.c_uint32, [_AT(CHolding), c.c_bool]),
-    ("osb_holding_handle", c.c_uint32, [_AT(CHolding), c.c_uint8, _AT(CRequest), c.c_uint8, _AT(CAnswer)]),
+    ("osb_holding_give_up_waiting", c.c_uint32, [_AT(CHolding)]),
     ("osb_work_of", c.c_uint8, [c.c_uint8, c.c_uint8]),
     ("osb_holding_to_text", c.c_uint32, [_AT(CHolding), *_WRITTEN]),
     ("osb_holding_from_text", c.c_uint32, [*_READ, _AT(CHolding)]),
     ("osb_read_answer", c.c_uint32, [c.c_uint8, c.c_uint16, *_READ, _AT(CAnswer)]),
     ("osb_read_operation", c.c_uint32, [*_READ, *_WRITTEN]),
+    ("osb_read_details", c.c_uint32, [*_READ, _AT(CDetails), *_WRITTEN]),
     ("osb_write_method", c.c_uint32, [c.c_uint8, *_WRITTEN]),
     ("osb_write_target", c.c_uint32, [*_READ, _AT(CRequest), c.c_bool, *_READ, *_WRITTEN]),
+    (
+        "osb_write_named_target",
+        c.c_uint32,
+        [*_READ, _AT(CRequest), *_READ, *_READ, *_READ, c.c_bool, *_READ, *_WRITTEN],
+    ),
     ("osb_write_body", c.c_uint32, [_AT(CRequest), *_READ, *_READ, *_READ, *_WRITTEN]),
+    ("osb_write_named_body", c.c_uint32, [c.c_uint8, *_READ, *_READ, *_READ, *_READ, *_READ, *_WRITTEN]),
     ("osb_read_request", c.c_uint32, [*_READ, c.c_size_t, *_READ, *_READ, *_READ, _AT(CAsked)]),
+    (
+        "osb_receive_request",
+        c.c_uint32,
+        [*_READ, c.c_size_t, *_READ, *_READ, *_READ, _AT(CAsked), _AT(CReceived), *_WRITTEN],
+    ),
+    ("osb_member_text", c.c_uint32, [*_READ, *_READ, *_WRITTEN]),
+    ("osb_attributes_digest", c.c_uint32, [*_READ, c.c_char_p]),
+    ("osb_parameters_digest", c.c_uint32, [*_READ, c.c_char_p]),
     ("osb_asked_request", c.c_uint32, [_AT(CAsked), c.c_bool, CId, CId, _AT(CRequest)]),
     ("osb_asked_operation", c.c_uint32, [*_READ, *_WRITTEN]),
     ("osb_write_answer", c.c_uint32, [CAnswer, c.c_bool, *_READ, *_WRITTEN]),
+    ("osb_write_told_answer", c.c_uint32, [CAnswer, c.c_bool, *_READ, c.c_bool, *_READ, *_WRITTEN]),
     ("osb_refusal_status", c.c_uint16, [c.c_uint32]),
     ("osb_refusal_body", c.c_uint32, [c.c_uint32, *_WRITTEN]),
     ("osb_api_version", c.c_uint32, [c.c_bool, *_READ]),
     ("osb_basic_auth", c.c_uint32, [*_READ, *_READ, *_READ]),
+    ("osb_originating_identity", c.c_uint32, [*_READ, _AT(c.c_size_t), *_WRITTEN]),
+    ("osb_request_identity", c.c_uint32, [*_READ]),
     ("osb_retry_after", c.c_uint32, [*_READ, _AT(c.c_uint64)]),
     ("osb_catalogue_plans", c.c_uint32, [*_READ, _AT(CPlan), c.c_size_t, _AT(c.c_size_t)]),
+    ("osb_catalogue_check", c.c_uint32, [*_READ, _AT(CEndpoints)]),
+    ("osb_served_catalogue", c.c_uint32, [*_READ, *_WRITTEN]),
+    ("osb_asks_for_catalogue", c.c_bool, [*_READ, *_READ]),
+    ("osb_plan_version", c.c_uint32, [*_READ, CId, CId, *_WRITTEN]),
+    ("osb_maintenance_conflict", c.c_uint32, [c.c_bool, *_READ, *_READ]),
 ]
 """Each call, with what it gives and what it takes."""

@@ -2,11 +2,11 @@
 from __future__ import annotations
 
 import ctypes as c
-from typing import Any, Callable
+from typing import Any, Callable, Iterator
 
 from osb.enums import Status
 
-# What most texts go into at once: a holding's has 351 bytes at most.
+# What most texts go into at once: a holding's has 434 bytes at most.
 _FIRST = 1024
 
 
@@ -18,6 +18,17 @@ def written(call: Callable[[Any, int, Any], int]) -> tuple[int, bytes]:
         buffer = c.create_string_buffer(needed.value)
         status = call(buffer, len(buffer), needed)
     return status, buffer.raw[: needed.value]
+
+
+def texts_of(text: bytes, lengths: c.Structure, *names: str) -> Iterator[str | None]:
+    """The texts that a call wrote one after the other, with these names in the struct of their lengths; None where one
+    isn't there.
+    """
+    start = 0
+    for name in names:
+        end = start + getattr(lengths, name)
+        yield text[start:end].decode() if getattr(lengths, f"has_{name}") else None
+        start = end
 
 
 def utf8(text: str) -> bytes:

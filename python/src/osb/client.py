@@ -28,8 +28,9 @@ from osb.records import Kept, RecordStore
 from osb.wire import (
     API_VERSION,
     CONTENT_TYPE,
+    Details,
     read_answer,
-    read_operation,
+    read_details,
     retry_after,
     write_body,
     write_method,
@@ -51,6 +52,8 @@ class Exchanged:
     """The answer that was taken, or None: none came that is surely the broker's, or the request was given up before."""
     retry_after: int | None
     """The seconds that the broker asks to be left alone for, or None."""
+    details: Details | None = None
+    """What the answer that was taken says besides, as its `description`, or None if none was taken."""
 
 
 @dataclass(frozen=True)
@@ -64,8 +67,7 @@ class _Sent:
 @dataclass(frozen=True)
 class _Heard:
     answer: Answer
-    operation: str | None
-    """What the Polls from now on are about."""
+    details: Details
 
 
 class Client:
@@ -171,7 +173,8 @@ class Client:
         heard = None if response is None else _heard(sent.request.kind, response)
         record, answer = self._records.update(sent.request.id, lambda kept: _taken(kept, sent, heard))
         named = None if response is None else response.retry_after
-        return Exchanged(record, answer, None if named is None else retry_after(named))
+        details = None if answer is None or heard is None else heard.details
+        return Exchanged(record, answer, None if named is None else retry_after(named), details)
 
     def _response(self, deadline: Deadline, request: Request, operation: str | None, body: bytes) -> Response | None:
         headers = {**self._headers, "Content-Type": CONTENT_TYPE} if body else self._headers
@@ -199,7 +202,7 @@ def _heard(kind: Kind, response: Response) -> _Heard | None:
         if answer is None:
             _log.warning("an answer of %d to a %s isn't surely the broker's", response.status, kind.name.lower())
             return None
-        return _Heard(answer, read_operation(response.body) if response.status == 202 else None)
+        return _Heard(answer, read_details(response.body))
 
     return _unless_memory(read)
 
@@ -214,5 +217,6 @@ def _taken(kept: Kept, sent: _Sent, heard: _Heard | None) -> tuple[Kept, tuple[R
         record = kept.record.timeout(sent.attempt)
         return Kept(record, kept.operation), (record, None)
     record = kept.record.answer(sent.attempt, heard.answer)
-    operation = kept.operation if sent.request.kind == Kind.POLL else heard.operation
+    named = heard.details.operation if heard.answer.status == 202 else None
+    operation = kept.operation if sent.request.kind == Kind.POLL else named
     return Kept(record, operation), (record, heard.answer)

@@ -20,8 +20,8 @@ class OsbError(Exception):
 class Refusal(OsbError):
     """A request that a broker refuses before it looks at any instance, with the answer to send.
 
-    `http_status` and `body` are that answer's. The status is one of REFUSED_TARGET to REFUSED_SPACE, or MEMORY where
-    an out-of-memory error is to be told.
+    `http_status` and `body` are that answer's. The status is one of REFUSED_TARGET to REFUSED_SPACE,
+    REFUSED_MAINTENANCE, or MEMORY where an out-of-memory error is to be told.
     """
 
     def __init__(self, status: int) -> None:
@@ -38,7 +38,7 @@ def check(status: int) -> None:
     """Raises what stands for this status, if the call wasn't done."""
     if status == Status.DONE:
         return
-    if Status.REFUSED_TARGET <= status <= Status.REFUSED_SPACE:
+    if Status.REFUSED_TARGET <= status <= Status.REFUSED_SPACE or status == Status.REFUSED_MAINTENANCE:
         raise Refusal(status)
     raise OsbError(status)
 
@@ -48,3 +48,14 @@ def text_of(call: Callable[[Any, int, Any], int]) -> bytes:
     status, text = written(call)
     check(status)
     return text
+
+
+def found(call: Callable[[Any, int, Any], int], nothing: Status) -> str | None:
+    """The text that a call writes, None if its status is the one for nothing, or else what its status stands for is
+    raised.
+    """
+    status, text = written(call)
+    if status == nothing:
+        return None
+    check(status)
+    return text.decode()

@@ -1,6 +1,7 @@
 """What a broker holds of one instance, as a value, for a row of a database (docs/instance.md)."""
 from __future__ import annotations
 
+import ctypes
 from dataclasses import dataclass
 from typing import ClassVar
 
@@ -11,6 +12,9 @@ from osb._texts import utf8
 from osb.enums import Kind, Mode, Outcome, Phase, Work
 from osb.errors import check, text_of
 from osb.messages import Answer, BrokerRow, Request
+
+NO_ATTRIBUTES = bytes(32)
+"""The digest of no attributes."""
 
 
 @dataclass(frozen=True)
@@ -23,38 +27,54 @@ class Holding:
 
     row: BrokerRow | None = None
     work: Request | None = None
-    """The request whose work is recorded and hasn't ended, or None."""
-    is_marked: bool = False
+    """The request whose work is pending, or None."""
+    has_tombstone: bool = False
     """Whether the instance has ended: none with this id is ever made again."""
+    attributes: bytes = NO_ATTRIBUTES
+    """The digest of the attributes of row and work, 32 bytes."""
 
     NONE: ClassVar[Holding]
     """What is held of an id that no request has come for."""
 
     @property
     def is_unfinished(self) -> bool:
-        """Whether somebody has to go on with it: work is recorded, or an operation runs."""
+        """Whether somebody has to go on with it: work is pending, or an operation runs."""
         running = self.row is not None and self.row.phase in (Phase.MAKING, Phase.DELETING)
         return running or self.work is not None
 
     def fits(self, mode: Mode | None) -> bool:
         """Whether the holding can come about at a plan of the mode. Asked of each that comes from a database, with the
-        mode of the row's plan, or of the recorded request's where there is no row.
+        mode of the row's plan, or of the pending request's if there is no row.
         """
         return bool(lib.osb_holding_fits(_to(self), mode_to(mode)))
 
-    def begin(self, mode: Mode | None, request: Request) -> tuple[Holding, Answer | Work]:
-        """Begins with a request to this instance: gives the answer to send, or the work that is due and is recorded.
+    def begin(
+        self,
+        mode: Mode | None,
+        request: Request,
+        *,
+        first_poll: bool = False,
+        attributes: bytes = NO_ATTRIBUTES,
+    ) -> tuple[Holding, Answer | Work]:
+        """Begins with a request to this instance: gives the answer to send, or the work that is due and pending.
 
-        The holding is written to the database where it differs, before the work begins or the answer is sent.
+        With `first_poll`, an asynchronous plan's instance is made only once it was polled: its Provision leaves a row
+        in `waiting`, and its first Poll one in `making`, whose operation runs from then on. `attributes` is the digest
+        of what a Provision asks for, 32 bytes, as `osb.wire.attributes_digest` returns it: one of the same service and
+        plan with others is answered with 409.
+
+        The holding is written to the database if it differs, before the work begins or the answer is sent.
         """
         holding, begun = _to(self), CBegun()
-        check(lib.osb_holding_begin(holding, mode_to(mode), request_to(request), begun))
+        digest = bytes(_digest(attributes))
+        check(lib.osb_holding_begin(holding, mode_to(mode), first_poll, request_to(request), digest, begun))
         due: Answer | Work = answer_from(begun.answer) if begun.work == WORK_NONE else Work(begun.work)
         return _from(holding), due
 
     def end(self, mode: Mode | None, outcome: Outcome) -> tuple[Holding, Answer]:
-        """Ends the recorded work with this outcome, and gives the answer to its request. The mode has to fit. The
-        holding is written to the database before the answer is sent. Raises NOTHING_BEGUN.
+        """Ends the pending work with this outcome, and gives the answer to its request. The mode has to fit. A refusal
+        leaves the tombstone. The holding is written to the database before the answer is sent. Raises NOTHING_BEGUN,
+        NOT_A_PROVISION.
         """
         holding, answer = _to(self), CAnswer()
         check(lib.osb_holding_end(holding, mode_to(mode), Outcome(outcome).value, answer))
@@ -66,13 +86,13 @@ class Holding:
         check(lib.osb_holding_finish(holding, ok))
         return _from(holding)
 
-    def handle(self, mode: Mode | None, request: Request, outcome: Outcome) -> tuple[Holding, Answer]:
-        """`begin`, and where work is due `end` with this outcome, with nothing between: for tests, and for brokers
-        whose work can't be interrupted.
+    def give_up_waiting(self) -> Holding:
+        """Gives up an instance that has waited too long for its first Poll: it has failed then, and nothing of it was
+        made. Raises NOT_WAITING.
         """
-        holding, answer = _to(self), CAnswer()
-        check(lib.osb_holding_handle(holding, mode_to(mode), request_to(request), Outcome(outcome).value, answer))
-        return _from(holding), answer_from(answer)
+        holding = _to(self)
+        check(lib.osb_holding_give_up_waiting(holding))
+        return _from(holding)
 
     def to_text(self) -> str:
         """The text of the holding, for a column of a database."""
@@ -95,16 +115,25 @@ Holding.NONE = Holding()
 
 
 def work_of(kind: Kind, mode: Mode | None) -> Work | None:
-    """The work that a request of the kind means at a plan of the mode: what a broker that starts again asks of recorded
+    """The work that a request of the kind means at a plan of the mode: what a broker that starts again asks of pending
     work. None of a Poll, and where the plan isn't on sale.
     """
     work = lib.osb_work_of(kind_to(kind), mode_to(mode))
     return None if work == WORK_NONE else Work(work)
 
 
+def _digest(attributes: bytes) -> ctypes.Array[ctypes.c_uint8]:
+    if len(attributes) != 32:
+        raise ValueError("a digest of attributes has 32 bytes")
+    return (ctypes.c_uint8 * 32)(*attributes)
+
+
 def _to(holding: Holding) -> CHolding:
     made = CHolding(
-        has_row=holding.row is not None, has_work=holding.work is not None, is_marked=bool(holding.is_marked)
+        has_row=holding.row is not None,
+        has_work=holding.work is not None,
+        has_tombstone=bool(holding.has_tombstone),
+        attributes=_digest(holding.attributes),
     )
     if holding.row is not None:
         made.row = broker_row_to(holding.row)
@@ -117,5 +146,6 @@ def _from(holding: CHolding) -> Holding:
     return Holding(
         broker_row_from(holding.row) if holding.has_row else None,
         request_from(holding.work) if holding.has_work else None,
-        bool(holding.is_marked),
+        bool(holding.has_tombstone),
+        bytes(holding.attributes),
     )

@@ -1,4 +1,4 @@
-"""Ids: GUIDs, of instances, services and plans."""
+"""Ids of instances, services and plans, by their numbers."""
 from __future__ import annotations
 
 import ctypes as c
@@ -16,9 +16,10 @@ _LONGS = range(2**64)
 
 @dataclass(frozen=True, order=True)
 class Id:
-    """The number of 128 bits that an id's text writes, in two halves: `high` has its first 16 digits.
+    """The number of an id, which has 128 bits, in two halves: as a GUID it has its first 16 digits in `high`.
 
-    `str` gives the text, in lower case.
+    The id itself is any text of 1 to 255 bytes of UTF-8, and `of_text` has its number. `str` writes the number as a
+    GUID in lower case, which is the id's text only if that is such a GUID.
     """
 
     high: int
@@ -29,8 +30,21 @@ class Id:
             raise ValueError("each half of an id is a number from 0 to 2^64 - 1")
 
     @classmethod
+    def of_text(cls, text: str) -> Id:
+        """The id that a text names, as a request or a catalogue has it. A GUID in lower case is its own number. Any
+        other text, among them a GUID with a digit in upper case, has the first 128 bits of its SHA-256. The standard
+        compares ids byte by byte; the numbers and the greatest length are this project's choice. Raises NOT_UTF8, and
+        NOT_AN_ID for an empty text and for one of more than 255 bytes.
+        """
+        read, given = CId(), utf8(text)
+        check(lib.osb_id_of_text(given, len(given), read))
+        return cls(read.high, read.low)
+
+    @classmethod
     def of(cls, text: str) -> Id:
-        """Reads the text of an id, in either case. Raises `OsbError` (NOT_AN_ID) for every other text."""
+        """Reads a GUID in either case: the number that its digits write. Raises `OsbError` (NOT_AN_ID) for every other
+        text. For the id in a request or a catalogue call `of_text`.
+        """
         read, given = CId(), utf8(text)
         check(lib.osb_id_from_text(given, len(given), read))
         return cls(read.high, read.low)

@@ -53,6 +53,20 @@ class Plan:
 
 
 @dataclass(frozen=True)
+class Endpoints:
+    """The endpoints that a broker serves besides those of Provision, Deprovision and Poll."""
+
+    updating: bool = False
+    """Updating an instance, which `plan_updateable` promises."""
+    bindings: bool = False
+    """Binding and unbinding, which `bindable` promises."""
+    fetching_instances: bool = False
+    """Fetching an instance, which `instances_retrievable` promises."""
+    fetching_bindings: bool = False
+    """Fetching a binding, which `bindings_retrievable` promises."""
+
+
+@dataclass(frozen=True)
 class BrokerRow:
     """What a broker holds of an instance."""
 

@@ -79,6 +79,12 @@ class Record:
         check(lib.osb_record_expire(record))
         return _from(record)
 
+    def retry(self) -> Record:
+        """Sends a deletion again, for one whose maximum polling duration has passed. Raises BUSY, NOT_POLLING."""
+        record = _to(self)
+        check(lib.osb_record_retry(record))
+        return _from(record)
+
     def remove(self) -> Record:
         """Has the instance deleted, as an operator asks. Raises BUSY, NOT_REMOVABLE."""
         record = _to(self)

@@ -49,14 +49,15 @@ class Worker(Protocol):
     def work(self, task: Task) -> Outcome:
         """Does the work of a task, and tells truly how it went.
 
-        It may have been begun before and broken off (`again`): so look whether the thing is there, and make it whole or
-        take it away. START_MAKING and START_DELETING are done once the operation is sure to go on; it ends by `finish`.
+        It may have been begun before and broken off (`again`): so look whether the resource is there, and make it
+        whole or delete it. START_MAKING and START_DELETING are done once the operation is sure to go on; it ends by
+        `finish`.
 
         DONE: it is done, or at an asynchronous plan started. BEFORE: it failed, and nothing is there; of a deletion,
-        all is there still; at an asynchronous plan, nothing is started. AFTER: it failed, and yet the whole thing is
-        there; of a deletion, nothing is left; at an asynchronous plan, it is started. Half done is neither: undo it
-        and tell BEFORE, or finish it and tell DONE. Raise where nobody knows how the work went: it stays recorded, and
-        the requester is told 500.
+        all is there still; at an asynchronous plan, nothing is started. AFTER: it failed, and yet the whole resource is
+        there; of a deletion, nothing is left; at an asynchronous plan, it is started. Half done is neither: undo a
+        creation and return BEFORE, or finish it and return DONE; finish a deletion. Raise if nobody knows how the
+        work went: it stays pending, and the request is answered with 500.
         """
         ...
 
@@ -122,7 +123,7 @@ class BrokerService:
         self._store.update(id, finished)
 
     def resume(self) -> list[Id]:
-        """Does the recorded work that nobody works at any more, as at the start of a program. Gives the instances whose
+        """Does the pending work that nobody works at any more, as at the start of a program. Gives the instances whose
         work is recorded still, since nobody knows how it went; why is logged.
 
         One worker at a time works at an instance. So without a lock this is called where nobody else works: before the
@@ -134,12 +135,12 @@ class BrokerService:
                 with contextlib.nullcontext() if self._lock is None else self._lock(id):
                     self.take_up(id)
             except Exception:
-                _log.exception("the recorded work of instance %s wasn't ended", id)
+                _log.exception("the pending work of instance %s wasn't ended", id)
                 left.append(id)
         return left
 
     def take_up(self, id: Id) -> None:
-        """Does the recorded work of one instance, where there is any, without the lock: who calls this holds it, or
+        """Does the pending work of one instance, where there is any, without the lock: who calls this holds it, or
         knows that nobody else works at the instance. Raises where nobody knows how the work went, which stays recorded.
         """
 

@@ -8,14 +8,22 @@ from __future__ import annotations
 import ctypes as c
 from dataclasses import dataclass
 
-from osb._crossing import answer_from, answer_to, id_from, id_to, plan_from, request_from, request_to
-from osb._header import CAnswer, CAsked, CId, CPlan, CRequest
+from osb._catalogues import (
+    asks_for_catalogue,
+    catalogue_plans,
+    check_catalogue,
+    maintenance_conflict,
+    plan_version,
+    served_catalogue,
+)
+from osb._crossing import answer_from, answer_to, id_from, id_to, request_from, request_to
+from osb._header import CAnswer, CAsked, CDetails, CId, CReceived, CRequest
 from osb._lib import lib
-from osb._texts import utf8, written
+from osb._texts import texts_of, utf8, written
 from osb.enums import Kind, Status
-from osb.errors import Refusal, check, text_of
+from osb.errors import Refusal, check, found, text_of
 from osb.ids import Id
-from osb.messages import Answer, Plan, Request
+from osb.messages import Answer, Request
 
 CONTENT_TYPE = "application/json"
 API_VERSION = "2.17"
@@ -24,18 +32,37 @@ __all__ = [
     "API_VERSION",
     "Asked",
     "CONTENT_TYPE",
+    "Details",
+    "Names",
+    "OriginatingIdentity",
+    "Parts",
+    "Received",
     "Refusal",
     "api_version",
     "asked_operation",
+    "asks_for_catalogue",
+    "attributes_digest",
     "basic_auth",
     "catalogue_plans",
+    "check_catalogue",
+    "maintenance_conflict",
+    "member_text",
+    "originating_identity",
+    "parameters_digest",
+    "plan_version",
     "read_answer",
+    "read_details",
     "read_operation",
     "read_request",
+    "receive_request",
+    "request_identity",
     "retry_after",
+    "served_catalogue",
     "write_answer",
     "write_body",
     "write_method",
+    "write_named_body",
+    "write_named_target",
     "write_target",
 ]
 
@@ -58,10 +85,56 @@ def read_operation(body: bytes) -> str | None:
     """The operation that a broker names in the body of an accepted request, which a platform sends back in its Polls.
     None where it names none.
     """
-    status, text = written(
-        lambda buffer, length, needed: int(lib.osb_read_operation(body, len(body), buffer, length, needed))
+    return found(
+        lambda buffer, length, needed: int(lib.osb_read_operation(body, len(body), buffer, length, needed)),
+        Status.NO_OPERATION,
     )
-    return _operation(status, text)
+
+
+@dataclass(frozen=True)
+class Details:
+    """What the body of an answer says besides the answer.
+
+    Each is None if the body has no member of that name and type.
+    """
+
+    description: str | None = None
+    """The reason, for a person."""
+    error: str | None = None
+    """The code of an error, the standard's or the broker's own."""
+    dashboard_url: str | None = None
+    """Where the instance is managed."""
+    operation: str | None = None
+    """What the broker calls its operation, if that has at most 10,000 characters: `read_operation` has the same."""
+    metadata: str | None = None
+    """JSON, in the form of `Parts`."""
+    instance_usable: bool | None = None
+    """Whether the instance can be used after an update or a deletion that failed."""
+    update_repeatable: bool | None = None
+    """Whether an update that failed may be sent again."""
+
+
+def read_details(body: bytes) -> Details:
+    """What the body of an answer says besides the answer, to any request and with any status (sections Provisioning,
+    Polling Last Operation for Service Instances, Deprovisioning and Service Broker Errors). A body that is no object
+    says nothing.
+    """
+    read = CDetails()
+    text = text_of(
+        lambda buffer, length, needed: int(lib.osb_read_details(body, len(body), read, buffer, length, needed))
+    )
+    description, error, dashboard_url, operation, metadata = texts_of(
+        text, read, "description", "error", "dashboard_url", "operation", "metadata"
+    )
+    return Details(
+        description,
+        error,
+        dashboard_url,
+        operation,
+        metadata,
+        bool(read.instance_usable) if read.has_instance_usable else None,
+        bool(read.update_repeatable) if read.has_update_repeatable else None,
+    )
 
 
 def write_method(kind: Kind) -> str:
@@ -73,7 +146,8 @@ def write_method(kind: Kind) -> str:
 
 def write_target(request: Request, operation: str | None = None, prefix: str = "") -> str:
     """The target of a request: the path, which begins with the prefix (what the broker's URL has before /v2, with no
-    `?`), and the query. The operation is the broker's; give one to a Poll alone. Raises NOT_UTF8.
+    `?`), and the query. The operation is the broker's; give one to a Poll alone. The ids are sent as GUIDs in lower
+    case: `write_named_target` sends others. Raises NOT_UTF8.
     """
     front, named, given = utf8(prefix), utf8(operation or ""), request_to(request)
     return text_of(
@@ -85,14 +159,53 @@ def write_target(request: Request, operation: str | None = None, prefix: str = "
     ).decode()
 
 
+@dataclass(frozen=True)
+class Names:
+    """The texts of a request's ids, as the platform and the catalogue have them.
+
+    Each is any string of 1 to 255 bytes of UTF-8, and `Id.of_text` is its number.
+    """
+
+    instance: str
+    service: str
+    plan: str
+
+
+def write_named_target(request: Request, names: Names, operation: str | None = None, prefix: str = "") -> str:
+    """The target of a request with the texts of its ids, escaped as a path and a query need it (sections Provisioning,
+    Polling Last Operation for Service Instances and Deprovisioning). Each text must be that of the request's id, so no
+    other instance is asked for. The rest is as in `write_target`. Raises NOT_UTF8, NOT_INSTANCE_TEXT, NOT_SERVICE_TEXT,
+    NOT_PLAN_TEXT; an instance named `.` or `..` is NOT_INSTANCE_TEXT too, since HTTP clients resolve such a path.
+    """
+    front, given, named = _with_lengths(prefix), request_to(request), utf8(operation or "")
+    texts = _with_lengths(names.instance, names.service, names.plan)
+    return text_of(
+        lambda buffer, length, needed: int(
+            lib.osb_write_named_target(
+                *front, given, *texts, operation is not None, named, len(named), buffer, length, needed
+            )
+        )
+    ).decode()
+
+
 def write_body(request: Request, organization: str, space: str, further: str = "{}") -> bytes:
     """The body of a request: of a Provision an object of the ids, the organization and the space, neither of which may
     be empty, and the members of `further`, the text of an object, as context, parameters or maintenance_info; else an
-    empty text. Raises NOT_UTF8, NOT_JSON, NOT_AN_OBJECT.
+    empty text. The ids are sent as GUIDs in lower case: `write_named_body` sends others. Raises NOT_UTF8, NOT_JSON,
+    NOT_AN_OBJECT.
     """
-    given, texts = request_to(request), [utf8(it) for it in (organization, space, further)]
-    lengths = [part for text in texts for part in (text, len(text))]
-    return text_of(lambda buffer, length, needed: int(lib.osb_write_body(given, *lengths, buffer, length, needed)))
+    given, texts = request_to(request), _with_lengths(organization, space, further)
+    return text_of(lambda buffer, length, needed: int(lib.osb_write_body(given, *texts, buffer, length, needed)))
+
+
+def write_named_body(kind: Kind, names: Names, organization: str, space: str, further: str = "{}") -> bytes:
+    """The body of a request of the kind with the texts of its ids: of a Provision an object of the service, the plan,
+    the organization and the space, and the members of `further`, as in `write_body`; else an empty text (section
+    Provisioning). It doesn't compare the texts with a request: `write_named_target` does. Raises NOT_UTF8, NOT_JSON,
+    NOT_AN_OBJECT.
+    """
+    number, texts = Kind(kind).value, _with_lengths(names.service, names.plan, organization, space, further)
+    return text_of(lambda buffer, length, needed: int(lib.osb_write_named_body(number, *texts, buffer, length, needed)))
 
 
 def retry_after(value: str) -> int | None:
@@ -149,29 +262,113 @@ def read_request(method: str, target: bytes, body: bytes, longest_body: int, pre
             front, len(front), longest_body, way, len(way), target, len(target), body, len(body), asked
         )
     )
-    return Asked(
-        Kind(asked.kind),
-        bool(asked.accepts_incomplete),
-        id_from(asked.id),
-        _id_if(asked.has_service, asked.service),
-        _id_if(asked.has_plan, asked.plan),
+    return _asked_from(asked)
+
+
+@dataclass(frozen=True)
+class Parts:
+    """The parts of a Provision's body: JSON with no spaces, numbers as they are written, and members in their order.
+
+    What stands inside isn't judged. Each is None if the body doesn't have it.
+    """
+
+    parameters: str | None = None
+    context: str | None = None
+    maintenance_info: str | None = None
+    others: str | None = None
+    """The object of all other members but `service_id` and `plan_id`: `organization_guid` and `space_guid` are among
+    them. Every Provision has it.
+    """
+
+
+@dataclass(frozen=True)
+class Received:
+    """What a broker takes from a request."""
+
+    asked: Asked
+    """What is asked, with the number of each id."""
+    instance: str
+    """The text of the instance's id, as the path has it, decoded."""
+    service: str | None
+    """The text of the service's id. Only a Poll may lack it."""
+    plan: str | None
+    """The text of the plan's id. Only a Poll may lack it."""
+    parts: Parts
+    """The parts of a Provision's body. Other requests have none."""
+
+
+def receive_request(method: str, target: bytes, body: bytes, longest_body: int, prefix: str = "") -> Received:
+    """Reads what a request asks of a broker as `read_request` does, with the texts of its ids and the parts of a
+    Provision's body (sections Provisioning, Polling Last Operation for Service Instances and Deprovisioning). Raises
+    what `read_request` does.
+    """
+    texts, asked, lengths = [*_with_lengths(prefix), longest_body, *_with_lengths(method)], CAsked(), CReceived()
+    text = text_of(
+        lambda buffer, length, needed: int(
+            lib.osb_receive_request(
+                *texts, target, len(target), body, len(body), asked, lengths, buffer, length, needed
+            )
+        )
     )
+    instance, rest = text[: lengths.instance].decode(), text[lengths.instance :]
+    service, plan, *parts = texts_of(
+        rest, lengths, "service", "plan", "parameters", "context", "maintenance_info", "others"
+    )
+    return Received(_asked_from(asked), instance, service, plan, Parts(*parts))
+
+
+def member_text(body: bytes, name: str) -> str | None:
+    """The JSON that stands under a name in the object that a body is, in the form of `Parts`. None where the body is no
+    object of JSON, or has no such member. Of a name that stands twice the last counts. Raises NOT_UTF8 (name).
+    """
+    key = utf8(name)
+    return found(
+        lambda buffer, length, needed: int(lib.osb_member_text(body, len(body), key, len(key), buffer, length, needed)),
+        Status.NO_MEMBER,
+    )
+
+
+def attributes_digest(body: bytes) -> bytes:
+    """The digest of what the body of a Provision asks for, 32 bytes, for `Holding.begin`: that of its parameters, or
+    `osb.NO_ATTRIBUTES` if it has none. By it a broker tells whether a second Provision of an id is the same (section
+    Provisioning). Context, organization and space don't count, which is this project's choice.
+    """
+    digest = c.create_string_buffer(32)
+    check(lib.osb_attributes_digest(body, len(body), digest))
+    return digest.raw
+
+
+def parameters_digest(parameters: bytes) -> bytes:
+    """The digest of the JSON of parameters, 32 bytes: the SHA-256 of the same JSON with no spaces, each number as it is
+    written, and the members of each object in ascending order of their names. `{}` and `null` have `osb.NO_ATTRIBUTES`.
+    All of this is this project's choice. Raises NOT_JSON.
+    """
+    digest = c.create_string_buffer(32)
+    check(lib.osb_parameters_digest(parameters, len(parameters), digest))
+    return digest.raw
 
 
 def asked_operation(target: bytes) -> str | None:
     """The operation that the target of a Poll names, or None. Raises `Refusal`: it stands twice."""
-    status, text = written(
-        lambda buffer, length, needed: int(lib.osb_asked_operation(target, len(target), buffer, length, needed))
+    return found(
+        lambda buffer, length, needed: int(lib.osb_asked_operation(target, len(target), buffer, length, needed)),
+        Status.NO_OPERATION,
     )
-    return _operation(status, text)
 
 
-def write_answer(answer: Answer, operation: str | None = None) -> bytes:
-    """The body of an answer. The operation is written in a 202 alone. Raises NOT_UTF8."""
-    given, named = answer_to(answer), utf8(operation or "")
+def write_answer(answer: Answer, operation: str | None = None, description: str | None = None) -> bytes:
+    """The body of an answer. The operation is written in a 202 alone. The description, for a person, is written for an
+    error, in place of the usual sentence, and for a last operation that failed (sections Polling Last Operation for
+    Service Instances and Service Broker Errors); of one with more than 1,000 characters the first 1,000, which is this
+    project's choice. Raises NOT_UTF8.
+    """
+    given, named = answer_to(answer), (operation is not None, *_with_lengths(operation or ""))
+    if description is None:
+        return text_of(lambda buffer, length, needed: int(lib.osb_write_answer(given, *named, buffer, length, needed)))
+    told = _with_lengths(description)
     return text_of(
         lambda buffer, length, needed: int(
-            lib.osb_write_answer(given, operation is not None, named, len(named), buffer, length, needed)
+            lib.osb_write_told_answer(given, *named, True, *told, buffer, length, needed)
         )
     )
 
@@ -190,26 +387,58 @@ def basic_auth(value: str | None, user: str, password: str) -> bool:
     """
     if value is None:
         return False
-    given = [part for text in (value, user, password) for part in (utf8(text), len(utf8(text)))]
-    status = lib.osb_basic_auth(*given)
+    status = lib.osb_basic_auth(*_with_lengths(value, user, password))
     if status == Status.UNAUTHORIZED:
         return False
     check(status)
     return True
 
 
-def catalogue_plans(document: bytes) -> list[Plan]:
-    """The plans that a catalogue's document names, as a broker answers it to GET /v2/catalog, in ascending order of
-    service and plan; a plan is asynchronous where its member `asynchronous` is true. Raises NOT_JSON, NO_SERVICES,
-    BAD_SERVICE, NO_PLANS, BAD_PLAN, BAD_PLAN_MODE, PLAN_TWICE.
+@dataclass(frozen=True)
+class OriginatingIdentity:
+    """The user behind a request."""
+
+    platform: str
+    """The platform, such as `cloudfoundry` or `kubernetes`."""
+    object: str
+    """An object of JSON as it came. Its members are the platform's."""
+
+
+def originating_identity(value: str) -> OriginatingIdentity | None:
+    """The user that a platform names in the header X-Broker-API-Originating-Identity: the platform, a blank, and an
+    object of JSON in padded base64 (section Originating Identity). None of every other value. Raises NOT_UTF8.
     """
-    needed, buffer = c.c_size_t(0), (CPlan * 16)()
-    status = lib.osb_catalogue_plans(document, len(document), buffer, len(buffer), needed)
-    if status == Status.TOO_SMALL:
-        buffer = (CPlan * needed.value)()
-        status = lib.osb_catalogue_plans(document, len(document), buffer, len(buffer), needed)
+    given, platform = utf8(value), c.c_size_t(0)
+    status, text = written(
+        lambda buffer, length, needed: int(
+            lib.osb_originating_identity(given, len(given), platform, buffer, length, needed)
+        )
+    )
+    if status == Status.NO_IDENTITY:
+        return None
     check(status)
-    return [plan_from(it) for it in buffer[: needed.value]]
+    return OriginatingIdentity(text[: platform.value].decode(), text[platform.value :].decode())
+
+
+def request_identity(value: str) -> str | None:
+    """The text by which a platform names a request in the header X-Broker-API-Request-Identity, which a broker returns
+    in the same header of its answer (section Request Identity). None where it is empty or has a control character,
+    which is this project's choice. Raises NOT_UTF8.
+    """
+    given = utf8(value)
+    status = lib.osb_request_identity(given, len(given))
+    if status == Status.NO_IDENTITY:
+        return None
+    check(status)
+    return value
+
+
+def _with_lengths(*texts: str) -> list[bytes | int]:
+    """The bytes of each text, and behind them how many they are."""
+    crossing: list[bytes | int] = []
+    for text in map(utf8, texts):
+        crossing += [text, len(text)]
+    return crossing
 
 
 def _status(status: int) -> int:
@@ -218,11 +447,14 @@ def _status(status: int) -> int:
     return status
 
 
-def _operation(status: int, text: bytes) -> str | None:
-    if status == Status.NO_OPERATION:
-        return None
-    check(status)
-    return text.decode()
+def _asked_from(asked: CAsked) -> Asked:
+    return Asked(
+        Kind(asked.kind),
+        bool(asked.accepts_incomplete),
+        id_from(asked.id),
+        _id_if(asked.has_service, asked.service),
+        _id_if(asked.has_plan, asked.plan),
+    )
 
 
 def _id_if(is_there: bool, id: CId) -> Id | None:

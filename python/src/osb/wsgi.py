@@ -15,7 +15,15 @@ from osb.ids import Id
 from osb.messages import Answer, BrokerRow
 from osb.service import BrokerService, Lock, Worker
 from osb.stores import Store
-from osb.wire import CONTENT_TYPE, api_version, basic_auth, catalogue_plans, read_request, write_answer
+from osb.wire import (
+    CONTENT_TYPE,
+    api_version,
+    asks_for_catalogue,
+    basic_auth,
+    catalogue_plans,
+    read_request,
+    write_answer,
+)
 
 _log = logging.getLogger("osb.wsgi")
 
@@ -95,9 +103,8 @@ class BrokerApplication:
             api_version(environ.get("HTTP_X_BROKER_API_VERSION"))
         except Refusal as refusal:
             return _refused(refusal)
-        method, target = str(environ["REQUEST_METHOD"]), _target(environ)
-        path = target.partition(b"?")[0]
-        if path == (self._prefix + "/v2/catalog").encode():
+        method, target = str(environ["REQUEST_METHOD"]), target_of(environ)
+        if asks_for_catalogue(target, self._prefix):
             return _Reply(200, self._catalogue) if method == "GET" else _not_allowed("GET")
         body = _body(environ, self._longest_body)
         if body is None:
@@ -107,14 +114,22 @@ class BrokerApplication:
         except Refusal as refusal:
             if refusal.status != Status.REFUSED_METHOD:
                 return _refused(refusal)
-            rest = path[len((self._prefix + "/v2/service_instances/").encode()) :]
-            return _not_allowed("GET" if b"/" in rest else "PUT, DELETE")
+            return _not_allowed(self._methods(target))
         # A Refusal from here on isn't this request's: it was raised by the worker, the store or the lock.
         answer = self._service.handle(asked, body)
         return _Reply(answer.status, write_answer(answer))
 
+    def _methods(self, target: bytes) -> str:
+        """The methods of a target that has some: those that the library takes there."""
+        try:
+            read_request("GET", target.partition(b"?")[0], b"", self._longest_body, self._prefix)
+        except Refusal as refusal:
+            if refusal.status == Status.REFUSED_METHOD:
+                return "PUT, DELETE"
+        return "GET"
 
-def _target(environ: Environ) -> bytes:
+
+def target_of(environ: Environ) -> bytes:
     """Path and query as the request line has them, where the server tells. Where it doesn't, the path is written again
     from what the server has decoded: so an escape in it that needn't be one is as if it weren't.
     """

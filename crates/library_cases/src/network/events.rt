@@ -1,6 +1,6 @@
 //! The events, by their words.
-use super::words::{attempt, ends_well, place, status, thing};
-use crate::words::{first, outcome};
+use super::words::{attempt, ends_well, place, resource, status};
+use crate::words::{first, work_outcome};
 use anyhow::Result;
 use osb_network::Event;
 
@@ -18,9 +18,11 @@ fn alone(word: &str) -> Result<Event> {
         "create" => Ok(Event::Create),
         "send" => Ok(Event::Send),
         "expire" => Ok(Event::Expire),
+        "retry" => Ok(Event::Retry),
         "remove" => Ok(Event::Remove),
         "timeout" => Ok(Event::Timeout),
         "end-unknown" => Ok(Event::EndUnknown),
+        "give-up-waiting" => Ok(Event::GiveUpWaiting),
         "crash-broker" => Ok(Event::CrashBroker),
         "crash-platform" => Ok(Event::CrashPlatform),
         _ => anyhow::bail!("no such event: {word}"),
@@ -30,6 +32,9 @@ fn alone(word: &str) -> Result<Event> {
 fn with_argument(word: &str, argument: &str) -> Result<Event> {
     match word {
         "arrive" => Ok(Event::Arrive {
+            attempt: attempt(argument)?,
+        }),
+        "put-off" => Ok(Event::PutOff {
             attempt: attempt(argument)?,
         }),
         "take" => Ok(Event::Take {
@@ -42,13 +47,13 @@ fn with_argument(word: &str, argument: &str) -> Result<Event> {
             status: status(argument)?,
         }),
         "end" => Ok(Event::End {
-            outcome: outcome(argument)?,
+            outcome: work_outcome(argument)?,
         }),
         "finish" => Ok(Event::Finish {
             ok: ends_well(argument)?,
         }),
         "work" => Ok(Event::Work {
-            thing: thing(argument)?,
+            resource: resource(argument)?,
         }),
         _ => anyhow::bail!("no such event: {word}"),
     }

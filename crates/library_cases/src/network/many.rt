@@ -32,7 +32,7 @@ fn tell_one(rt: &impl Print, network: &Network, value: u128) -> Result<()> {
     tell_since(rt, network, value, 0)
 }
 
-// What a line `MODE accepts|refuses: ID EVENT, ..` makes of the instances, each told on a line of its own.
+// What a line `MODE accepts|refuses first-poll|-: ID EVENT, ..` makes of the instances, each told on a line of its own.
 pub(crate) fn tell(rt: &impl Print, alloc: Global, line: &str) -> Result<()> {
     let (order, list) = line.split_once(": ").context("no colon")?;
     let order = orders::order(order)?;
@@ -52,7 +52,7 @@ pub(crate) fn tell(rt: &impl Print, alloc: Global, line: &str) -> Result<()> {
 
 // Takes an instance in and creates it.
 fn create(alloc: Global, network: &mut Network, value: u128) -> Result<()> {
-    take_in(alloc, network, orders::order("sync accepts")?, value)?;
+    take_in(alloc, network, orders::order("sync accepts -")?, value)?;
     network.step(alloc, InstanceId::from_value(value), Event::Create)?;
     Ok(())
 }

@@ -1,5 +1,5 @@
 //! What there is of an instance, as it is written.
-use super::words::thing_word;
+use super::words::resource_word;
 use crate::words::body_word;
 use anyhow::Result;
 use osb_instance::{Holding, Record};
@@ -17,7 +17,7 @@ fn tell_record(rt: &impl Print, record: Option<Record>) -> Result<()> {
     Ok(print!(rt; "{} {out} {}; ", row.state.word(), record.attempt())?)
 }
 
-fn tell_holding(rt: &impl Print, holding: Holding) -> Result<()> {
+pub(crate) fn tell_holding(rt: &impl Print, holding: Holding) -> Result<()> {
     let phase = match holding.row() {
         Some(row) => row.phase.word(),
         None => "-",
@@ -26,8 +26,12 @@ fn tell_holding(rt: &impl Print, holding: Holding) -> Result<()> {
         Some(request) => request.kind.word(),
         None => "-",
     };
-    let mark = if holding.is_marked() { "marked" } else { "-" };
-    Ok(print!(rt; "{phase} {work} {mark}; ")?)
+    let tombstone = if holding.has_tombstone() {
+        "tombstone"
+    } else {
+        "-"
+    };
+    Ok(print!(rt; "{phase} {work} {tombstone}; ")?)
 }
 
 fn tell_given(rt: &impl Print, given: &Given) -> Result<()> {
@@ -47,7 +51,7 @@ pub(crate) fn tell(rt: &impl Print, instance: &Instance, before: usize) -> Resul
     let (sent, given) = (instance.sent(), instance.given());
     print!(rt;
         "{}; {} sent, {} given",
-        thing_word(instance.thing()),
+        resource_word(instance.resource()),
         sent.len(),
         given.len()
     )?;

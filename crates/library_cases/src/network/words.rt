@@ -1,6 +1,6 @@
 //! The words of an event.
 use anyhow::{Context, Result};
-use osb_network::Thing;
+use osb_network::Resource;
 
 // Whether an operation ends well.
 pub(crate) fn ends_well(word: &str) -> Result<bool> {
@@ -11,20 +11,20 @@ pub(crate) fn ends_well(word: &str) -> Result<bool> {
     }
 }
 
-pub(crate) fn thing(word: &str) -> Result<Thing> {
+pub(crate) fn resource(word: &str) -> Result<Resource> {
     match word {
-        "absent" => Ok(Thing::Absent),
-        "part" => Ok(Thing::Part),
-        "whole" => Ok(Thing::Whole),
-        _ => anyhow::bail!("no such thing: {word}"),
+        "absent" => Ok(Resource::Absent),
+        "part" => Ok(Resource::Part),
+        "whole" => Ok(Resource::Whole),
+        _ => anyhow::bail!("no such resource: {word}"),
     }
 }
 
-pub(crate) fn thing_word(thing: Thing) -> &'static str {
-    match thing {
-        Thing::Absent => "absent",
-        Thing::Part => "part",
-        Thing::Whole => "whole",
+pub(crate) fn resource_word(resource: Resource) -> &'static str {
+    match resource {
+        Resource::Absent => "absent",
+        Resource::Part => "part",
+        Resource::Whole => "whole",
     }
 }
 

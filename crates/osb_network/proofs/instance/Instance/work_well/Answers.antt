@@ -1,6 +1,6 @@
 -- Where a step finds no memory, those before it have happened.
 use Rattle.std.proofs.Common.{[], ◌∷◌}
-use Rattle.osb_broker.specs.declared.outcome.Outcome.TheVariants.{Done}
+use Rattle.osb_instance.specs.declared.outcome.WorkOutcome.TheVariants.{Done}
 use Rattle.osb_network.specs.declared.event.Event.{Event}
 use Rattle.osb_network.specs.Settling.{good_work}
 use Rattle.osb_network.proofs.PartWay.{left, next, none}
