@@ -24,6 +24,7 @@ use Rattle.osb_instance.specs.declared.outcome.Rejection.{Rejection}
 use Rattle.osb_instance.specs.declared.outcome.WorkOutcome.{WorkOutcome}
 use Rattle.osb_instance.specs.declared.digest.Digest.{Digest}
 use Rattle.osb_instance.specs.Due.{work_due}
+use Rattle.osb_instance.specs.Fits.{is_ready}
 use Rattle.osb_instance.specs.Held.{Held, no_attributes, ended_held}
 
 -- the answer while work of the instance is under way
@@ -186,6 +187,37 @@ begun mode first_poll held request attributes =
     if conflicts held request attributes
     then (held, Answered conflict)
     else begun_with held.work mode first_poll held request attributes
+
+-- ---- work that may not begin
+
+-- whether the request begins something: its work is due, or it waits for the first Poll
+abbrev pub begins : Option Mode → Held → Request → Digest → Bool
+begins mode held request attributes =
+    not (conflicts held request attributes)
+    && (is_none held.work
+    && (not (held.tombstone && is_provision request.kind)
+    && (not held.waiting && is_some (work_due mode held.row request))))
+
+-- as `begun`, but nothing begins that may not: its request is put off
+abbrev pub begun_if : Bool → Option Mode → Bool → Held → Request → Digest → Held × Begun
+begun_if may_begin mode first_poll held request attributes =
+    if not may_begin && begins mode held request attributes
+    then (held, Answered (busy request.kind))
+    else begun mode first_poll held request attributes
+
+-- ---- what others see of a holding
+
+-- whether there is a row or pending work
+abbrev pub is_held : Held → Bool
+is_held held = is_some held.row || is_some held.work
+
+-- whether the resource exists: the row is ready, with this service and plan, and no work is pending
+abbrev pub is_there_by : Option BrokerRow → Option Request → ℕ → ℕ → Bool
+is_there_by (Some row) None service plan = is_ready row.phase && (row.service == service && row.plan == plan)
+is_there_by row work service plan = false
+
+abbrev pub is_there : Held → ℕ → ℕ → Bool
+is_there held service plan = is_there_by held.row held.work service plan
 
 -- work is due
 abbrev pub IsWork : Begun → Type 0

@@ -4,7 +4,7 @@ use Rattle.osb_message.specs.declared.messages.Answer.{Answer}
 use Rattle.osb_message.specs.declared.messages.Request.{Request}
 use Rattle.osb_platform.specs.declared.row.PlatformRow.{PlatformRow}
 use Rattle.osb_platform.specs.declared.state.State.{State}
-use Rattle.osb_platform.specs.declared.state.State.TheVariants.{Wanted, CleaningPolling}
+use Rattle.osb_platform.specs.declared.state.State.TheVariants.{Wanted, Ready, CleaningPolling, Gone}
 use Rattle.osb_platform.specs.PlatformRow.{IsSoundRow, sent, answered, timed_out, cleaned_up, next_request, is_idle_in}
 
 -- the row, and the number of the latest request, 0 before the first
@@ -51,3 +51,12 @@ is_deleting state = false
 -- whether a deletion can be sent again
 abbrev pub can_retry : Option PlatformRow → Bool
 can_retry row = is_idle_in is_deleting row
+
+-- whether the state is `ready`, or `gone`
+abbrev pub is_ready_in : State → Bool
+is_ready_in Ready = true
+is_ready_in state = false
+
+abbrev pub is_gone_in : State → Bool
+is_gone_in Gone = true
+is_gone_in state = false

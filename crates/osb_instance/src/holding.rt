@@ -1,9 +1,9 @@
 //! What a broker holds of one instance.
 ghost use Rattle.std.specs.Prelude.{◌≡◌, ◌≢◌, ◌↔◌, ◌⊎◌, ◌&&◌, Option, Some, None, Ok, Err, true, false};
 ghost use Rattle.std.specs.Prelude.{IsTrue, IsSome, IsOk, IfOk, IfErr, IfSome, IsSomeAnd, List, string_bytes};
-ghost use Rattle.osb_instance.specs.Begin.{begun, begun_by, begun_waiting, busy, can_end, conflict};
+ghost use Rattle.osb_instance.specs.Begin.{begins, begun, begun_by, begun_if, begun_waiting, busy, can_end, conflict};
 ghost use Rattle.osb_instance.specs.Begin.{conflicts, finished_held, given_up, is_held_outcome, is_operating};
-ghost use Rattle.osb_instance.specs.Begin.{is_provision, waits_for_poll, worked, worked_as};
+ghost use Rattle.osb_instance.specs.Begin.{is_held, is_provision, is_there, waits_for_poll, worked, worked_as};
 ghost use Rattle.osb_instance.specs.Begin.{IsWork, IsAnsweredBy};
 ghost use Rattle.osb_instance.specs.Due.{IsDue, work_due};
 ghost use Rattle.osb_instance.specs.Fits.{fits};
@@ -20,7 +20,7 @@ use crate::work::{
 };
 use crate::{Begun, Digest, EndRefused, HoldingRow, NotWaiting, TextFault, Work, WorkOutcome};
 use osb_broker::{BrokerRow, NothingRunning, Outcome, Phase, decide, finished};
-use osb_message::{Answer, Body, ErrorCode, Kind, Memory, Mode, Request};
+use osb_message::{Answer, Body, ErrorCode, Kind, Memory, Mode, PlanId, Request, ServiceId};
 use std::alloc::Global;
 use std::marker::Model;
 
@@ -187,6 +187,26 @@ impl Holding {
         }
     }
 
+    /// Whether anything is held: there is a row, or work is pending. It takes no memory.
+    pub fn is_held(self) -> bool
+        ensures held { result ≡ is_held self }
+    {
+        self.row.is_some() || self.work.is_some()
+    }
+
+    /// Whether the resource exists, complete, and stays for now: the row is `ready`, with this service and plan, and no
+    /// work is pending. It takes no memory.
+    pub fn is_there(self, service: ServiceId, plan: PlanId) -> bool
+        ensures there { result ≡ is_there self service plan }
+    {
+        match (self.row, self.work) {
+            (Some(row), None) => {
+                row.phase == Phase::Ready && row.service == service && row.plan == plan
+            }
+            _ => false,
+        }
+    }
+
     // Whether the request is a Provision of what is held, by service and plan, with other attributes.
     fn conflicts(self, request: &Request, attributes: Digest) -> bool
         ensures conflicts { result ≡ conflicts self request.now attributes }
@@ -264,6 +284,46 @@ impl Holding {
         let after = decide(mode, self.row, request, Outcome::Done);
         let tombstone = self.tombstone || ends(request.kind, self.row);
         (Holding { tombstone, ..self }, Begun::Answered(after.answer))
+    }
+
+    /// Whether the request would begin something in [`Holding::begin`]: its work is due, or it would make a row in
+    /// `waiting` (line 5 there). The mode and the attributes are as there. It takes no memory.
+    pub fn begins(self, mode: Option<Mode>, request: &Request, attributes: Digest) -> bool
+        ensures begins { result ≡ begins mode self request.now attributes }
+    {
+        !self.conflicts(request, attributes)
+            && self.work.is_none()
+            && !(self.tombstone && is_provision(request.kind))
+            && !self.waiting
+            && work_due(mode, self.row, request).is_some()
+    }
+
+    /// As [`Holding::begin`], but if `may_begin` is false, nothing begins: a request that would begin something
+    /// ([`Holding::begins`]) is answered as if work were pending, and nothing changes. For a broker that lets work begin
+    /// only while something else is so, which it reads in the same transaction (this project's choice). It takes no
+    /// memory.
+    pub fn begin_if(
+        self,
+        mode: Option<Mode>,
+        first_poll: bool,
+        request: &Request,
+        attributes: Digest,
+        may_begin: bool,
+    ) -> (Holding, Begun)
+        ensures begun { result ≡ begun_if may_begin mode first_poll self request.now attributes }
+        ensures may { may_begin ≡ true → result ≡ begun mode first_poll self request.now attributes }
+        ensures put_off { may_begin ≡ false → begins mode self request.now attributes ≡ true
+            → result ≡ (self, Begun.Answered (busy request.now.kind)) }
+        ensures nothing_begins { may_begin ≡ false → IsWork result.1 → ⊥ }
+        ensures unheld { may_begin ≡ false → is_held self ≡ false → is_held result.0 ≡ false }
+        ensures fits { fits mode self ≡ true → fits mode result.0 ≡ true }
+        ensures sound { IsHeldSound result.0 }
+    {
+        if !may_begin && self.begins(mode, request, attributes) {
+            let answer = busy(request.kind);
+            return (self, Begun::Answered(answer));
+        }
+        self.begin(mode, first_poll, request, attributes)
     }
 
     // A request of an instance whose row waits for its first Poll.

@@ -5,7 +5,7 @@ ghost use Rattle.osb_platform.specs.PlatformRow.{wanted_row, first_request, rest
 ghost use Rattle.osb_platform.specs.PlatformRow.{can_send, can_expire, can_remove, is_idle};
 ghost use Rattle.osb_instance.specs.RecordText.{record_text, record_in, possible};
 ghost use Rattle.osb_instance.specs.Recorded.{Recorded, IsRecordedSound, IsSentAfter, IsAnsweredAfter};
-ghost use Rattle.osb_instance.specs.Recorded.{IsGivenUpAfter, IsCleanedUpAfter, can_retry};
+ghost use Rattle.osb_instance.specs.Recorded.{IsGivenUpAfter, IsCleanedUpAfter, can_retry, is_gone_in, is_ready_in};
 
 use crate::record_text::{can_be, read_record, write_record};
 use crate::{ExpireRefused, NotOut, RemoveRefused, RetryRefused, SendRefused, TextFault};
@@ -128,6 +128,20 @@ impl Record {
         ensures attempt { result ≡ self.attempt }
     {
         self.attempt
+    }
+
+    /// Whether `ready` is recorded. It takes no memory.
+    pub fn is_ready(self) -> bool
+        ensures ready { result ≡ is_ready_in self.row.state }
+    {
+        matches!(self.row.state, State::Ready)
+    }
+
+    /// Whether `gone` is recorded. It takes no memory.
+    pub fn is_gone(self) -> bool
+        ensures gone { result ≡ is_gone_in self.row.state }
+    {
+        matches!(self.row.state, State::Gone)
     }
 
     /// The request that is due, which is then out with the next number: a Poll in `polling` and `cleaning-polling`
