@@ -330,6 +330,15 @@ kept_arrive c n (Some x) (Some rec) e h =
     (arrives_request c rec.row.state x.request q.same q.late h.parts.kept h.parts.holds)
     (λ a is. answered_with c.order.mode c.order.first_poll c.held x.request c.order.attributes a is)
 
+-- what the broker's step is, at a request that was sent
+pub arrives_sent : (c : Cell) (n : ℕ) (x : Sent) (rec : Recorded) → sent_as c.sent n ≡ Some x → IsPossibleRecord c rec
+    → IsStepTo c.order rec.row.state x.request.kind c.held c.resource
+    (begun c.order.mode c.order.first_poll c.held x.request c.order.attributes)
+arrives_sent c n x rec e h =
+    let q = all_get (IsSentOf c.order rec.row.state rec.row.out rec.attempt) c.sent (n - 1) x h.parts.all_sent
+    (sent_by (n == 0) c.sent (n - 1) x e) in
+    arrives_request c rec.row.state x.request q.same q.late h.parts.kept h.parts.holds
+
 -- a request that is put off is answered, and all else stays
 kept_put_off : (c : Cell) (n : ℕ) (x : Option Sent) (r : Option Recorded) → sent_as c.sent n ≡ x → IsPossibleWith c r
     → IsPossibleWith (put_off c x) r
