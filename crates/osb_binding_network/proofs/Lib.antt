@@ -1,0 +1,10 @@
+pub mod Still
+pub mod Quiet
+pub mod Kept
+pub mod Bindings
+pub mod Together
+pub mod Many
+pub mod Records
+pub mod Ended
+pub mod Credentials
+pub mod PutOff

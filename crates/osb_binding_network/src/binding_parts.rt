@@ -1,0 +1,222 @@
+//! What there is of a binding, and one step of it.
+ghost use Rattle.std.specs.Prelude.{◌≡◌, OnOk, OnErr, slice_get};
+ghost use Rattle.osb_network.specs.Truth as truth;
+ghost use Rattle.osb_binding_network.specs.Binding as spec;
+ghost use Rattle.osb_binding_network.specs.declared.event.BindingEvent.{BindingEvent};
+
+use crate::BindingEvent;
+use crate::allowed::{Allowed, is_ready, needs_fetch, of_binding};
+use osb_instance::{Holding, HoldingPhase};
+use osb_message::Memory;
+use osb_network::{Event, Instance, Order, Step};
+use std::alloc::Global;
+use std::marker::Model;
+
+// A binding's life, and its credentials.
+#[derive(Drop)]
+pub(crate) struct BindingParts {
+    pub(crate) life: Instance,
+    pub(crate) retrievable: bool,
+    pub(crate) forgotten: bool,
+    pub(crate) resource: u64,
+    pub(crate) row: u64,
+    pub(crate) recorded: u64,
+    pub(crate) answers: Vec<u64>,
+    pub(crate) fetched: Vec<u64>,
+}
+
+impl Model for BindingParts {
+    ghost use Rattle.osb_binding_network.specs.Binding.{BindingCell};
+
+    ghost Value = { BindingCell };
+
+    ghost view = { λ b. record { life = b.life; retrievable = b.retrievable; forgotten = b.forgotten; resource = b.resource; row = b.row; recorded = b.recorded; answers = b.answers.items; fetched = b.fetched.items } };
+}
+
+// Whether a row is `ready`.
+fn holds_ready(holding: Holding) -> bool
+    ensures is { result ≡ spec.holds_ready holding }
+{
+    match holding.row() {
+        None => false,
+        Some(row) => row.phase == HoldingPhase::Ready,
+    }
+}
+
+// Whether a Fetch is answered with credentials.
+fn is_fetchable(holding: Holding) -> bool
+    ensures is { result ≡ spec.is_fetchable holding }
+{
+    holds_ready(holding) && holding.work().is_none()
+}
+
+// Whether work is pending, or an operation runs.
+fn is_under_way(holding: Holding) -> bool
+    ensures is { result ≡ truth.is_under_way holding }
+{
+    holding.work().is_some() || holding.is_operating()
+}
+
+// The resource's credentials after an event.
+fn resource_after(holding: Holding, event: Event, chosen: u64, before: u64) -> u64
+    ensures after { result ≡ spec.resource_after holding event chosen before }
+{
+    match event {
+        Event::Work { .. } if is_under_way(holding) => chosen,
+        _ => before,
+    }
+}
+
+// The row's credentials after an event.
+fn row_after(holding: Holding, resource: u64, before: u64) -> u64
+    ensures after { result ≡ spec.row_after holding resource before }
+{
+    if holds_ready(holding) {
+        before
+    } else {
+        resource
+    }
+}
+
+// The credentials at a place, or those before.
+fn told_at(told: &[u64], at: usize, before: u64) -> u64
+    ensures told { result ≡ spec.told_at (slice_get told.now at) before }
+{
+    match told.get(at).copied() {
+        None => before,
+        Some(credentials) => credentials,
+    }
+}
+
+// What the platform records after an event.
+fn recorded_after(was: bool, is: bool, event: Event, answers: &[u64], before: u64) -> u64
+    ensures after { result ≡ spec.recorded_after was is event answers.now before }
+{
+    match event {
+        Event::Take { at } if !was && is => told_at(answers, at, before),
+        _ => before,
+    }
+}
+
+impl BindingParts {
+    pub(crate) fn new(alloc: Global, order: Order, retrievable: bool) -> Self
+        ensures empty { result ≡ spec.empty_binding order retrievable }
+    {
+        BindingParts {
+            life: Instance::new(alloc, order),
+            retrievable,
+            forgotten: false,
+            resource: 0,
+            row: 0,
+            recorded: 0,
+            answers: Vec::new(alloc),
+            fetched: Vec::new(alloc),
+        }
+    }
+
+    // An event of the life.
+    fn lives(&mut self, alloc: Global, event: Event, chosen: u64) -> Result<Step, Memory>
+        ensures cell { OnOk result (self.new ≡ spec.lived self.old event chosen) }
+        ensures err { OnErr result (self.new ≡ self.old) }
+    {
+        let holding = self.life.holding();
+        let resource = resource_after(holding, event, chosen, self.resource);
+        let row = row_after(holding, resource, self.row);
+        let was = is_ready(self.life.record());
+        let before = self.life.given().len();
+        let Ok(()) = self.answers.reserve(1) else {
+            return Err(Memory);
+        };
+        let step = self.life.step(alloc, event)?;
+        let is = is_ready(self.life.record());
+        self.recorded = recorded_after(was, is, event, self.answers.as_slice(), self.recorded);
+        if before < self.life.given().len() {
+            let Ok(()) = self.answers.push(row) else {
+                unreachable!()
+            };
+        }
+        self.resource = resource;
+        self.row = row;
+        Ok(step)
+    }
+
+    // An event of the life, if the other side lets it happen.
+    fn lives_if(
+        &mut self,
+        alloc: Global,
+        allowed: Allowed,
+        event: Event,
+        chosen: u64,
+    ) -> Result<Step, Memory>
+        ensures cell { OnOk result (self.new
+            ≡ spec.binding_step allowed.create allowed.work allowed.ended self.old (BindingEvent.Life event chosen)) }
+        ensures err { OnErr result (self.new ≡ self.old) }
+    {
+        let let_happen = of_binding(allowed, self.forgotten, self.retrievable, &self.life, event);
+        let Some(event) = let_happen else {
+            return Ok(Step::Skipped);
+        };
+        self.lives(alloc, event, chosen)
+    }
+
+    // A Fetch arrives at the broker.
+    fn fetch(&mut self) -> Result<Step, Memory>
+        ensures cell { OnOk result (self.new ≡ spec.fetch_arrived self.old) }
+        ensures err { OnErr result (self.new ≡ self.old) }
+    {
+        if !is_fetchable(self.life.holding()) {
+            return Ok(Step::Skipped);
+        }
+        let Ok(()) = self.fetched.push(self.row) else {
+            return Err(Memory);
+        };
+        Ok(Step::Applied)
+    }
+
+    // The platform takes the answer to a Poll together with that to a Fetch.
+    fn take_fetched(&mut self, alloc: Global, at: usize, fetched: usize) -> Result<Step, Memory>
+        ensures cell { OnOk result (self.new ≡ spec.taken_with self.old at (slice_get self.old.fetched fetched)) }
+        ensures err { OnErr result (self.new ≡ self.old) }
+    {
+        let Some(credentials) = self.fetched.get(fetched).copied() else {
+            return Ok(Step::Skipped);
+        };
+        if !needs_fetch(&self.life, at) {
+            return Ok(Step::Skipped);
+        }
+        let step = self.lives(alloc, Event::Take { at }, 0)?;
+        self.recorded = credentials;
+        Ok(step)
+    }
+
+    // The broker deletes the tombstone.
+    fn forget(&mut self, ended: bool) -> Step
+        ensures cell { self.new ≡ spec.forgot ended self.old }
+    {
+        if !ended || !self.life.holding().has_tombstone() {
+            return Step::Skipped;
+        }
+        self.forgotten = true;
+        Step::Applied
+    }
+
+    pub(crate) fn step(
+        &mut self,
+        alloc: Global,
+        allowed: Allowed,
+        event: BindingEvent,
+    ) -> Result<Step, Memory>
+        ensures cell { OnOk result (self.new
+            ≡ spec.binding_step allowed.create allowed.work allowed.ended self.old event) }
+        ensures err { OnErr result (self.new ≡ self.old) }
+    {
+        match event {
+            BindingEvent::Life { event, credentials } => {
+                self.lives_if(alloc, allowed, event, credentials)
+            }
+            BindingEvent::Fetch => self.fetch(),
+            BindingEvent::TakeFetched { at, fetched } => self.take_fetched(alloc, at, fetched),
+            BindingEvent::Forget => Ok(self.forget(allowed.ended)),
+        }
+    }
+}

@@ -1,0 +1,221 @@
+//! An instance and its bindings.
+ghost use Rattle.std.specs.Prelude.{◌≡◌, ◌≢◌, ℕ, None, Some, IfSome, IsSome, OnOk, OnErr, option_copied, option_map};
+ghost use Rattle.std.specs.BTreeMap as tree;
+ghost use Rattle.std.specs.FinMap as finite;
+ghost use Rattle.std.specs.Ordering.{nat_cmp};
+ghost use Rattle.osb_network.specs.Agreement.{Agrees};
+ghost use Rattle.osb_network.specs.Cell.{IsPossible, empty_cell};
+ghost use Rattle.osb_binding_network.specs.Allowed as allowed;
+ghost use Rattle.osb_binding_network.specs.Binding.{CredentialsAgree, binding_step, empty_binding};
+ghost use Rattle.osb_binding_network.specs.PutOff.{PutsOffRightly};
+ghost use Rattle.osb_binding_network.specs.Service.{binding_after, every, instance_after, life_order};
+ghost use Rattle.osb_binding_network.specs.Together.{GoTogether};
+
+use crate::allowed::{Allowed, may_bind, may_create, may_remove, may_work, of_instance};
+use crate::{BindingEvent, BindingOrder, Rules, ServiceBinding};
+use osb_binding::BindingId;
+use osb_message::{InstanceId, Memory};
+use osb_network::{Event, Instance, Order, Step};
+use std::alloc::Global;
+use std::collections::BTreeMap;
+use std::marker::Model;
+
+/// An instance and its bindings, each by its id: as many lives as there are bindings, and one more, tied by the
+/// [`Rules`] that the two sides keep (this project's choice, and so are its calls).
+///
+/// Contracts see its cells, which can come about together. So each life agrees, and they go together, in the sense of
+/// the [crate](crate)'s first page.
+#[derive(Drop)]
+pub struct ServiceInstance {
+    rules: Rules,
+    instance: Instance,
+    bindings: BTreeMap<BindingId, ServiceBinding>,
+}
+
+impl Model for ServiceInstance {
+    ghost use Rattle.std.specs.Prelude.{ℕ, IfSome};
+    ghost use Rattle.std.specs.BTreeMap as tree;
+    ghost use Rattle.std.specs.FinMap as map;
+    ghost use Rattle.std.specs.Ordering.{nat_cmp};
+    ghost use Rattle.osb_binding_network.specs.Service.{ServiceCells, service_code};
+    ghost use Rattle.osb_binding_network.specs.Related.{IsRelated};
+
+    ghost Value = { ServiceCells };
+
+    ghost coded = { service_code };
+
+    ghost view = { λ s. record { rules = s.rules; instance = s.instance; bindings = map.from_entries s.bindings.entries } };
+
+    ghost invariant = { λ s. (id : ℕ) → IfSome (tree.get nat_cmp s.bindings id) (λ b. IsRelated s.rules s.instance b.life) };
+}
+
+// Whether the instance may be removed, by each binding.
+fn all_may_remove(rules: Rules, bindings: &BTreeMap<BindingId, ServiceBinding>) -> bool
+    ensures is { result ≡ every (λ b. allowed.may_remove rules b) (tree.values bindings.now) }
+    ensures ordered { tree.IsOrdered nat_cmp bindings.now }
+{
+    for binding in bindings.values() {
+        if !may_remove(rules, binding.life()) {
+            return false;
+        }
+    }
+    true
+}
+
+// Whether something of the instance may begin, by each binding.
+fn all_may_work(rules: Rules, bindings: &BTreeMap<BindingId, ServiceBinding>) -> bool
+    ensures is { result ≡ every (λ b. allowed.may_work rules b) (tree.values bindings.now) }
+    ensures ordered { tree.IsOrdered nat_cmp bindings.now }
+{
+    for binding in bindings.values() {
+        if !may_work(rules, binding.life()) {
+            return false;
+        }
+    }
+    true
+}
+
+// Steps the binding at a key, if there is one, by what its instance lets it do.
+fn step_at(
+    bindings: &mut BTreeMap<BindingId, ServiceBinding>,
+    alloc: Global,
+    id: BindingId,
+    allowed: Allowed,
+    event: BindingEvent,
+) -> Result<Step, Memory>
+    ensures here { OnOk result (tree.get nat_cmp bindings.new id
+        ≡ option_map (λ b. binding_step allowed.create allowed.work allowed.ended b event)
+        (tree.get nat_cmp bindings.old id)) }
+    ensures others { (other : ℕ) → other ≢ id
+        → tree.get nat_cmp bindings.new other ≡ tree.get nat_cmp bindings.old other }
+    ensures err { OnErr result (tree.get nat_cmp bindings.new id ≡ tree.get nat_cmp bindings.old id) }
+    ensures possible { IfSome (tree.get nat_cmp bindings.old id) (λ b. IsPossible b.life) }
+{
+    let Some(binding) = bindings.get_mut(&id) else {
+        return Ok(Step::Skipped);
+    };
+    binding.agreement();
+    binding.step(alloc, allowed, event)
+}
+
+#[tactic(auto, using(osb_message::proofs::Maps::tree_steps))]
+impl ServiceInstance {
+    /// An instance that nothing has happened to, with no bindings. It takes no memory.
+    pub fn new(alloc: Global, rules: Rules, order: Order) -> Self
+        ensures rules { result.rules ≡ rules }
+        ensures instance { result.instance ≡ empty_cell order }
+        ensures bindings { result.bindings ≡ finite.empty }
+    {
+        ServiceInstance {
+            rules,
+            instance: Instance::new(alloc, order),
+            bindings: BTreeMap::new(alloc),
+        }
+    }
+
+    /// The instance. It takes no memory.
+    pub fn instance(&self) -> &Instance
+        ensures instance { result.now ≡ self.now.instance }
+    {
+        &self.instance
+    }
+
+    /// The binding with the id, or none. It and the instance agree by themselves, on the credentials too, and they go
+    /// together. Only a Bind and a Deprovision are ever put off. It takes no memory.
+    pub fn binding(&self, id: BindingId) -> Option<&ServiceBinding>
+        ensures found { option_copied result ≡ finite.get self.now.bindings id }
+        ensures instance { Agrees self.now.instance }
+        ensures agrees { IfSome result (λ binding. Agrees binding.now.life) }
+        ensures credentials { IfSome result (λ binding. CredentialsAgree binding.now) }
+        ensures together { IfSome result (λ binding.
+            GoTogether self.now.rules self.now.instance binding.now.life) }
+        ensures put_off { IfSome result (λ binding.
+            PutsOffRightly self.now.rules self.now.instance binding.now.life) }
+    {
+        self.instance.agreement();
+        let binding = self.bindings.get(&id)?;
+        binding.agreement();
+        Some(binding)
+    }
+
+    // Takes a binding in to which nothing has happened yet. If there is one with the id, nothing changes.
+    fn order(&mut self, alloc: Global, order: BindingOrder) -> Result<Step, Memory>
+        ensures rules { self.new.rules ≡ self.old.rules }
+        ensures instance { self.new.instance ≡ self.old.instance }
+        ensures taken_in { finite.get self.old.bindings order.id ≡ None
+            → OnOk result (finite.get self.new.bindings order.id
+            ≡ Some (empty_binding (life_order self.old.instance.order order) order.retrievable)) }
+        ensures known { IsSome (finite.get self.old.bindings order.id)
+            → finite.get self.new.bindings order.id ≡ finite.get self.old.bindings order.id }
+        ensures others { (other : ℕ) → other ≢ order.id
+            → finite.get self.new.bindings other ≡ finite.get self.old.bindings other }
+        ensures err { OnErr result (finite.get self.new.bindings order.id ≡ finite.get self.old.bindings order.id) }
+    {
+        if self.bindings.get(&order.id).is_some() {
+            return Ok(Step::Skipped);
+        }
+        let binding = ServiceBinding::new(
+            alloc,
+            life_order(self.instance.order(), order),
+            order.retrievable,
+        );
+        let Ok(_) = self.bindings.insert(order.id, binding) else {
+            return Err(Memory);
+        };
+        Ok(Step::Applied)
+    }
+
+    // Lets an event of the instance happen, as the rules and all bindings let it.
+    fn step_instance(&mut self, alloc: Global, event: Event) -> Result<Step, Memory>
+        ensures instance { OnOk result (self.new.instance ≡ instance_after self.old event) }
+        ensures rules { self.new.rules ≡ self.old.rules }
+        ensures bindings { self.new.bindings ≡ self.old.bindings }
+        ensures err { OnErr result (self.new.instance ≡ self.old.instance) }
+    {
+        self.instance.agreement();
+        let remove = all_may_remove(self.rules, &self.bindings);
+        let work = all_may_work(self.rules, &self.bindings);
+        let Some(event) = of_instance(remove, work, &self.instance, event) else {
+            return Ok(Step::Skipped);
+        };
+        self.instance.step(alloc, event)
+    }
+
+    // Lets an event of a binding happen, as the rules and the instance let it.
+    fn step_binding(
+        &mut self,
+        alloc: Global,
+        id: BindingId,
+        event: BindingEvent,
+    ) -> Result<Step, Memory>
+        ensures here { OnOk result
+            (finite.get self.new.bindings id ≡ binding_after self.old event (finite.get self.old.bindings id)) }
+        ensures others { (other : ℕ) → other ≢ id
+            → finite.get self.new.bindings other ≡ finite.get self.old.bindings other }
+        ensures rules { self.new.rules ≡ self.old.rules }
+        ensures instance { self.new.instance ≡ self.old.instance }
+        ensures err { OnErr result (finite.get self.new.bindings id ≡ finite.get self.old.bindings id) }
+    {
+        let allowed = Allowed {
+            create: may_create(self.rules, &self.instance),
+            work: may_bind(self.rules, &self.instance),
+            ended: self.instance.holding().has_tombstone(),
+        };
+        step_at(&mut self.bindings, alloc, id, allowed, event)
+    }
+}
+
+// The order of a binding's life: it has the service and plan of its instance.
+fn life_order(instance: Order, order: BindingOrder) -> Order
+    ensures order { result ≡ life_order instance order }
+{
+    Order {
+        id: InstanceId::from_value(order.id.value()),
+        service: instance.service,
+        plan: instance.plan,
+        mode: order.mode,
+        accepts: order.accepts,
+        first_poll: order.first_poll,
+        attributes: order.attributes,
+    }
+}
