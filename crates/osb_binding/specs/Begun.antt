@@ -1,5 +1,5 @@
 -- What begins of a binding, and of an instance that has bindings. That a broker asks so is this project's choice.
-use Rattle.std.specs.Prelude.{Bool, not, ◌&&◌, if◌then◌else◌, Option, Some, None}
+use Rattle.std.specs.Prelude.{Bool, not, ◌&&◌, ◌||◌, if◌then◌else◌, Option, Some, None}
 use Rattle.osb_message.specs.declared.catalogue.Mode.{Mode}
 use Rattle.osb_message.specs.declared.messages.Answer.{Answer}
 use Rattle.osb_message.specs.declared.messages.ErrorCode.TheVariants.{Other}
@@ -26,12 +26,16 @@ abbrev pub forgotten_answer : Option Mode → Request → Answer
 forgotten_answer mode request =
     if is_provision request.kind then busy request.kind else (decided mode None request Done).answer
 
+-- whether something may begin: a Bind only while the instance is there
+abbrev pub may_begin : Held → BindingRequest → Bool
+may_begin instance request = not (is_provision request.kind) || is_there instance request.service request.plan
+
 -- what is kept of a binding and what is answered, if the instance lets it begin
 abbrev pub binding_begun : Held → Option Mode → Bool → Held → BindingRequest → Digest → Held × Begun
 binding_begun instance mode first_poll held request attributes =
     if is_forgotten instance held
     then (held, Answered (forgotten_answer mode (life_request request)))
-    else begun_if (is_there instance request.service request.plan) mode first_poll held (life_request request) attributes
+    else begun_if (may_begin instance request) mode first_poll held (life_request request) attributes
 
 -- what is kept of an instance and what is answered, if its bindings let it begin
 abbrev pub instance_begun : Bool → Option Mode → Bool → Held → Request → Digest → Held × Begun

@@ -2,13 +2,13 @@
 ghost use Rattle.std.specs.Prelude.{◌≡◌, ◌↔◌, true, false, Option, None, Ok, Err};
 ghost use Rattle.std.specs.Prelude.{IsTrue, IsSome, IsOk, IfOk, IfSome, IsSomeAnd};
 ghost use Rattle.osb_message.specs.declared.catalogue.Mode.{Mode};
-ghost use Rattle.osb_instance.specs.Begin.{busy, can_end, finished_held, given_up, is_held, is_operating, is_there};
+ghost use Rattle.osb_instance.specs.Begin.{busy, can_end, finished_held, given_up, is_held, is_operating};
 ghost use Rattle.osb_instance.specs.Begin.{begins, worked, IsWork};
 ghost use Rattle.osb_instance.specs.Fits.{fits};
 ghost use Rattle.osb_instance.specs.Held.{Held, IsHeldSound, nothing_held};
 ghost use Rattle.osb_instance.specs.HoldingText.{possible};
 ghost use Rattle.osb_instance.specs.Rows.{held_of_parts, held_row};
-ghost use Rattle.osb_binding.specs.Begun.{binding_begun, fetched, forgotten_answer};
+ghost use Rattle.osb_binding.specs.Begun.{binding_begun, fetched, forgotten_answer, may_begin};
 ghost use Rattle.osb_binding.specs.Requests.{life_request};
 
 use crate::BindingRequest;
@@ -141,8 +141,8 @@ impl BindingHolding {
     /// differences. `instance` is the holding of the binding's instance, read and locked in the transaction that writes
     /// this one.
     ///
-    /// 1. If the instance isn't there ([`Holding::is_there`], with the request's service and plan), nothing begins: a
-    ///    Bind whose work would be due is answered with 503, and nothing changes.
+    /// 1. If the instance isn't there ([`Holding::is_there`], with the request's service and plan), no Bind begins: one
+    ///    whose work would be due is answered with 503, and nothing changes.
     /// 2. If the instance has a tombstone, and nothing is kept of the binding, nothing changes: every Bind is answered
     ///    with 503, and an Unbind with 410, which leaves no tombstone. So tombstones of bindings may be deleted once
     ///    their instance has one.
@@ -159,13 +159,12 @@ impl BindingHolding {
         attributes: Digest,
     ) -> (BindingHolding, Begun)
         ensures begun { result ≡ binding_begun instance mode first_poll self request.now attributes }
-        ensures put_off { is_there instance request.now.service request.now.plan ≡ false
+        ensures put_off { may_begin instance request.now ≡ false
             → begins mode self (life_request request.now) attributes ≡ true
             → result ≡ (self, Begun.Answered (busy request.now.kind)) }
-        ensures nothing_begins { is_there instance request.now.service request.now.plan ≡ false
-            → IsWork result.1 → ⊥ }
-        ensures unheld { is_there instance request.now.service request.now.plan ≡ false
-            → is_held self ≡ false → is_held result.0 ≡ false }
+        ensures nothing_begins { may_begin instance request.now ≡ false → IsWork result.1 → ⊥ }
+        ensures unheld { may_begin instance request.now ≡ false → is_held self ≡ false
+            → is_held result.0 ≡ false }
         ensures forgotten { instance.tombstone ≡ true → self ≡ nothing_held → result.0 ≡ nothing_held }
         ensures fits { fits mode self ≡ true → fits mode result.0 ≡ true }
         ensures sound { IsHeldSound result.0 }
@@ -174,7 +173,8 @@ impl BindingHolding {
         if instance.has_tombstone() && !self.life.is_held() && !self.life.has_tombstone() {
             return (self, Begun::Answered(forgotten_answer(mode, &asked)));
         }
-        let may_begin = instance.is_there(request.service, request.plan);
+        let may_begin = request.kind != Kind::Provision
+            || instance.is_there(request.service, request.plan);
         let (life, begun) = self
             .life
             .begin_if(mode, first_poll, &asked, attributes, may_begin);

@@ -6,6 +6,7 @@ use Rattle.osb_message.specs.declared.messages.Answer.{Answer}
 use Rattle.osb_message.specs.declared.messages.Kind.{Kind}
 use Rattle.osb_message.specs.declared.messages.Kind.TheVariants.{Provision, Poll, Deprovision}
 use Rattle.osb_message.specs.declared.messages.Request.{Request}
+use Rattle.osb_broker.specs.declared.row.BrokerRow.{BrokerRow}
 use Rattle.osb_platform.specs.State.{is_polling, is_removable}
 use Rattle.osb_instance.specs.declared.digest.Digest.{Digest}
 use Rattle.osb_instance.specs.declared.outcome.WorkOutcome.{WorkOutcome}
@@ -18,9 +19,12 @@ use Rattle.osb_instance.specs.Begin.{finished_held, given_up, is_provision, name
 use Rattle.osb_instance.specs.Begin.{waiting_by, waiting_deprovision, waits_for_poll, worked}
 use Rattle.osb_instance.specs.Due.{work_due}
 use Rattle.osb_instance.specs.Held.{Held}
-use Rattle.osb_instance.specs.Recorded.{is_deleting}
+use Rattle.osb_instance.specs.Recorded.{Recorded, is_deleting}
 use Rattle.osb_network.specs.declared.event.Event.{Event}
-use Rattle.osb_network.specs.Cell.{Cell}
+use Rattle.osb_network.specs.declared.order.Order.{Order}
+use Rattle.osb_network.specs.declared.resource.Resource.{Resource}
+use Rattle.osb_network.specs.Cell.{Cell, IsPossibleWith}
+use Rattle.osb_network.specs.Possible.{IsKeptAs}
 use Rattle.osb_network.specs.Steps.{arrive, arrived, can_finish, cell_step, end, ended, sent_as}
 use Rattle.osb_network.specs.Truth.{is_true_end, is_under_way}
 use Rattle.osb_binding_network.proofs.Quiet.{clean_up_held, create_held, give_up_held, if_held, put_off_held, send_held}
@@ -133,3 +137,20 @@ tombstone_stays c Event.GiveUpWaiting h = has_either c.held.waiting (record c { 
 tombstone_stays c (Event.Work u) h = has_same _ c.held (if_held (is_under_way c.held) (record c { resource = u }) c refl) h
 tombstone_stays c Event.CrashBroker h = h
 tombstone_stays c Event.CrashPlatform h = h
+
+-- beside a tombstone there is neither row nor work
+nothing_kept : (o : Order) (b : Option BrokerRow) (w : Option Request) (x v : Bool) (t : Resource)
+    → IsKeptAs o b w x v t → x ≡ true → (b ≡ None) × (w ≡ None)
+nothing_kept o None None x v t kept e = (refl, refl)
+nothing_kept o (Some b) None true v t kept e = absurd kept
+nothing_kept o (Some b) None false v t kept e = cc
+nothing_kept o None (Some q) true v t kept e = absurd kept
+nothing_kept o None (Some q) false v t kept e = cc
+nothing_kept o (Some b) (Some q) true v t kept e = absurd kept
+nothing_kept o (Some b) (Some q) false v t kept e = cc
+
+pub ended_by : (c : Cell) (r : Option Recorded) → IsPossibleWith c r → c.held.tombstone ≡ true
+    → (c.held.row ≡ None) × (c.held.work ≡ None)
+ended_by c None h e = (ap (λ (x : Held). x.row) h.held, ap (λ (x : Held). x.work) h.held)
+ended_by c (Some rec) h e =
+    nothing_kept c.order c.held.row c.held.work c.held.tombstone c.held.waiting c.resource h.parts.kept.0 e

@@ -9,7 +9,9 @@ use Rattle.osb_broker.specs.Finished.{is_running, is_running_in}
 use Rattle.osb_platform.specs.declared.state.State.{State}
 use Rattle.osb_platform.specs.declared.state.State.TheVariants.{Gone}
 use Rattle.osb_platform.specs.State.{is_removable}
-use Rattle.osb_instance.specs.Begin.{is_held, is_there, is_there_by}
+use Rattle.osb_message.specs.declared.messages.Kind.TheVariants.{Provision}
+use Rattle.osb_instance.specs.declared.record.Sent.{Sent}
+use Rattle.osb_instance.specs.Begin.{is_held, is_provision, is_there, is_there_by}
 use Rattle.osb_instance.specs.Fits as fits
 use Rattle.osb_instance.specs.Held.{Held}
 use Rattle.osb_instance.specs.Recorded.{Recorded, is_gone_in}
@@ -20,10 +22,12 @@ use Rattle.osb_network.specs.Cell.{Cell, IsPossible, IsPossibleWith}
 use Rattle.osb_network.specs.Possible.{IsKeptAs}
 use Rattle.osb_network.specs.Steps.{cell_step, sent_as}
 use Rattle.osb_binding_network.specs.declared.rules.Rules.{Rules}
-use Rattle.osb_binding_network.specs.Allowed.{at_peace, at_peace_by, begins, happened, is_at_rest, is_bind, is_ready}
+use Rattle.osb_binding_network.specs.Allowed.{at_peace, at_peace_by, begins, begins_by, happened, is_at_rest, is_bind}
+use Rattle.osb_binding_network.specs.Allowed.{is_ready}
 use Rattle.osb_binding_network.specs.Allowed.{let_work, may_bind, may_create, may_remove, may_work, needs_fetch}
 use Rattle.osb_binding_network.specs.Allowed.{of_binding, of_instance, takes_useless}
 use Rattle.osb_binding_network.specs.Related.{IsRelated}
+use Rattle.osb_binding_network.proofs.Dues.{due, made_by}
 use Rattle.osb_binding_network.proofs.Still.{moves, still_recorded, ready_still, rest_still}
 use Rattle.osb_binding_network.proofs.Quiet.{IsAsBefore, begins_at, quiet}
 
@@ -227,6 +231,28 @@ kept_bind r i b n false false may f possible related =
     kept_by_binding r i b (Event.Arrive n) possible related (λ p rest m. cc)
     (λ p begun. absurd (both (begins b n) begun f))
 
+-- a request that isn't a Bind begins nothing of what isn't held
+begins_held : (r : Rules) (i b : Cell) (n : ℕ) (x : Option Sent) → sent_as b.sent n ≡ x → is_bind x ≡ false
+    → IsRelated r i b → r.broker ≡ true → begins b n ≡ true → at_peace i.held ≡ true
+begins_held r i b n None e other related p begun = absurd (both (begins_by b None) (ap (begins_by b) (sym e) ∙ begun) refl)
+begins_held r i b n (Some x) e other related p begun =
+    by_cases (at_peace i.held ≡ true) (is_held b.held) (related.broker p)
+    (λ un. (let k : x.request.kind ≡ Provision = made_by b.order.mode b.held.row x.request (due b n x e begun)
+    (none_held b.held.row b.held.work un).0 in
+    absurd (both (is_provision x.request.kind) (ap is_provision k) other)))
+
+kept_unless_bind : (r : Rules) (i b : Cell) (n : ℕ) (x : Option Sent) (work z y : Bool)
+    → (work ≡ true → may_bind r i ≡ true) → sent_as b.sent n ≡ x → is_bind x ≡ z → begins b n ≡ y → IsPossible b
+    → IsRelated r i b
+    → IsRelated r i (cell_step b (if (work || not z) || not y then Event.Arrive n else Event.PutOff n))
+kept_unless_bind r i b n x true z y may e bind f possible related =
+    kept_bind r i b n true y may f possible related
+kept_unless_bind r i b n x false true y may e bind f possible related =
+    kept_bind r i b n false y (λ t. cc) f possible related
+kept_unless_bind r i b n x false false y may e bind f possible related =
+    kept_by_binding r i b (Event.Arrive n) possible related (λ p rest m. cc)
+    (λ p begun. begins_held r i b n x e bind related p begun)
+
 kept_let_bind : (r : Rules) (i b : Cell) (n : ℕ) (z : Bool) (e : Event) → IsPossible b → IsRelated r i b
     → IsRelated r i (cell_step b e) → IsRelated r i (cell_step b (if z then Event.PutOff n else e))
 kept_let_bind r i b n true e possible related after =
@@ -256,8 +282,10 @@ kept_binding r i b create work x y Event.Remove may_come may possible related =
     kept_by_binding r i b Event.Remove possible related
     (λ p rest m. absurd (not_removed b.recorded rest m)) (λ p begun. cc)
 kept_binding r i b create work x y (Event.Arrive n) may_come may possible related =
-    kept_let_bind r i b n (x && is_bind (sent_as b.sent n)) (let_work work b n) possible related
-    (kept_bind r i b n work (begins b n) may refl possible related)
+    kept_let_bind r i b n (x && is_bind (sent_as b.sent n)) (let_work (work || not (is_bind (sent_as b.sent n))) b n)
+    possible related
+    (kept_unless_bind r i b n (sent_as b.sent n) work (is_bind (sent_as b.sent n)) (begins b n) may refl refl refl possible
+    related)
 kept_binding r i b create work x y (Event.Take at) may_come may possible related =
     kept_let_take r i b at (takes_useless y (slice_get b.given at) b.recorded) (needs_fetch b at) possible related
 kept_binding r i b create work x y e may_come may possible related =

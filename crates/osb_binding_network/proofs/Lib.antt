@@ -1,10 +1,11 @@
 pub mod Still
 pub mod Quiet
+pub mod Dues
 pub mod Kept
 pub mod Bindings
 pub mod Together
-pub mod Many
+pub mod PutOff
 pub mod Records
 pub mod Ended
 pub mod Credentials
-pub mod PutOff
+pub mod Many

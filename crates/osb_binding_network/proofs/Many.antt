@@ -1,6 +1,7 @@
 -- An instance with many bindings: what goes together with each.
 use Rattle.std.proofs.Common.{◌≡◌, ◌≢◌, ℕ, Bool, true, false, cond, List, [], ◌∷◌, refl, sym, ◌∙◌, ap, subst, ⊎_elim}
 use Rattle.std.specs.Prelude.{Option, Some, None, IsSome, IfSome, Result, Ok, Err, OnOk, OnErr, option_map, ◌&&◌}
+use Rattle.std.specs.Prelude.{if◌then◌else◌}
 use Rattle.std.specs.BTreeMap as tree
 use Rattle.std.specs.BTreeMap.{BTreeMap}
 use Rattle.std.specs.Cmp.{nat_cmp_total}
@@ -9,18 +10,28 @@ use Rattle.std.specs.Map.{lookup, values_of}
 use Rattle.std.specs.Ordering.{nat_cmp}
 use Rattle.std.proofs.lemmas.Bool.{cases_eq}
 use Rattle.std.proofs.lemmas.Map.Lookups.{exact_unsigned}
-use Rattle.osb_message.proofs.Maps.{entries-tree}
+use Rattle.osb_message.proofs.Maps.{entries-tree, get-tree}
+use Rattle.osb_instance.specs.Held.{nothing_held}
 use Rattle.osb_network.specs.declared.event.Event.{Event}
-use Rattle.osb_network.specs.Cell.{Cell, IsPossible}
+use Rattle.osb_network.specs.declared.order.Order.{Order}
+use Rattle.osb_network.specs.Cell.{Cell, IsPossible, empty_cell}
 use Rattle.osb_network.specs.Steps.{cell_step}
+use Rattle.osb_network.proofs.Agreements.{agrees}
+use Rattle.osb_network.proofs.Kept.{kept_step}
 use Rattle.osb_binding_network.specs.declared.rules.Rules.{Rules}
 use Rattle.osb_binding_network.specs.declared.event.BindingEvent.{BindingEvent}
-use Rattle.osb_binding_network.specs.Allowed.{happened, may_bind, may_create, may_remove, may_work, of_instance}
-use Rattle.osb_binding_network.specs.Binding.{BindingCell, binding_step}
+use Rattle.osb_binding_network.specs.Agreement.{BindingAgrees, ServiceAgrees}
+use Rattle.osb_binding_network.specs.Allowed.{may_bind, may_create, may_remove, may_work, of_instance}
+use Rattle.osb_binding_network.specs.Binding.{BindingCell, binding_step, empty_binding}
+use Rattle.osb_binding_network.specs.Possible.{IsOf, IsService}
 use Rattle.osb_binding_network.specs.Service.{every, each_of}
-use Rattle.osb_binding_network.specs.Related.{IsRelated}
-use Rattle.osb_binding_network.proofs.Kept.{instance_after, kept_instance}
+use Rattle.osb_binding_network.specs.Well.{IsWell}
 use Rattle.osb_binding_network.proofs.Bindings.{kept_step_binding}
+use Rattle.osb_binding_network.proofs.Credentials.{credentials_agree, well_empty, well_step}
+use Rattle.osb_binding_network.proofs.Ended.{ended_by}
+use Rattle.osb_binding_network.proofs.Kept.{instance_after, kept_instance, related_empty}
+use Rattle.osb_binding_network.proofs.PutOff.{puts_off_rightly}
+use Rattle.osb_binding_network.proofs.Together.{together}
 
 first_of_both : (a b : Bool) → (a && b) ≡ true → a ≡ true
 first_of_both true b e = refl
@@ -55,78 +66,125 @@ one_after : {T E : Type 0} (x : Result T E) (r : Rules) (i n : Cell) (o : Option
     (f e : Event) → (remove ≡ true → IfSome o (λ b. may_remove r b.life ≡ true))
     → (work ≡ true → IfSome o (λ b. may_work r b.life ≡ true))
     → Some f ≡ of_instance remove work i e → OnOk x (n ≡ cell_step i f) → OnErr x (n ≡ i) → IsPossible i
-    → IfSome o (λ b. IsRelated r i b.life) → IfSome o (λ b. IsRelated r n b.life)
-one_after x r i n None remove work f e may_go may is ok err possible related = tt
-one_after x r i n (Some b) remove work f e may_go may is ok err possible related =
-    instance_after x r i n b.life f (of_instance remove work i e) is ok err
-    (kept_instance r i b.life remove work e may_go may possible related) related
+    → IfSome o (IsOf r i) → IfSome o (IsOf r n)
+one_after x r i n None remove work f e may_go may is ok err possible of = tt
+one_after x r i n (Some b) remove work f e may_go may is ok err possible of = record {
+  well = of.well;
+  related = instance_after x r i n b.life f (of_instance remove work i e) is ok err
+      (kept_instance r i b.life remove work e may_go may possible of.related) of.related;
+}
+
+possible_after : {T E : Type 0} (x : Result T E) (i n : Cell) (f : Event) → OnOk x (n ≡ cell_step i f)
+    → OnErr x (n ≡ i) → IsPossible i → IsPossible n
+possible_after (Ok v) i n f ok err h = subst IsPossible (sym ok) (kept_step i f h)
+possible_after (Err v) i n f ok err h = subst IsPossible (sym err) h
 
 pub all_after : {T E : Type 0} (x : Result T E) (r : Rules) (i n : Cell) (m : BTreeMap ℕ BindingCell) (remove work : Bool)
     (f e : Event) → remove ≡ every (λ b. may_remove r b) (tree.values m)
     → work ≡ every (λ b. may_work r b) (tree.values m)
-    → Some f ≡ of_instance remove work i e → OnOk x (n ≡ cell_step i f) → OnErr x (n ≡ i) → IsPossible i
-    → ((id : ℕ) → IfSome (tree.get nat_cmp m id) (λ b. IsRelated r i b.life))
-    → (id : ℕ) → IfSome (tree.get nat_cmp m id) (λ b. IsRelated r n b.life)
-all_after x r i n m remove work f e goes works is ok err possible related id =
-    one_after x r i n (tree.get nat_cmp m id) remove work f e
-    (λ t. every_found (λ b. may_remove r b) _ m.entries (sym goes ∙ t))
-    (λ t. every_found (λ b. may_work r b) _ m.entries (sym works ∙ t))
-    is ok err possible (related id)
+    → Some f ≡ of_instance remove work i e → OnOk x (n ≡ cell_step i f) → OnErr x (n ≡ i)
+    → IsService r i (tree.get nat_cmp m) → IsService r n (tree.get nat_cmp m)
+all_after x r i n m remove work f e goes works is ok err h = record {
+  possible = possible_after x i n f ok err h.possible;
+  each = λ id. one_after x r i n (tree.get nat_cmp m id) remove work f e
+      (λ t. every_found (λ b. may_remove r b) _ m.entries (sym goes ∙ t))
+      (λ t. every_found (λ b. may_work r b) _ m.entries (sym works ∙ t))
+      is ok err h.possible (h.each id);
+}
 
 -- ---- an event of a binding
 
 mapped_after : (r : Rules) (i : Cell) (o : Option BindingCell) (create work ended : Bool) (e : BindingEvent)
-    → create ≡ may_create r i → work ≡ may_bind r i → IfSome o (λ b. IsPossible b.life)
-    → IfSome o (λ b. IsRelated r i b.life)
-    → IfSome (option_map (λ b. binding_step create work ended b e) o) (λ b. IsRelated r i b.life)
-mapped_after r i None create work ended e comes works possible related = tt
-mapped_after r i (Some b) create work ended e comes works possible related =
-    kept_step_binding r i b create work ended e (λ t. sym comes ∙ t) (λ t. sym works ∙ t) possible related
+    → create ≡ may_create r i → work ≡ may_bind r i → IfSome o (IsOf r i)
+    → IfSome (option_map (λ b. binding_step create work ended b e) o) (IsOf r i)
+mapped_after r i None create work ended e comes works of = tt
+mapped_after r i (Some b) create work ended e comes works of = record {
+  well = well_step create work ended b e of.well;
+  related = kept_step_binding r i b create work ended e (λ t. sym comes ∙ t) (λ t. sym works ∙ t)
+      of.well.credited.possible of.related;
+}
 
 here_after : {T E : Type 0} (x : Result T E) (r : Rules) (i : Cell) (o n : Option BindingCell) (create work ended : Bool)
     (e : BindingEvent) → create ≡ may_create r i → work ≡ may_bind r i
     → OnOk x (n ≡ option_map (λ b. binding_step create work ended b e) o) → OnErr x (n ≡ o)
-    → IfSome o (λ b. IsPossible b.life) → IfSome o (λ b. IsRelated r i b.life) → IfSome n (λ b. IsRelated r i b.life)
-here_after (Ok v) r i o n create work ended e comes works ok err possible related =
-    subst (λ y. IfSome y (λ b. IsRelated r i b.life)) (sym ok)
-    (mapped_after r i o create work ended e comes works possible related)
-here_after (Err v) r i o n create work ended e comes works ok err possible related =
-    subst (λ y. IfSome y (λ b. IsRelated r i b.life)) (sym err) related
+    → IfSome o (IsOf r i) → IfSome n (IsOf r i)
+here_after (Ok v) r i o n create work ended e comes works ok err of =
+    subst (λ y. IfSome y (IsOf r i)) (sym ok) (mapped_after r i o create work ended e comes works of)
+here_after (Err v) r i o n create work ended e comes works ok err of = subst (λ y. IfSome y (IsOf r i)) (sym err) of
 
 pub each_after : {T E : Type 0} (x : Result T E) (r : Rules) (i : Cell) (old new : ℕ → Option BindingCell) (id : ℕ)
     (create work ended : Bool) (e : BindingEvent) → create ≡ may_create r i → work ≡ may_bind r i
     → OnOk x (new id ≡ option_map (λ b. binding_step create work ended b e) (old id)) → OnErr x (new id ≡ old id)
-    → ((other : ℕ) → other ≢ id → new other ≡ old other) → IfSome (old id) (λ b. IsPossible b.life)
-    → ((q : ℕ) → IfSome (old q) (λ b. IsRelated r i b.life)) → (q : ℕ) → IfSome (new q) (λ b. IsRelated r i b.life)
-each_after x r i old new id create work ended e comes works ok err others possible related q =
-    ⊎_elim
-    (λ same. subst (λ (k : ℕ). IfSome (new k) (λ b. IsRelated r i b.life)) (sym same)
-    (here_after x r i (old id) (new id) create work ended e comes works ok err possible (related id)))
-    (λ apart. subst (λ y. IfSome y (λ b. IsRelated r i b.life)) (sym (others q apart)) (related q))
-    (cases_eq q id)
+    → ((other : ℕ) → other ≢ id → new other ≡ old other) → IsService r i old → IsService r i new
+each_after x r i old new id create work ended e comes works ok err others h = record {
+  possible = h.possible;
+  each = λ q. ⊎_elim
+      (λ same. subst (λ (k : ℕ). IfSome (new k) (IsOf r i)) (sym same)
+      (here_after x r i (old id) (new id) create work ended e comes works ok err (h.each id)))
+      (λ apart. subst (λ y. IfSome y (IsOf r i)) (sym (others q apart)) (h.each q))
+      (cases_eq q id);
+}
 
 -- ---- a binding more
 
 taken_in : {T E : Type 0} (x : Result T E) (r : Rules) (i : Cell) (o n : Option BindingCell) (b : BindingCell)
-    → (o ≡ None → OnOk x (n ≡ Some b)) → (IsSome o → n ≡ o) → OnErr x (n ≡ o) → IsRelated r i b.life
-    → IfSome o (λ c. IsRelated r i c.life) → IfSome n (λ c. IsRelated r i c.life)
-taken_in x r i (Some c) n b new known err fresh related =
-    subst (λ y. IfSome y (λ d. IsRelated r i d.life)) (sym (known refl)) related
-taken_in (Ok v) r i None n b new known err fresh related =
-    subst (λ y. IfSome y (λ d. IsRelated r i d.life)) (sym (new refl)) fresh
-taken_in (Err v) r i None n b new known err fresh related =
-    subst (λ y. IfSome y (λ d. IsRelated r i d.life)) (sym err) tt
+    → (o ≡ None → OnOk x (n ≡ Some b)) → (IsSome o → n ≡ o) → OnErr x (n ≡ o) → IsOf r i b
+    → IfSome o (IsOf r i) → IfSome n (IsOf r i)
+taken_in x r i (Some c) n b new known err fresh of = subst (λ y. IfSome y (IsOf r i)) (sym (known refl)) of
+taken_in (Ok v) r i None n b new known err fresh of = subst (λ y. IfSome y (IsOf r i)) (sym (new refl)) fresh
+taken_in (Err v) r i None n b new known err fresh of = subst (λ y. IfSome y (IsOf r i)) (sym err) tt
 
 pub one_more : {T E : Type 0} (x : Result T E) (r : Rules) (i : Cell) (old new : ℕ → Option BindingCell) (id : ℕ)
     (b : BindingCell) → (old id ≡ None → OnOk x (new id ≡ Some b)) → (IsSome (old id) → new id ≡ old id)
-    → OnErr x (new id ≡ old id) → ((other : ℕ) → other ≢ id → new other ≡ old other) → IsRelated r i b.life
-    → ((q : ℕ) → IfSome (old q) (λ c. IsRelated r i c.life)) → (q : ℕ) → IfSome (new q) (λ c. IsRelated r i c.life)
-one_more x r i old new id b is known err others fresh related q =
-    ⊎_elim
-    (λ same. subst (λ (k : ℕ). IfSome (new k) (λ c. IsRelated r i c.life)) (sym same)
-    (taken_in x r i (old id) (new id) b is known err fresh (related id)))
-    (λ apart. subst (λ y. IfSome y (λ c. IsRelated r i c.life)) (sym (others q apart)) (related q))
-    (cases_eq q id)
+    → OnErr x (new id ≡ old id) → ((other : ℕ) → other ≢ id → new other ≡ old other) → IsOf r i b
+    → IsService r i old → IsService r i new
+one_more x r i old new id b is known err others fresh h = record {
+  possible = h.possible;
+  each = λ q. ⊎_elim
+      (λ same. subst (λ (k : ℕ). IfSome (new k) (IsOf r i)) (sym same)
+      (taken_in x r i (old id) (new id) b is known err fresh (h.each id)))
+      (λ apart. subst (λ y. IfSome y (IsOf r i)) (sym (others q apart)) (h.each q))
+      (cases_eq q id);
+}
+
+-- a binding that nothing has happened to
+pub fresh_of : (r : Rules) (i : Cell) (o : Order) (retrievable : Bool) → IsOf r i (empty_binding o retrievable)
+fresh_of r i o retrievable = record {
+  well = well_empty o retrievable;
+  related = related_empty r i (empty_cell o) refl refl refl;
+}
+
+-- ---- what is known of all that can come about
+
+held_as : (c : BindingCell) (x : Bool) → c.forgotten ≡ x → IsWell c
+    → ((if x then nothing_held else c.life.held).row ≡ c.life.held.row)
+    × ((if x then nothing_held else c.life.held).work ≡ c.life.held.work)
+held_as c true e h =
+    let gone = ended_by c.life c.life.recorded h.credited.possible (h.forgotten e) in (sym gone.0, sym gone.1)
+held_as c false e h = (refl, refl)
+
+pub binding_agrees : (r : Rules) (i : Cell) (b : BindingCell) → IsPossible i → IsOf r i b → BindingAgrees r i b
+binding_agrees r i b possible of = record {
+  life = agrees b.life of.well.credited.possible;
+  credentials = credentials_agree b of.well.credited;
+  held = held_as b b.forgotten refl of.well;
+  together = together r i b.life of.related (agrees i possible) (agrees b.life of.well.credited.possible)
+      of.well.credited.possible;
+  put_off = puts_off_rightly r i b.life of.related possible;
+}
+
+agree_at : (r : Rules) (i : Cell) (o : Option BindingCell) → IsPossible i → IfSome o (IsOf r i)
+    → IfSome o (BindingAgrees r i)
+agree_at r i None possible of = tt
+agree_at r i (Some b) possible of = binding_agrees r i b possible of
+
+pub service_agrees : (r : Rules) (i : Cell) (m : BTreeMap ℕ BindingCell) → IsService r i (tree.get nat_cmp m)
+    → ServiceAgrees (record { rules = r; instance = i; bindings = map.from_entries {R = nat_cmp} m.entries })
+service_agrees r i m h = record {
+  instance = agrees i h.possible;
+  bindings = λ id. subst (λ o. IfSome o (BindingAgrees r i)) (sym (get-tree nat_cmp_total m id))
+      (agree_at r i (tree.get nat_cmp m id) h.possible (h.each id));
+}
 
 -- what holds of what is found
 pub at_found : (P : BindingCell → Type 0) (o : Option BindingCell) (b : BindingCell) → Some b ≡ o → IfSome o P → P b

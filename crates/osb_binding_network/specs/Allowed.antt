@@ -81,10 +81,13 @@ abbrev pub is_bind : Option Sent → Bool
 is_bind None = false
 is_bind (Some sent) = is_provision sent.request.kind
 
--- a request arrives of a binding whose tombstone was deleted or not: a Bind of one is always put off
+-- a request arrives of a binding whose tombstone was deleted, or wasn't: a Bind of one that was is always put off, and
+-- only a Bind asks whether something may begin
 abbrev pub let_bind : Bool → Bool → Cell → ℕ → Event
 let_bind forgotten work cell attempt =
-    if forgotten && is_bind (sent_as cell.sent attempt) then Event.PutOff attempt else let_work work cell attempt
+    if forgotten && is_bind (sent_as cell.sent attempt)
+    then Event.PutOff attempt
+    else let_work (work || not (is_bind (sent_as cell.sent attempt))) cell attempt
 
 -- whether an answer that is taken promises credentials that can't be fetched
 abbrev pub takes_useless : Bool → Option Given → Option Recorded → Bool

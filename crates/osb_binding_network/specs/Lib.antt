@@ -1,5 +1,7 @@
+pub mod Agreement
 pub mod Allowed
 pub mod Binding
+pub mod Possible
 pub mod PutOff
 pub mod Related
 pub mod Service

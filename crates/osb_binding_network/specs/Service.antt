@@ -1,5 +1,5 @@
 -- An instance with its bindings, by their ids, and what an event makes of them. All of this is this project's choice.
-use Rattle.std.specs.Prelude.{refl, Bool, true, false, ◌&&◌, ℕ, List, [], ◌∷◌, Option, option_map}
+use Rattle.std.specs.Prelude.{refl, Bool, true, false, ◌&&◌, ◌==◌, if◌then◌else◌, ℕ, List, [], ◌∷◌, Option, Some, None, option_map}
 use Rattle.std.specs.Coded.{Coded, code_by, coded×, coded_ℕ}
 use Rattle.std.specs.FinMap as map
 use Rattle.std.specs.Map.{values_of}
@@ -9,12 +9,13 @@ use Rattle.osb_network.specs.contracts.instance.Instance as one
 use Rattle.osb_network.specs.declared.event.Event.{Event}
 use Rattle.osb_network.specs.declared.order.Order.{Order}
 use Rattle.osb_binding_network.specs.declared.event.BindingEvent.{BindingEvent}
+use Rattle.osb_binding_network.specs.declared.event.ServiceEvent.{ServiceEvent}
 use Rattle.osb_binding_network.specs.declared.order.BindingOrder.{BindingOrder}
 use Rattle.osb_binding_network.specs.declared.rules.Rules.{Rules}
 use Rattle.osb_binding_network.specs.contracts.binding.ServiceBinding as binding
 use Rattle.osb_binding_network.specs.contracts.rules.Rules as kept
 use Rattle.osb_binding_network.specs.Allowed.{happened, may_bind, may_create, may_remove, may_work, of_instance}
-use Rattle.osb_binding_network.specs.Binding.{BindingCell, binding_step}
+use Rattle.osb_binding_network.specs.Binding.{BindingCell, binding_step, empty_binding}
 
 pub record ServiceCells : Type 0 where
   pub rules : Rules
@@ -62,3 +63,27 @@ life_order instance order =
       first_poll = order.first_poll;
       attributes = order.attributes;
     }
+
+-- ---- any event
+
+-- the binding of an order, if there is none with its id yet
+abbrev pub ordered : ServiceCells → BindingOrder → Option BindingCell → BindingCell
+ordered service order None = empty_binding (life_order service.instance.order order) order.retrievable
+ordered service order (Some binding) = binding
+
+-- the instance after an event
+abbrev pub instance_by : ServiceCells → ServiceEvent → Cell
+instance_by service (ServiceEvent.Instance event) = instance_after service event
+instance_by service event = service.instance
+
+-- what an id has after an event
+abbrev pub binding_by : ServiceCells → ServiceEvent → ℕ → Option BindingCell
+binding_by service (ServiceEvent.Instance event) id = map.get service.bindings id
+binding_by service (ServiceEvent.Order order) id =
+    if id == order.id
+    then Some (ordered service order (map.get service.bindings order.id))
+    else map.get service.bindings id
+binding_by service (ServiceEvent.Binding at event) id =
+    if id == at
+    then binding_after service event (map.get service.bindings at)
+    else map.get service.bindings id

@@ -121,10 +121,11 @@ fn is_bind(life: &Instance, attempt: u64) -> bool
 fn let_bind(forgotten: bool, work: bool, life: &Instance, attempt: u64) -> Event
     ensures event { result ≡ spec.let_bind forgotten work life.now attempt }
 {
-    if forgotten && is_bind(life, attempt) {
+    let bind = is_bind(life, attempt);
+    if forgotten && bind {
         Event::PutOff { attempt }
     } else {
-        let_work(work, life, attempt)
+        let_work(work || !bind, life, attempt)
     }
 }
 

@@ -4,6 +4,7 @@ ghost use Rattle.osb_network.specs.Agreement.{Agrees};
 ghost use Rattle.osb_network.specs.Cell.{IsPossible};
 ghost use Rattle.osb_binding_network.specs.Binding as spec;
 ghost use Rattle.osb_binding_network.specs.Binding.{CredentialsAgree};
+ghost use Rattle.osb_binding_network.specs.Well.{IsWell};
 
 use crate::BindingEvent;
 use crate::allowed::Allowed;
@@ -56,6 +57,7 @@ impl ServiceBinding {
         ensures cell { OnOk result (self.new
             ≡ spec.binding_step allowed.create allowed.work allowed.ended self.old event) }
         ensures err { OnErr result (self.new ≡ self.old) }
+        ensures well { IsWell self.new }
     {
         self.parts.step(alloc, allowed, event)
     }
@@ -116,6 +118,7 @@ impl ServiceBinding {
         ensures possible { IsPossible self.now.life }
         ensures agrees { Agrees self.now.life }
         ensures credentials { CredentialsAgree self.now }
+        ensures well { IsWell self.now }
     {
         self.parts.life.agreement();
     }

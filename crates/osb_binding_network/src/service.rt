@@ -3,16 +3,16 @@ ghost use Rattle.std.specs.Prelude.{◌≡◌, ◌≢◌, ℕ, None, Some, IfSom
 ghost use Rattle.std.specs.BTreeMap as tree;
 ghost use Rattle.std.specs.FinMap as finite;
 ghost use Rattle.std.specs.Ordering.{nat_cmp};
-ghost use Rattle.osb_network.specs.Agreement.{Agrees};
-ghost use Rattle.osb_network.specs.Cell.{IsPossible, empty_cell};
+ghost use Rattle.osb_network.specs.Cell.{empty_cell};
+ghost use Rattle.osb_binding_network.specs.Agreement.{BindingAgrees, ServiceAgrees};
 ghost use Rattle.osb_binding_network.specs.Allowed as allowed;
-ghost use Rattle.osb_binding_network.specs.Binding.{CredentialsAgree, binding_step, empty_binding};
-ghost use Rattle.osb_binding_network.specs.PutOff.{PutsOffRightly};
-ghost use Rattle.osb_binding_network.specs.Service.{binding_after, every, instance_after, life_order};
-ghost use Rattle.osb_binding_network.specs.Together.{GoTogether};
+ghost use Rattle.osb_binding_network.specs.Binding.{binding_step, empty_binding};
+ghost use Rattle.osb_binding_network.specs.Service.{binding_after, binding_by, every, instance_after, instance_by};
+ghost use Rattle.osb_binding_network.specs.Service.{life_order};
+ghost use Rattle.osb_binding_network.specs.Well.{IsWell};
 
 use crate::allowed::{Allowed, may_bind, may_create, may_remove, may_work, of_instance};
-use crate::{BindingEvent, BindingOrder, Rules, ServiceBinding};
+use crate::{BindingEvent, BindingOrder, Rules, ServiceBinding, ServiceEvent};
 use osb_binding::BindingId;
 use osb_message::{InstanceId, Memory};
 use osb_network::{Event, Instance, Order, Step};
@@ -33,12 +33,11 @@ pub struct ServiceInstance {
 }
 
 impl Model for ServiceInstance {
-    ghost use Rattle.std.specs.Prelude.{ℕ, IfSome};
     ghost use Rattle.std.specs.BTreeMap as tree;
     ghost use Rattle.std.specs.FinMap as map;
     ghost use Rattle.std.specs.Ordering.{nat_cmp};
+    ghost use Rattle.osb_binding_network.specs.Possible.{IsService};
     ghost use Rattle.osb_binding_network.specs.Service.{ServiceCells, service_code};
-    ghost use Rattle.osb_binding_network.specs.Related.{IsRelated};
 
     ghost Value = { ServiceCells };
 
@@ -46,7 +45,7 @@ impl Model for ServiceInstance {
 
     ghost view = { λ s. record { rules = s.rules; instance = s.instance; bindings = map.from_entries s.bindings.entries } };
 
-    ghost invariant = { λ s. (id : ℕ) → IfSome (tree.get nat_cmp s.bindings id) (λ b. IsRelated s.rules s.instance b.life) };
+    ghost invariant = { λ s. IsService s.rules s.instance (tree.get nat_cmp s.bindings) };
 }
 
 // Whether the instance may be removed, by each binding.
@@ -89,12 +88,11 @@ fn step_at(
     ensures others { (other : ℕ) → other ≢ id
         → tree.get nat_cmp bindings.new other ≡ tree.get nat_cmp bindings.old other }
     ensures err { OnErr result (tree.get nat_cmp bindings.new id ≡ tree.get nat_cmp bindings.old id) }
-    ensures possible { IfSome (tree.get nat_cmp bindings.old id) (λ b. IsPossible b.life) }
+    ensures well { IfSome (tree.get nat_cmp bindings.new id) IsWell }
 {
     let Some(binding) = bindings.get_mut(&id) else {
         return Ok(Step::Skipped);
     };
-    binding.agreement();
     binding.step(alloc, allowed, event)
 }
 
@@ -120,22 +118,46 @@ impl ServiceInstance {
         &self.instance
     }
 
-    /// The binding with the id, or none. It and the instance agree by themselves, on the credentials too, and they go
-    /// together. Only a Bind and a Deprovision are ever put off. It takes no memory.
+    /// The binding with the id, or none. It takes no memory.
     pub fn binding(&self, id: BindingId) -> Option<&ServiceBinding>
         ensures found { option_copied result ≡ finite.get self.now.bindings id }
-        ensures instance { Agrees self.now.instance }
-        ensures agrees { IfSome result (λ binding. Agrees binding.now.life) }
-        ensures credentials { IfSome result (λ binding. CredentialsAgree binding.now) }
-        ensures together { IfSome result (λ binding.
-            GoTogether self.now.rules self.now.instance binding.now.life) }
-        ensures put_off { IfSome result (λ binding.
-            PutsOffRightly self.now.rules self.now.instance binding.now.life) }
+        ensures agrees { IfSome result (λ binding.
+            BindingAgrees self.now.rules self.now.instance binding.now) }
     {
-        self.instance.agreement();
         let binding = self.bindings.get(&id)?;
         binding.agreement();
         Some(binding)
+    }
+
+    /// Does nothing: its contract is that the instance and its bindings agree, in the sense of the [crate](crate)'s first
+    /// page. It takes no memory.
+    pub fn agreement(&self)
+        ensures agrees { ServiceAgrees self.now }
+    {
+        let _ = &self.instance;
+    }
+
+    /// Lets an event happen, as the rules let it.
+    ///
+    /// # Errors
+    ///
+    /// [`Memory`] if an allocation failed. The instance and all bindings are then as before.
+    pub fn step(&mut self, alloc: Global, event: ServiceEvent) -> Result<Step, Memory>
+        ensures rules { self.new.rules ≡ self.old.rules }
+        ensures instance { OnOk result (self.new.instance ≡ instance_by self.old event) }
+        ensures bindings { OnOk result ((id : ℕ) →
+            finite.get self.new.bindings id ≡ binding_by self.old event id) }
+        ensures err { OnErr result ((self.new.instance ≡ self.old.instance)
+            × ((id : ℕ) → finite.get self.new.bindings id ≡ finite.get self.old.bindings id)) }
+        ensures agrees { ServiceAgrees self.new }
+    {
+        let step = match event {
+            ServiceEvent::Instance(event) => self.step_instance(alloc, event),
+            ServiceEvent::Order(order) => self.order(alloc, order),
+            ServiceEvent::Binding { id, event } => self.step_binding(alloc, id, event),
+        };
+        self.agreement();
+        step
     }
 
     // Takes a binding in to which nothing has happened yet. If there is one with the id, nothing changes.

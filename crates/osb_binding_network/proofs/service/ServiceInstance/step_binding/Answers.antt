@@ -8,4 +8,4 @@ invariant_of-self c =
     each_after c.step_at.result c.self.inside.rules c.self.inside.instance (tree.get nat_cmp c.self.inside.bindings)
     (tree.get nat_cmp c.step_at.new.bindings) c.args.id c.may_create.result c.may_bind.result c.has_tombstone.result
     c.args.event c.may_create.ensures.is c.may_bind.ensures.is c.step_at.ensures.here c.step_at.ensures.err
-    c.step_at.ensures.others c.step_at.ensures.possible c.self.invariant
+    c.step_at.ensures.others c.self.invariant

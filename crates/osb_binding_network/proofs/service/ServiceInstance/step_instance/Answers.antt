@@ -27,7 +27,7 @@ invariant_of-self c =
     all_after c.step.result c.self.inside.rules c.self.inside.instance c.step.new.self c.self.inside.bindings
     c.all_may_remove-remove.result c.all_may_work-work.result c.in-Some.event c.args.event
     c.all_may_remove-remove.ensures.is c.all_may_work-work.ensures.is (sym c.in-Some.is ∙ c.of_instance.ensures.event)
-    c.step.ensures.cell c.step.ensures.err c.agreement.ensures.possible c.self.invariant
+    c.step.ensures.cell c.step.ensures.err c.self.invariant
 
 pub returns-clause-instance : goal.returns-clause-instance
 returns-clause-instance c =
