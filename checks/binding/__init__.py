@@ -1,0 +1,1 @@
+"""A model of an instance and its bindings, and everything that can come about of them."""
