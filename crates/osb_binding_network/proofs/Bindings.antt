@@ -6,7 +6,7 @@ use Rattle.osb_network.specs.Cell.{Cell, IsPossible}
 use Rattle.osb_binding_network.specs.declared.event.BindingEvent.{BindingEvent}
 use Rattle.osb_binding_network.specs.declared.rules.Rules.{Rules}
 use Rattle.osb_binding_network.specs.Allowed.{happened, may_bind, may_create, needs_fetch, of_binding}
-use Rattle.osb_binding_network.specs.Binding.{BindingCell, binding_step, fetch_arrived, forgot, is_fetchable, lived_if}
+use Rattle.osb_binding_network.specs.Binding.{BindingCell, binding_step, is_fetchable, lived_if}
 use Rattle.osb_binding_network.specs.Binding.{taken_with}
 use Rattle.osb_binding_network.specs.Related.{IsRelated}
 use Rattle.osb_binding_network.proofs.Kept.{kept_binding, kept_take}

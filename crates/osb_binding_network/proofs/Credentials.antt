@@ -1,7 +1,7 @@
 -- Whatever happens, if the platform records `ready` it records the credentials that the resource has.
 use Rattle.std.proofs.Common.{◌≡◌, ℕ, zero, suc, Bool, true, false, refl, sym, ap, subst, ◌∙◌, inl, ⊎_elim, ◌<◌, ◌≤◌, arith}
 use Rattle.std.specs.Prelude.{Option, Some, None, IsSomeAnd, List, [], ◌∷◌, length, slice_get, ◌&&◌, ◌==◌, ◌+◌, not, nat_lt}
-use Rattle.std.specs.Prelude.{if◌then◌else◌, ⊤, ◌++◌, is_none, Result, Ok, Err, OnOk, OnErr}
+use Rattle.std.specs.Prelude.{if◌then◌else◌, ◌++◌, is_none, Result, Ok, Err, OnOk, OnErr}
 use Rattle.std.proofs.lemmas.Bool.Decides.{nat_tests}
 use Rattle.osb_message.specs.declared.messages.Answer.{Answer}
 use Rattle.osb_message.specs.declared.messages.Kind.{Kind}
@@ -24,7 +24,7 @@ use Rattle.osb_network.specs.declared.event.Event.{Event}
 use Rattle.osb_network.specs.declared.event.Given.{Given}
 use Rattle.osb_network.specs.declared.order.Order.{Order}
 use Rattle.osb_network.specs.declared.resource.Resource.{Resource}
-use Rattle.osb_network.specs.Cell.{Cell, IsPossible, IsPossibleRecord, IsPossibleWith, IsGivenOf}
+use Rattle.osb_network.specs.Cell.{Cell, IsPossible, IsPossibleWith, IsGivenOf}
 use Rattle.osb_network.specs.Possible.{HoldsReady, IsBefore, IsEarly, IsEarlyAs, HeldByState}
 use Rattle.osb_network.specs.Each.{Each}
 use Rattle.osb_network.specs.Steps.{arrive, arrived, cell_step, take, take_out, take_given, next_recorded, sent_as}
@@ -54,7 +54,7 @@ ready_holds : (c : Cell) → IsPossible c → is_ready c.recorded ≡ true → h
 ready_holds c h r = holds_at c.held.row (there_by c c.recorded refl (agrees c h) r).0.0
 
 -- also what an answer would make so
-taken_holds : (c : Cell) (at : ℕ) → IsPossible c → is_ready (cell_step c (Event.Take at)).recorded ≡ true
+pub taken_holds : (c : Cell) (at : ℕ) → IsPossible c → is_ready (cell_step c (Event.Take at)).recorded ≡ true
     → holds_ready c.held ≡ true
 taken_holds c at h r =
     ap (λ (x : Held). holds_ready_by x.row) (sym (take_given_held c (slice_get c.given at)))
@@ -155,16 +155,16 @@ not_below n m e l = grind (arith, nat_tests)
 
 -- ---- an answer that is taken, as the record alone sees it
 
-abbrev taken_out : Recorded → Option Kind → Answer → Option Recorded
+abbrev pub taken_out : Recorded → Option Kind → Answer → Option Recorded
 taken_out rec None a = Some rec
 taken_out rec (Some k) a =
     Some (record { row = in_state (state_after rec.row.state k a) rec.row; attempt = rec.attempt })
 
-abbrev taken_of : Option Recorded → ℕ → Answer → Option Recorded
+abbrev pub taken_of : Option Recorded → ℕ → Answer → Option Recorded
 taken_of None n a = None
 taken_of (Some rec) n a = if n == rec.attempt then taken_out rec rec.row.out a else Some rec
 
-abbrev taken : Option Recorded → Option Given → Option Recorded
+abbrev pub taken : Option Recorded → Option Given → Option Recorded
 taken r None = r
 taken r (Some g) = taken_of r g.attempt g.answer
 
@@ -185,7 +185,7 @@ take_is c (Some rec) n a e =
     either_is (n == rec.attempt) (take_out c rec rec.row.out a) c (taken_out rec rec.row.out a) (Some rec)
     (take_out_is c rec rec.row.out a e) e
 
-take_given_is : (c : Cell) (g : Option Given) → (take_given c g).recorded ≡ taken c.recorded g
+pub take_given_is : (c : Cell) (g : Option Given) → (take_given c g).recorded ≡ taken c.recorded g
 take_given_is c None = refl
 take_given_is c (Some g) = take_is c c.recorded g.attempt g.answer refl
 
@@ -269,11 +269,11 @@ is_below n m e = grind (arith, nat_tests)
 
 -- ---- the credentials of the answers
 
-length_push : {X : Type 0} (xs : List X) (x : X) → length (xs ++ x ∷ []) ≡ length xs + 1
+pub length_push : {X : Type 0} (xs : List X) (x : X) → length (xs ++ x ∷ []) ≡ length xs + 1
 length_push [] x = refl
 length_push (y ∷ ys) x = let e : length (ys ++ x ∷ []) ≡ length ys + 1 = length_push ys x in omega arith
 
-at_length : {X : Type 0} (xs : List X) (x : X) → slice_get (xs ++ x ∷ []) (length xs) ≡ Some x
+pub at_length : {X : Type 0} (xs : List X) (x : X) → slice_get (xs ++ x ∷ []) (length xs) ≡ Some x
 at_length [] x = refl
 at_length (y ∷ ys) x = at_length ys x
 
@@ -474,7 +474,7 @@ fetched_kept c e x h f = λ early.
 
 -- ---- all that can happen
 
-well_lived : (c : BindingCell) (e : Event) (x : ℕ) → IsWell c → IsWell (lived c e x)
+pub well_lived : (c : BindingCell) (e : Event) (x : ℕ) → IsWell c → IsWell (lived c e x)
 well_lived c e x h = record {
   credited = credited_kept c e x h.credited;
   fetched = fetched_kept c e x h.credited h.fetched;
@@ -497,7 +497,7 @@ second_of : (a b : Bool) → (a && b) ≡ true → b ≡ true
 second_of true b e = e
 second_of false b e = cc
 
-well_fetch : (c : BindingCell) → IsWell c → IsWell (fetch_arrived c)
+pub well_fetch : (c : BindingCell) → IsWell c → IsWell (fetch_arrived c)
 well_fetch c h =
     well_if (is_fetchable c.life.held) (record c { fetched = c.fetched ++ c.row ∷ [] }) c
     (λ t. record {
@@ -542,7 +542,7 @@ polled_early (Some x) None e = cc
 polled_early (Some x) (Some rec) e = polling_before rec.row.state (first_of (is_polling rec.row.state) _ e)
 
 -- an answer to a Poll that is taken together with a Fetch's
-well_taken : (c : BindingCell) (at of : ℕ) (x : Option ℕ) → slice_get c.fetched of ≡ x → IsWell c
+pub well_taken : (c : BindingCell) (at of : ℕ) (x : Option ℕ) → slice_get c.fetched of ≡ x → IsWell c
     → IsWell (taken_with c at x)
 well_taken c at of None e h = h
 well_taken c at of (Some x) e h =

@@ -1,6 +1,6 @@
 -- A tombstone stays, whatever happens.
-use Rattle.std.proofs.Common.{◌≡◌, ℕ, Bool, true, false, refl, sym, ap, ◌∙◌}
-use Rattle.std.specs.Prelude.{Option, Some, None, ◌&&◌, ◌||◌, if◌then◌else◌, is_none, is_some, slice_get}
+use Rattle.std.proofs.Common.{◌≡◌, ℕ, Bool, true, false, refl, ap, ◌∙◌}
+use Rattle.std.specs.Prelude.{Option, Some, None, ◌&&◌, ◌||◌, if◌then◌else◌, is_some, slice_get}
 use Rattle.osb_message.specs.declared.catalogue.Mode.{Mode}
 use Rattle.osb_message.specs.declared.messages.Answer.{Answer}
 use Rattle.osb_message.specs.declared.messages.Kind.{Kind}
@@ -14,7 +14,7 @@ use Rattle.osb_instance.specs.declared.record.Sent.{Sent}
 use Rattle.osb_instance.specs.declared.work.Begun.{Begun}
 use Rattle.osb_instance.specs.declared.work.Begun.TheVariants.{Answered}
 use Rattle.osb_instance.specs.declared.work.Work.{Work}
-use Rattle.osb_instance.specs.Begin.{begun, begun_by, begun_in, begun_with, begun_work, conflict, conflicts, failed_row}
+use Rattle.osb_instance.specs.Begin.{begun_by, begun_in, begun_with, begun_work, conflict, conflicts, failed_row}
 use Rattle.osb_instance.specs.Begin.{finished_held, given_up, is_provision, names_held, polled_held, too_late}
 use Rattle.osb_instance.specs.Begin.{waiting_by, waiting_deprovision, waits_for_poll, worked}
 use Rattle.osb_instance.specs.Due.{work_due}

@@ -218,7 +218,7 @@ peace_by None w x y e = cc
 peace_by (Some b) None x y e = first_of (fits.is_ready b.phase) _ e
 peace_by (Some b) (Some q) x y e = cc
 
-kept_bind : (r : Rules) (i b : Cell) (n : ℕ) (x y : Bool) → (x ≡ true → may_bind r i ≡ true) → begins b n ≡ y
+pub kept_bind : (r : Rules) (i b : Cell) (n : ℕ) (x y : Bool) → (x ≡ true → may_bind r i ≡ true) → begins b n ≡ y
     → IsPossible b → IsRelated r i b
     → IsRelated r i (cell_step b (if x || not y then Event.Arrive n else Event.PutOff n))
 kept_bind r i b n true y may f possible related =
@@ -266,6 +266,14 @@ kept_let_take r i b at true y possible related =
 kept_let_take r i b at false true possible related = related
 kept_let_take r i b at false false possible related =
     kept_by_binding r i b (Event.Take at) possible related (λ p rest m. cc) (λ p begun. cc)
+
+-- an event of the binding that orders nothing, removes nothing and begins nothing
+pub kept_lived : (r : Rules) (i b : Cell) (e : Event) → ((x : Option Recorded) → moves e x ≡ false)
+    → ((c : Cell) → begins_at e c ≡ false) → IsPossible b → IsRelated r i b → IsRelated r i (cell_step b e)
+kept_lived r i b e orders begun possible related =
+    kept_by_binding r i b e possible related
+    (λ p rest m. absurd (both (moves e b.recorded) m (orders b.recorded)))
+    (λ p begins. absurd (both (begins_at e b) begins (begun b)))
 
 pub kept_take : (r : Rules) (i b : Cell) (at : ℕ) → IsPossible b → IsRelated r i b
     → IsRelated r i (cell_step b (Event.Take at))

@@ -8,4 +8,7 @@ pub mod PutOff
 pub mod Records
 pub mod Ended
 pub mod Credentials
+pub mod Fetches
+pub mod Lets
+pub mod Rounds
 pub mod Many

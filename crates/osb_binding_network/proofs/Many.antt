@@ -15,6 +15,7 @@ use Rattle.osb_instance.specs.Held.{nothing_held}
 use Rattle.osb_network.specs.declared.event.Event.{Event}
 use Rattle.osb_network.specs.declared.order.Order.{Order}
 use Rattle.osb_network.specs.Cell.{Cell, IsPossible, empty_cell}
+use Rattle.osb_network.specs.Settling.{settled_cell, settling_events, IsPartWay}
 use Rattle.osb_network.specs.Steps.{cell_step}
 use Rattle.osb_network.proofs.Agreements.{agrees}
 use Rattle.osb_network.proofs.Kept.{kept_step}
@@ -25,12 +26,14 @@ use Rattle.osb_binding_network.specs.Allowed.{may_bind, may_create, may_remove, 
 use Rattle.osb_binding_network.specs.Binding.{BindingCell, binding_step, empty_binding}
 use Rattle.osb_binding_network.specs.Possible.{IsOf, IsService}
 use Rattle.osb_binding_network.specs.Service.{every, each_of}
+use Rattle.osb_binding_network.specs.Settled.{SettlesAt}
 use Rattle.osb_binding_network.specs.Well.{IsWell}
 use Rattle.osb_binding_network.proofs.Bindings.{kept_step_binding}
 use Rattle.osb_binding_network.proofs.Credentials.{credentials_agree, well_empty, well_step}
 use Rattle.osb_binding_network.proofs.Ended.{ended_by}
 use Rattle.osb_binding_network.proofs.Kept.{instance_after, kept_instance, related_empty}
 use Rattle.osb_binding_network.proofs.PutOff.{puts_off_rightly}
+use Rattle.osb_binding_network.proofs.Rounds.{binding_settled, instance_settled}
 use Rattle.osb_binding_network.proofs.Together.{together}
 
 first_of_both : (a b : Bool) → (a && b) ≡ true → a ≡ true
@@ -184,6 +187,49 @@ service_agrees r i m h = record {
   instance = agrees i h.possible;
   bindings = λ id. subst (λ o. IfSome o (BindingAgrees r i)) (sym (get-tree nat_cmp_total m id))
       (agree_at r i (tree.get nat_cmp m id) h.possible (h.each id));
+}
+
+-- ---- rounds
+
+one_settled : {T E : Type 0} (x : Result T E) (r : Rules) (i n : Cell) (o : Option BindingCell) → r.platform ≡ true
+    → OnOk x (n ≡ settled_cell i) → OnErr x (IsPartWay settling_events i n) → IsPossible i → IfSome o (IsOf r i)
+    → IfSome o (IsOf r n)
+one_settled x r i n None p ok err possible of = tt
+one_settled x r i n (Some b) p ok err possible of = record {
+  well = of.well;
+  related = instance_settled x r i n b.life p ok err
+      (record { instance = possible; binding = of.well.credited.possible; related = of.related });
+}
+
+pub service_settled : {T E : Type 0} (x : Result T E) (r : Rules) (i n : Cell) (old : ℕ → Option BindingCell)
+    → r.platform ≡ true → OnOk x (n ≡ settled_cell i) → OnErr x (IsPartWay settling_events i n) → IsPossible n
+    → IsService r i old → IsService r n old
+service_settled x r i n old p ok err possible h = record {
+  possible = possible;
+  each = λ id. one_settled x r i n (old id) p ok err h.possible (h.each id);
+}
+
+here_settled : {T E : Type 0} (x : Result T E) (r : Rules) (i : Cell) (o n : Option BindingCell) → r.platform ≡ true
+    → SettlesAt x o n → IfSome n IsWell → IsPossible i → IfSome o (IsOf r i) → IfSome n (IsOf r i)
+here_settled x r i None None p here well possible of = tt
+here_settled x r i (Some b) (Some d) p here well possible of = record {
+  well = well;
+  related = binding_settled x r i b.life d.life p here.life here.err
+      (record { instance = possible; binding = of.well.credited.possible; related = of.related });
+}
+here_settled x r i None (Some d) p here well possible of = absurd here
+here_settled x r i (Some b) None p here well possible of = absurd here
+
+pub each_settled : {T E : Type 0} (x : Result T E) (r : Rules) (i : Cell) (old new : ℕ → Option BindingCell) (id : ℕ)
+    → r.platform ≡ true → SettlesAt x (old id) (new id) → IfSome (new id) IsWell
+    → ((other : ℕ) → other ≢ id → new other ≡ old other) → IsService r i old → IsService r i new
+each_settled x r i old new id p here well others h = record {
+  possible = h.possible;
+  each = λ q. ⊎_elim
+      (λ same. subst (λ (k : ℕ). IfSome (new k) (IsOf r i)) (sym same)
+      (here_settled x r i (old id) (new id) p here well h.possible (h.each id)))
+      (λ apart. subst (λ y. IfSome y (IsOf r i)) (sym (others q apart)) (h.each q))
+      (cases_eq q id);
 }
 
 -- what holds of what is found

@@ -5,5 +5,6 @@ pub mod Possible
 pub mod PutOff
 pub mod Related
 pub mod Service
+pub mod Settled
 pub mod Together
 pub mod Well

@@ -1,5 +1,5 @@
 -- An instance with its bindings, by their ids, and what an event makes of them. All of this is this project's choice.
-use Rattle.std.specs.Prelude.{refl, Bool, true, false, ◌&&◌, ◌==◌, if◌then◌else◌, ℕ, List, [], ◌∷◌, Option, Some, None, option_map}
+use Rattle.std.specs.Prelude.{refl, Bool, true, ◌&&◌, ◌==◌, if◌then◌else◌, ℕ, List, [], ◌∷◌, Option, Some, None, option_map}
 use Rattle.std.specs.Coded.{Coded, code_by, coded×, coded_ℕ}
 use Rattle.std.specs.FinMap as map
 use Rattle.std.specs.Map.{values_of}

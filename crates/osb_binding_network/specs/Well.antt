@@ -1,5 +1,5 @@
 -- What of a binding with credentials can come about.
-use Rattle.std.specs.Prelude.{◌≡◌, ℕ, Bool, true, false, ⊤, Option, Some, None, length, slice_get}
+use Rattle.std.specs.Prelude.{◌≡◌, ℕ, true, false, ⊤, Option, Some, None, length, slice_get}
 use Rattle.osb_instance.specs.Recorded.{Recorded}
 use Rattle.osb_network.specs.declared.event.Event.{Event}
 use Rattle.osb_network.specs.Cell.{IsPossible}

@@ -2,6 +2,7 @@
 ghost use Rattle.std.specs.Prelude.{◌≡◌, OnOk, OnErr};
 ghost use Rattle.osb_network.specs.Agreement.{Agrees};
 ghost use Rattle.osb_network.specs.Cell.{IsPossible};
+ghost use Rattle.osb_network.specs.Settling.{settled_cell, settling_events, HasNumbers, IsPartWay, IsSettled};
 ghost use Rattle.osb_binding_network.specs.Binding as spec;
 ghost use Rattle.osb_binding_network.specs.Binding.{CredentialsAgree};
 ghost use Rattle.osb_binding_network.specs.Well.{IsWell};
@@ -60,6 +61,17 @@ impl ServiceBinding {
         ensures well { IsWell self.new }
     {
         self.parts.step(alloc, allowed, event)
+    }
+
+    // Three fault-free rounds.
+    pub(crate) fn settle(&mut self, alloc: Global) -> Result<(), Memory>
+        ensures life { OnOk result (self.new.life ≡ settled_cell self.old.life) }
+        ensures err { OnErr result (IsPartWay settling_events self.old.life self.new.life) }
+        ensures well { IsWell self.new }
+        ensures settled { HasNumbers 3 self.old.life → OnOk result (IsSettled self.new.life) }
+    {
+        self.agreement();
+        self.parts.rounds(alloc)
     }
 
     // Its life.

@@ -1,12 +1,19 @@
 //! What there is of a binding, and one step of it.
-ghost use Rattle.std.specs.Prelude.{◌≡◌, OnOk, OnErr, slice_get};
+ghost use Rattle.std.specs.Prelude.{◌≡◌, ◌-◌, OnOk, OnErr, length, slice_get, true};
+ghost use Rattle.osb_network.specs.declared.event.Event.{Event};
+ghost use Rattle.osb_network.specs.Settling.{after_round, operated_well, operation_events, round_events, settled_cell};
+ghost use Rattle.osb_network.specs.Settling.{settling_events, with_answer, with_arrival, with_good, work_events};
+ghost use Rattle.osb_network.specs.Settling.{worked_well, IsPartWay};
+ghost use Rattle.osb_network.specs.Steps.{cell_step};
 ghost use Rattle.osb_network.specs.Truth as truth;
+ghost use Rattle.osb_binding_network.specs.Allowed.{needs_fetch};
+ghost use Rattle.osb_binding_network.specs.Well.{IsWell};
 ghost use Rattle.osb_binding_network.specs.Binding as spec;
 ghost use Rattle.osb_binding_network.specs.declared.event.BindingEvent.{BindingEvent};
 
 use crate::BindingEvent;
 use crate::allowed::{Allowed, is_ready, needs_fetch, of_binding};
-use osb_instance::{Holding, HoldingPhase};
+use osb_instance::{Holding, HoldingPhase, WorkOutcome};
 use osb_message::Memory;
 use osb_network::{Event, Instance, Order, Step};
 use std::alloc::Global;
@@ -115,7 +122,7 @@ impl BindingParts {
     }
 
     // An event of the life.
-    fn lives(&mut self, alloc: Global, event: Event, chosen: u64) -> Result<Step, Memory>
+    fn live(&mut self, alloc: Global, event: Event, chosen: u64) -> Result<Step, Memory>
         ensures cell { OnOk result (self.new ≡ spec.lived self.old event chosen) }
         ensures err { OnErr result (self.new ≡ self.old) }
     {
@@ -156,7 +163,7 @@ impl BindingParts {
         let Some(event) = let_happen else {
             return Ok(Step::Skipped);
         };
-        self.lives(alloc, event, chosen)
+        self.live(alloc, event, chosen)
     }
 
     // A Fetch arrives at the broker.
@@ -184,7 +191,7 @@ impl BindingParts {
         if !needs_fetch(&self.life, at) {
             return Ok(Step::Skipped);
         }
-        let step = self.lives(alloc, Event::Take { at }, 0)?;
+        let step = self.live(alloc, Event::Take { at }, 0)?;
         self.recorded = credentials;
         Ok(step)
     }
@@ -218,5 +225,119 @@ impl BindingParts {
             BindingEvent::TakeFetched { at, fetched } => self.take_fetched(alloc, at, fetched),
             BindingEvent::Forget => Ok(self.forget(allowed.ended)),
         }
+    }
+
+    // ---- fault-free rounds
+
+    // An event of the life, after which the credentials are what they should be.
+    fn lives(&mut self, alloc: Global, event: Event, chosen: u64) -> Result<(), Memory>
+        ensures life { OnOk result (self.new.life ≡ cell_step self.old.life event) }
+        ensures err { OnErr result (self.new.life ≡ self.old.life) }
+        ensures well { IsWell self.old → IsWell self.new }
+    {
+        self.live(alloc, event, chosen)?;
+        Ok(())
+    }
+
+    // The pending work, or the operation that runs, has gone well for the resource, and left its credentials.
+    fn go_well(&mut self, alloc: Global) -> Result<(), Memory>
+        ensures life { OnOk result (self.new.life ≡ with_good self.old.life) }
+        ensures err { OnErr result (self.new.life ≡ self.old.life) }
+        ensures well { IsWell self.old → IsWell self.new }
+    {
+        let event = self.life.good_work();
+        self.lives(alloc, event, self.resource)
+    }
+
+    // The pending work ends well, if there is some.
+    fn work_well(&mut self, alloc: Global) -> Result<(), Memory>
+        ensures life { OnOk result (self.new.life ≡ worked_well self.old.life) }
+        ensures err { OnErr result (IsPartWay work_events self.old.life self.new.life) }
+        ensures well { IsWell self.old → IsWell self.new }
+    {
+        self.go_well(alloc)?;
+        let outcome = WorkOutcome::Done;
+        self.lives(alloc, Event::End { outcome }, 0)
+    }
+
+    // The operation that runs ends well, if one does.
+    fn operate_well(&mut self, alloc: Global) -> Result<(), Memory>
+        ensures life { OnOk result (self.new.life ≡ operated_well self.old.life) }
+        ensures err { OnErr result (IsPartWay operation_events self.old.life self.new.life) }
+        ensures well { IsWell self.old → IsWell self.new }
+    {
+        self.go_well(alloc)?;
+        self.lives(alloc, Event::Finish { ok: true }, 0)
+    }
+
+    // What is out arrives.
+    fn arrive_out(&mut self, alloc: Global) -> Result<(), Memory>
+        ensures life { OnOk result (self.new.life ≡ with_arrival self.old.life) }
+        ensures err { OnErr result (self.new.life ≡ self.old.life) }
+        ensures well { IsWell self.old → IsWell self.new }
+    {
+        let event = self.life.arrival();
+        self.lives(alloc, event, 0)
+    }
+
+    // The place of the latest answer to a Fetch.
+    fn latest_fetched(&self) -> usize
+        ensures at { result ≡ length self.now.fetched - 1 }
+    {
+        self.fetched.len().saturating_sub(1)
+    }
+
+    // The answer at the place is taken together with that to a Fetch, which arrives before.
+    fn take_with_fetch(&mut self, alloc: Global, at: usize) -> Result<(), Memory>
+        requires needed { needs_fetch self.old.life at ≡ true }
+        ensures life { OnOk result (self.new.life ≡ cell_step self.old.life (Event.Take at)) }
+        ensures err { OnErr result (self.new.life ≡ self.old.life) }
+        ensures well { IsWell self.old → IsWell self.new }
+    {
+        self.life.agreement();
+        self.fetch()?;
+        let fetched = self.latest_fetched();
+        self.take_fetched(alloc, at, fetched)?;
+        Ok(())
+    }
+
+    // The latest answer is taken, with a Fetch's if that is needed.
+    fn take_latest(&mut self, alloc: Global) -> Result<(), Memory>
+        ensures life { OnOk result (self.new.life ≡ with_answer self.old.life) }
+        ensures err { OnErr result (self.new.life ≡ self.old.life) }
+        ensures well { IsWell self.old → IsWell self.new }
+    {
+        let at = self.life.given().len().saturating_sub(1);
+        if needs_fetch(&self.life, at) {
+            return self.take_with_fetch(alloc, at);
+        }
+        self.lives(alloc, Event::Take { at }, 0)
+    }
+
+    // A fault-free round.
+    fn round(&mut self, alloc: Global) -> Result<(), Memory>
+        ensures life { OnOk result (self.new.life ≡ after_round self.old.life) }
+        ensures err { OnErr result (IsPartWay round_events self.old.life self.new.life) }
+        ensures well { IsWell self.old → IsWell self.new }
+    {
+        self.lives(alloc, Event::Timeout, 0)?;
+        self.work_well(alloc)?;
+        self.operate_well(alloc)?;
+        self.lives(alloc, Event::Send, 0)?;
+        self.arrive_out(alloc)?;
+        self.work_well(alloc)?;
+        self.take_latest(alloc)
+    }
+
+    // Three fault-free rounds.
+    pub(crate) fn rounds(&mut self, alloc: Global) -> Result<(), Memory>
+        ensures life { OnOk result (self.new.life ≡ settled_cell self.old.life) }
+        ensures err { OnErr result (IsPartWay settling_events self.old.life self.new.life) }
+        ensures well { IsWell self.old → IsWell self.new }
+    {
+        self.round(alloc)?;
+        self.round(alloc)?;
+        self.round(alloc)?;
+        Ok(())
     }
 }

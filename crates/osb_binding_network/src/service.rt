@@ -1,9 +1,12 @@
 //! An instance and its bindings.
-ghost use Rattle.std.specs.Prelude.{◌≡◌, ◌≢◌, ℕ, None, Some, IfSome, IsSome, OnOk, OnErr, option_copied, option_map};
+ghost use Rattle.std.specs.Prelude.{◌≡◌, ◌≢◌, ℕ, true, false, None, Some, Ok, IfSome, IsSome, OnOk, OnErr, option_copied, option_map};
 ghost use Rattle.std.specs.BTreeMap as tree;
 ghost use Rattle.std.specs.FinMap as finite;
 ghost use Rattle.std.specs.Ordering.{nat_cmp};
-ghost use Rattle.osb_network.specs.Cell.{empty_cell};
+ghost use Rattle.osb_network.specs.Cell.{IsPossible, empty_cell};
+ghost use Rattle.osb_network.specs.Settling.{settled_cell, settling_events, HasNumbers, IsPartWay, IsSettled};
+ghost use Rattle.osb_network.specs.declared.step.Step.{Step};
+ghost use Rattle.osb_binding_network.specs.Settled.{SettlesAt};
 ghost use Rattle.osb_binding_network.specs.Agreement.{BindingAgrees, ServiceAgrees};
 ghost use Rattle.osb_binding_network.specs.Allowed as allowed;
 ghost use Rattle.osb_binding_network.specs.Binding.{binding_step, empty_binding};
@@ -96,6 +99,39 @@ fn step_at(
     binding.step(alloc, allowed, event)
 }
 
+// Settles the instance by itself.
+fn settle_life(instance: &mut Instance, alloc: Global) -> Result<Step, Memory>
+    ensures instance { OnOk result (instance.new ≡ settled_cell instance.old) }
+    ensures err { OnErr result (IsPartWay settling_events instance.old instance.new) }
+    ensures settled { HasNumbers 3 instance.old → OnOk result (IsSettled instance.new) }
+    ensures possible { IsPossible instance.new }
+{
+    let settled = instance.settle(alloc);
+    instance.agreement();
+    match settled {
+        Ok(()) => Ok(Step::Applied),
+        Err(fault) => Err(fault),
+    }
+}
+
+// Settles the binding at a key, if there is one.
+fn settle_at(
+    bindings: &mut BTreeMap<BindingId, ServiceBinding>,
+    alloc: Global,
+    id: BindingId,
+) -> Result<Step, Memory>
+    ensures here { SettlesAt result (tree.get nat_cmp bindings.old id) (tree.get nat_cmp bindings.new id) }
+    ensures others { (other : ℕ) → other ≢ id
+        → tree.get nat_cmp bindings.new other ≡ tree.get nat_cmp bindings.old other }
+    ensures well { IfSome (tree.get nat_cmp bindings.new id) IsWell }
+{
+    let Some(binding) = bindings.get_mut(&id) else {
+        return Ok(Step::Skipped);
+    };
+    binding.settle(alloc)?;
+    Ok(Step::Applied)
+}
+
 #[tactic(auto, using(osb_message::proofs::Maps::tree_steps))]
 impl ServiceInstance {
     /// An instance that nothing has happened to, with no bindings. It takes no memory.
@@ -158,6 +194,65 @@ impl ServiceInstance {
         };
         self.agreement();
         step
+    }
+
+    /// Cleans up after the instance, as it ends once nothing goes wrong any more: three fault-free rounds of the instance,
+    /// as at [`Instance::settle`]. No rule stops or puts off anything in them, if the platform keeps its rules. If it
+    /// doesn't, nothing happens: [`Step::Skipped`].
+    ///
+    /// The instance has converged then: the platform records `ready`, `gone` or `unsettled`, or nothing as before. That
+    /// needs three numbers for requests.
+    ///
+    /// # Errors
+    ///
+    /// [`Memory`] if an allocation failed. The first few of the events of three rounds have happened then. Settle the
+    /// instance again to go on from there.
+    pub fn settle(&mut self, alloc: Global) -> Result<Step, Memory>
+        ensures rules { self.new.rules ≡ self.old.rules }
+        ensures bindings { self.new.bindings ≡ self.old.bindings }
+        ensures skipped { self.old.rules.platform ≡ false
+            → (result ≡ Ok Step.Skipped) × (self.new.instance ≡ self.old.instance) }
+        ensures instance { self.old.rules.platform ≡ true
+            → OnOk result (self.new.instance ≡ settled_cell self.old.instance) }
+        ensures err { OnErr result (IsPartWay settling_events self.old.instance self.new.instance) }
+        ensures settled { self.old.rules.platform ≡ true → HasNumbers 3 self.old.instance
+            → OnOk result (IsSettled self.new.instance) }
+        ensures agrees { ServiceAgrees self.new }
+    {
+        if !self.rules.platform {
+            self.agreement();
+            return Ok(Step::Skipped);
+        }
+        let settled = settle_life(&mut self.instance, alloc);
+        self.agreement();
+        settled
+    }
+
+    /// Cleans up after the binding with the id: three fault-free rounds of the binding, as at
+    /// [`ServiceInstance::settle`]. If a Poll says that its making has succeeded, a Fetch follows. If there is no binding
+    /// with the id, or the platform doesn't keep its rules, nothing happens: [`Step::Skipped`].
+    ///
+    /// # Errors
+    ///
+    /// As at [`ServiceInstance::settle`].
+    pub fn settle_binding(&mut self, alloc: Global, id: BindingId) -> Result<Step, Memory>
+        ensures rules { self.new.rules ≡ self.old.rules }
+        ensures instance { self.new.instance ≡ self.old.instance }
+        ensures others { (other : ℕ) → other ≢ id
+            → finite.get self.new.bindings other ≡ finite.get self.old.bindings other }
+        ensures skipped { self.old.rules.platform ≡ false → (result ≡ Ok Step.Skipped)
+            × (finite.get self.new.bindings id ≡ finite.get self.old.bindings id) }
+        ensures here { self.old.rules.platform ≡ true → SettlesAt result
+            (finite.get self.old.bindings id) (finite.get self.new.bindings id) }
+        ensures agrees { ServiceAgrees self.new }
+    {
+        if !self.rules.platform {
+            self.agreement();
+            return Ok(Step::Skipped);
+        }
+        let settled = settle_at(&mut self.bindings, alloc, id);
+        self.agreement();
+        settled
     }
 
     // Takes a binding in to which nothing has happened yet. If there is one with the id, nothing changes.

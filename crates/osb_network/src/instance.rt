@@ -3,7 +3,8 @@ ghost use Rattle.std.specs.Prelude.{◌≡◌, ℕ, ◌+◌, false, Ok, Some, If
 ghost use Rattle.osb_network.specs.Agreement.{Agrees};
 ghost use Rattle.osb_network.specs.Cell.{IsPossible, empty_cell};
 ghost use Rattle.osb_network.specs.Settling.{after_round, settled_cell, HasNumbers, IsSettled, ThreeRoundsSettle};
-ghost use Rattle.osb_network.specs.Settling.{number_out, operated_well, with_answer, with_arrival, with_good, worked_well};
+ghost use Rattle.osb_network.specs.Settling.{arrival, good_work, latest_answer, number_out};
+ghost use Rattle.osb_network.specs.Settling.{operated_well, with_answer, with_arrival, with_good, worked_well};
 ghost use Rattle.osb_network.specs.Settling.{operation_events, round_events, settling_events, work_events};
 ghost use Rattle.osb_network.specs.Settling.{IsPartWay, SettlesByEvents};
 ghost use Rattle.osb_network.specs.Steps.{applies, cell_step, cell_steps, step_of, takes_memory};
@@ -123,13 +124,38 @@ impl Instance {
         let _ = &self.parts;
     }
 
+    /// The event by which what is under way goes well for the resource: pending work, or the operation that runs. If
+    /// nothing is under way, the event doesn't apply. It takes no memory.
+    pub fn good_work(&self) -> Event
+        ensures event { result ≡ good_work self.now }
+    {
+        let resource = good_resource(self.parts.holding.work(), table_row(self.parts.holding));
+        Event::Work { resource }
+    }
+
+    /// The event by which the request that is out arrives. If none is out, the event doesn't apply. It takes no memory.
+    pub fn arrival(&self) -> Event
+        ensures event { result ≡ arrival self.now }
+    {
+        let attempt = self.number_out();
+        Event::Arrive { attempt }
+    }
+
+    /// The event by which the latest answer is taken. If none was ever given, the event doesn't apply. It takes no memory.
+    pub fn latest_answer(&self) -> Event
+        ensures event { result ≡ latest_answer self.now }
+    {
+        let at = self.parts.given.len().saturating_sub(1);
+        Event::Take { at }
+    }
+
     // The pending work, or the operation that runs, has gone well for the resource.
     fn go_well(&mut self, alloc: Global) -> Result<(), Memory>
         ensures cell { OnOk result (self.new ≡ with_good self.old) }
         ensures err { OnErr result (self.new ≡ self.old) }
     {
-        let resource = good_resource(self.parts.holding.work(), table_row(self.parts.holding));
-        self.step(alloc, Event::Work { resource })?;
+        let event = self.good_work();
+        self.step(alloc, event)?;
         Ok(())
     }
 
@@ -172,8 +198,8 @@ impl Instance {
         ensures cell { OnOk result (self.new ≡ with_arrival self.old) }
         ensures err { OnErr result (self.new ≡ self.old) }
     {
-        let attempt = self.number_out();
-        self.step(alloc, Event::Arrive { attempt })?;
+        let event = self.arrival();
+        self.step(alloc, event)?;
         Ok(())
     }
 
@@ -182,8 +208,8 @@ impl Instance {
         ensures cell { OnOk result (self.new ≡ with_answer self.old) }
         ensures err { OnErr result (self.new ≡ self.old) }
     {
-        let at = self.parts.given.len().saturating_sub(1);
-        self.step(alloc, Event::Take { at })?;
+        let event = self.latest_answer();
+        self.step(alloc, event)?;
         Ok(())
     }
 

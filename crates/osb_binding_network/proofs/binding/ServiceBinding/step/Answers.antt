@@ -1,4 +1,3 @@
-use Rattle.std.proofs.Common.{subst, sym}
 use Rattle.osb_binding_network.proofs.Credentials.{well_after}
 use Rattle.osb_binding_network.proofs.binding.ServiceBinding.step.Goals as goal
 

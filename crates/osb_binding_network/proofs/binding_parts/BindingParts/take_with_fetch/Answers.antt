@@ -1,0 +1,24 @@
+use Rattle.std.proofs.Common.{subst, sym}
+use Rattle.osb_network.specs.Cell.{IsPossible}
+use Rattle.osb_binding_network.specs.Binding.{BindingCell}
+use Rattle.osb_binding_network.specs.Well.{IsWell}
+use Rattle.osb_binding_network.proofs.Fetches.{arrived_well, fetched_life, fetched_well}
+use Rattle.osb_binding_network.proofs.binding_parts.BindingParts.take_with_fetch.Goals as goal
+
+pub returns-clause-life : goal.returns-clause-life
+returns-clause-life c =
+    fetched_life c.args.self.now c.fetch.new.self c.take_fetched.new.self c.args.at
+    c.latest_fetched-fetched.result
+    (subst (λ (b : BindingCell). IsPossible b.life) c.self.view_is c.agreement.ensures.possible)
+    c.requires.needed c.in_ok-fetch.ensures.cell
+    c.latest_fetched-fetched.ensures.at c.in_ok-take_fetched.ensures.cell
+
+pub returns-in_err-take_fetched-clause-well : goal.returns-in_err-take_fetched-clause-well
+returns-in_err-take_fetched-clause-well c = λ h.
+    subst IsWell (sym c.in_err-take_fetched.ensures.err)
+    (arrived_well c.args.self.now c.fetch.new.self c.in_ok-fetch.ensures.cell h)
+
+pub returns-clause-well : goal.returns-clause-well
+returns-clause-well c =
+    fetched_well c.args.self.now c.fetch.new.self c.take_fetched.new.self c.args.at c.latest_fetched-fetched.result
+    c.in_ok-fetch.ensures.cell c.in_ok-take_fetched.ensures.cell

@@ -1,0 +1,17 @@
+-- What settling makes of a binding.
+use Rattle.std.specs.Prelude.{◌≡◌, ⊤, Option, Some, None, OnErr, OnOk, Result}
+use Rattle.osb_network.specs.Settling.{settled_cell, settling_events, HasNumbers, IsPartWay, IsSettled}
+use Rattle.osb_binding_network.specs.Binding.{BindingCell}
+
+pub record IsSettledTo {T E : Type 0} (result : Result T E) (old new : BindingCell) : Type 0 where
+  -- three fault-free rounds of its life, or some of their events where memory ran out
+  pub life : OnOk result (new.life ≡ settled_cell old.life)
+  pub err : OnErr result (IsPartWay settling_events old.life new.life)
+  -- it has converged then
+  pub settled : HasNumbers 3 old.life → OnOk result (IsSettled new.life)
+
+-- a binding that is there is settled; without one nothing happens
+abbrev pub SettlesAt : {T E : Type 0} → Result T E → Option BindingCell → Option BindingCell → Type 0
+SettlesAt result None None = ⊤
+SettlesAt result (Some old) (Some new) = IsSettledTo result old new
+SettlesAt result old new = ⊥
