@@ -1,7 +1,7 @@
 -- An instance with many bindings: what goes together with each.
-use Rattle.std.proofs.Common.{◌≡◌, ◌≢◌, ℕ, Bool, true, false, cond, List, [], ◌∷◌, refl, sym, ◌∙◌, ap, subst, ⊎_elim}
+use Rattle.std.proofs.Common.{◌≡◌, ◌≢◌, ℕ, zero, suc, Bool, true, false, cond, List, [], ◌∷◌, refl, sym, ◌∙◌, ap, subst, ⊎_elim}
 use Rattle.std.specs.Prelude.{Option, Some, None, IsSome, IfSome, Result, Ok, Err, OnOk, OnErr, option_map, ◌&&◌}
-use Rattle.std.specs.Prelude.{if◌then◌else◌}
+use Rattle.std.specs.Prelude.{if◌then◌else◌, length, slice_get}
 use Rattle.std.specs.BTreeMap as tree
 use Rattle.std.specs.BTreeMap.{BTreeMap}
 use Rattle.std.specs.Cmp.{nat_cmp_total}
@@ -15,22 +15,24 @@ use Rattle.osb_instance.specs.Held.{nothing_held}
 use Rattle.osb_network.specs.declared.event.Event.{Event}
 use Rattle.osb_network.specs.declared.order.Order.{Order}
 use Rattle.osb_network.specs.Cell.{Cell, IsPossible, empty_cell}
-use Rattle.osb_network.specs.Settling.{settled_cell, settling_events, IsPartWay}
+use Rattle.osb_network.specs.Settling.{after_first, settled_cell, settling_events, IsPartWay}
 use Rattle.osb_network.specs.Steps.{cell_step}
 use Rattle.osb_network.proofs.Agreements.{agrees}
 use Rattle.osb_network.proofs.Kept.{kept_step}
+use Rattle.osb_network.proofs.PartWay.{settles_by_events}
 use Rattle.osb_binding_network.specs.declared.rules.Rules.{Rules}
 use Rattle.osb_binding_network.specs.declared.event.BindingEvent.{BindingEvent}
 use Rattle.osb_binding_network.specs.Agreement.{BindingAgrees, ServiceAgrees}
-use Rattle.osb_binding_network.specs.Allowed.{may_bind, may_create, may_remove, may_work, of_instance}
-use Rattle.osb_binding_network.specs.Binding.{BindingCell, binding_step, empty_binding}
+use Rattle.osb_binding_network.specs.Allowed.{may_bind, may_create, may_remove, may_work, needs_fetch, of_binding, of_instance}
+use Rattle.osb_binding_network.specs.Binding.{BindingCell, binding_step, empty_binding, is_fetchable, lived_if, taken_with}
 use Rattle.osb_binding_network.specs.Possible.{IsOf, IsService}
 use Rattle.osb_binding_network.specs.Service.{every, each_of}
 use Rattle.osb_binding_network.specs.Settled.{SettlesAt}
 use Rattle.osb_binding_network.specs.Well.{IsWell}
 use Rattle.osb_binding_network.proofs.Bindings.{kept_step_binding}
 use Rattle.osb_binding_network.proofs.Credentials.{credentials_agree, well_empty, well_step}
-use Rattle.osb_binding_network.proofs.Ended.{ended_by}
+use Rattle.osb_binding_network.proofs.Ended.{ended_by, tombstone_stays}
+use Rattle.osb_binding_network.proofs.Fetches.{same_forgotten, taken_forgotten}
 use Rattle.osb_binding_network.proofs.Kept.{instance_after, kept_instance, related_empty}
 use Rattle.osb_binding_network.proofs.PutOff.{puts_off_rightly}
 use Rattle.osb_binding_network.proofs.Rounds.{binding_settled, instance_settled}
@@ -65,6 +67,11 @@ each_of_tree p m ordered =
 
 -- ---- an event of the instance
 
+ended_after : {T E : Type 0} (x : Result T E) (i n : Cell) (f : Event) → OnOk x (n ≡ cell_step i f) → OnErr x (n ≡ i)
+    → i.held.tombstone ≡ true → n.held.tombstone ≡ true
+ended_after (Ok v) i n f ok err h = ap (λ (c : Cell). c.held.tombstone) ok ∙ tombstone_stays i f h
+ended_after (Err v) i n f ok err h = ap (λ (c : Cell). c.held.tombstone) err ∙ h
+
 one_after : {T E : Type 0} (x : Result T E) (r : Rules) (i n : Cell) (o : Option BindingCell) (remove work : Bool)
     (f e : Event) → (remove ≡ true → IfSome o (λ b. may_remove r b.life ≡ true))
     → (work ≡ true → IfSome o (λ b. may_work r b.life ≡ true))
@@ -75,6 +82,7 @@ one_after x r i n (Some b) remove work f e may_go may is ok err possible of = re
   well = of.well;
   related = instance_after x r i n b.life f (of_instance remove work i e) is ok err
       (kept_instance r i b.life remove work e may_go may possible of.related) of.related;
+  ended = λ gone. ended_after x i n f ok err (of.ended gone);
 }
 
 possible_after : {T E : Type 0} (x : Result T E) (i n : Cell) (f : Event) → OnOk x (n ≡ cell_step i f)
@@ -97,33 +105,57 @@ all_after x r i n m remove work f e goes works is ok err h = record {
 
 -- ---- an event of a binding
 
+forgotten_lived : (c : BindingCell) (e : Option Event) (x : ℕ) → (lived_if c e x).forgotten ≡ c.forgotten
+forgotten_lived c None x = refl
+forgotten_lived c (Some e) x = refl
+
+forgot_ended : (x y : Bool) (c : BindingCell) (P : Type 0) → (x ≡ true → P) → (c.forgotten ≡ true → P)
+    → (if x && y then record c { forgotten = true } else c).forgotten ≡ true → P
+forgot_ended true true c P now was gone = now refl
+forgot_ended true false c P now was gone = was gone
+forgot_ended false y c P now was gone = was gone
+
+-- a tombstone is deleted only once the instance has one
+forgotten_after : (create work ended : Bool) (b : BindingCell) (e : BindingEvent) (P : Type 0) → (ended ≡ true → P)
+    → (b.forgotten ≡ true → P) → (binding_step create work ended b e).forgotten ≡ true → P
+forgotten_after create work ended b (BindingEvent.Life e x) P now was gone =
+    was (sym (forgotten_lived b (of_binding create work b.forgotten b.retrievable b.life e) x) ∙ gone)
+forgotten_after create work ended b BindingEvent.Fetch P now was gone =
+    was (sym (same_forgotten (is_fetchable b.life.held) _ b refl) ∙ gone)
+forgotten_after create work ended b (BindingEvent.TakeFetched at of) P now was gone =
+    was (sym (taken_forgotten b at (slice_get b.fetched of)) ∙ gone)
+forgotten_after create work ended b BindingEvent.Forget P now was gone =
+    forgot_ended ended b.life.held.tombstone b P now was gone
+
 mapped_after : (r : Rules) (i : Cell) (o : Option BindingCell) (create work ended : Bool) (e : BindingEvent)
-    → create ≡ may_create r i → work ≡ may_bind r i → IfSome o (IsOf r i)
+    → create ≡ may_create r i → work ≡ may_bind r i → ended ≡ i.held.tombstone → IfSome o (IsOf r i)
     → IfSome (option_map (λ b. binding_step create work ended b e) o) (IsOf r i)
-mapped_after r i None create work ended e comes works of = tt
-mapped_after r i (Some b) create work ended e comes works of = record {
+mapped_after r i None create work ended e comes works ends of = tt
+mapped_after r i (Some b) create work ended e comes works ends of = record {
   well = well_step create work ended b e of.well;
   related = kept_step_binding r i b create work ended e (λ t. sym comes ∙ t) (λ t. sym works ∙ t)
       of.well.credited.possible of.related;
+  ended = λ gone. forgotten_after create work ended b e (i.held.tombstone ≡ true) (λ t. sym ends ∙ t) of.ended gone;
 }
 
 here_after : {T E : Type 0} (x : Result T E) (r : Rules) (i : Cell) (o n : Option BindingCell) (create work ended : Bool)
-    (e : BindingEvent) → create ≡ may_create r i → work ≡ may_bind r i
+    (e : BindingEvent) → create ≡ may_create r i → work ≡ may_bind r i → ended ≡ i.held.tombstone
     → OnOk x (n ≡ option_map (λ b. binding_step create work ended b e) o) → OnErr x (n ≡ o)
     → IfSome o (IsOf r i) → IfSome n (IsOf r i)
-here_after (Ok v) r i o n create work ended e comes works ok err of =
-    subst (λ y. IfSome y (IsOf r i)) (sym ok) (mapped_after r i o create work ended e comes works of)
-here_after (Err v) r i o n create work ended e comes works ok err of = subst (λ y. IfSome y (IsOf r i)) (sym err) of
+here_after (Ok v) r i o n create work ended e comes works ends ok err of =
+    subst (λ y. IfSome y (IsOf r i)) (sym ok) (mapped_after r i o create work ended e comes works ends of)
+here_after (Err v) r i o n create work ended e comes works ends ok err of = subst (λ y. IfSome y (IsOf r i)) (sym err) of
 
 pub each_after : {T E : Type 0} (x : Result T E) (r : Rules) (i : Cell) (old new : ℕ → Option BindingCell) (id : ℕ)
     (create work ended : Bool) (e : BindingEvent) → create ≡ may_create r i → work ≡ may_bind r i
+    → ended ≡ i.held.tombstone
     → OnOk x (new id ≡ option_map (λ b. binding_step create work ended b e) (old id)) → OnErr x (new id ≡ old id)
     → ((other : ℕ) → other ≢ id → new other ≡ old other) → IsService r i old → IsService r i new
-each_after x r i old new id create work ended e comes works ok err others h = record {
+each_after x r i old new id create work ended e comes works ends ok err others h = record {
   possible = h.possible;
   each = λ q. ⊎_elim
       (λ same. subst (λ (k : ℕ). IfSome (new k) (IsOf r i)) (sym same)
-      (here_after x r i (old id) (new id) create work ended e comes works ok err (h.each id)))
+      (here_after x r i (old id) (new id) create work ended e comes works ends ok err (h.each id)))
       (λ apart. subst (λ y. IfSome y (IsOf r i)) (sym (others q apart)) (h.each q))
       (cases_eq q id);
 }
@@ -155,6 +187,7 @@ pub fresh_of : (r : Rules) (i : Cell) (o : Order) (retrievable : Bool) → IsOf 
 fresh_of r i o retrievable = record {
   well = well_empty o retrievable;
   related = related_empty r i (empty_cell o) refl refl refl;
+  ended = λ gone. cc;
 }
 
 -- ---- what is known of all that can come about
@@ -171,6 +204,7 @@ binding_agrees r i b possible of = record {
   life = agrees b.life of.well.credited.possible;
   credentials = credentials_agree b of.well.credited;
   held = held_as b b.forgotten refl of.well;
+  ended = of.ended;
   together = together r i b.life of.related (agrees i possible) (agrees b.life of.well.credited.possible)
       of.well.credited.possible;
   put_off = puts_off_rightly r i b.life of.related possible;
@@ -191,6 +225,20 @@ service_agrees r i m h = record {
 
 -- ---- rounds
 
+some_ended : (n : ℕ) (fs : List (Cell → Event)) (i : Cell) → i.held.tombstone ≡ true
+    → (after_first n fs i).held.tombstone ≡ true
+some_ended zero fs i h = h
+some_ended (suc n) [] i h = h
+some_ended (suc n) (f ∷ fs) i h = some_ended n fs (cell_step i (f i)) (tombstone_stays i (f i) h)
+
+settled_ended : {T E : Type 0} (x : Result T E) (i n : Cell) → OnOk x (n ≡ settled_cell i)
+    → OnErr x (IsPartWay settling_events i n) → i.held.tombstone ≡ true → n.held.tombstone ≡ true
+settled_ended (Ok v) i n ok err h =
+    ap (λ (c : Cell). c.held.tombstone) (ok ∙ settles_by_events i)
+    ∙ some_ended (length settling_events) settling_events i h
+settled_ended (Err v) i n ok err h =
+    ap (λ (c : Cell). c.held.tombstone) err.2 ∙ some_ended err.0 settling_events i h
+
 one_settled : {T E : Type 0} (x : Result T E) (r : Rules) (i n : Cell) (o : Option BindingCell) → r.platform ≡ true
     → OnOk x (n ≡ settled_cell i) → OnErr x (IsPartWay settling_events i n) → IsPossible i → IfSome o (IsOf r i)
     → IfSome o (IsOf r n)
@@ -199,6 +247,7 @@ one_settled x r i n (Some b) p ok err possible of = record {
   well = of.well;
   related = instance_settled x r i n b.life p ok err
       (record { instance = possible; binding = of.well.credited.possible; related = of.related });
+  ended = λ gone. settled_ended x i n ok err (of.ended gone);
 }
 
 pub service_settled : {T E : Type 0} (x : Result T E) (r : Rules) (i n : Cell) (old : ℕ → Option BindingCell)
@@ -216,6 +265,7 @@ here_settled x r i (Some b) (Some d) p here well possible of = record {
   well = well;
   related = binding_settled x r i b.life d.life p here.life here.err
       (record { instance = possible; binding = of.well.credited.possible; related = of.related });
+  ended = λ gone. of.ended (sym here.forgotten ∙ gone);
 }
 here_settled x r i None (Some d) p here well possible of = absurd here
 here_settled x r i (Some b) None p here well possible of = absurd here

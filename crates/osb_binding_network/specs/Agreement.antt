@@ -1,5 +1,5 @@
 -- An instance and its bindings agree.
-use Rattle.std.specs.Prelude.{◌≡◌, ℕ, IfSome}
+use Rattle.std.specs.Prelude.{◌≡◌, ℕ, true, IfSome}
 use Rattle.std.specs.FinMap as map
 use Rattle.osb_network.specs.Agreement.{Agrees}
 use Rattle.osb_network.specs.Cell.{Cell}
@@ -16,6 +16,8 @@ pub record BindingAgrees (rules : Rules) (instance : Cell) (b : BindingCell) : T
   pub credentials : CredentialsAgree b
   -- row and work are what the broker holds, also once it has deleted the tombstone
   pub held : ((held_now b).row ≡ b.life.held.row) × ((held_now b).work ≡ b.life.held.work)
+  -- the broker deletes the tombstone only once the instance has one
+  pub ended : b.forgotten ≡ true → instance.held.tombstone ≡ true
   -- it goes together with its instance
   pub together : GoTogether rules instance b.life
   -- and only a Bind and a Deprovision are ever put off

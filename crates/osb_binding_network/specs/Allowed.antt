@@ -8,7 +8,7 @@ use Rattle.osb_broker.specs.declared.row.BrokerRow.{BrokerRow}
 use Rattle.osb_platform.specs.declared.state.State.{State}
 use Rattle.osb_platform.specs.State.{is_polling, state_after}
 use Rattle.osb_instance.specs.declared.record.Sent.{Sent}
-use Rattle.osb_instance.specs.Begin as instance
+use Rattle.osb_instance.specs.Begin as asked
 use Rattle.osb_instance.specs.Begin.{is_held, is_provision, is_there}
 use Rattle.osb_instance.specs.Fits as fits
 use Rattle.osb_instance.specs.Held.{Held}
@@ -61,7 +61,7 @@ may_bind rules instance = not rules.broker || is_there instance.held instance.or
 -- something begins when the request arrives
 abbrev pub begins_by : Cell → Option Sent → Bool
 begins_by cell None = false
-begins_by cell (Some sent) = instance.begins cell.order.mode cell.held sent.request cell.order.attributes
+begins_by cell (Some sent) = asked.begins cell.order.mode cell.held sent.request cell.order.attributes
 
 abbrev pub begins : Cell → ℕ → Bool
 begins cell attempt = begins_by cell (sent_as cell.sent attempt)

@@ -7,6 +7,8 @@ pub record IsSettledTo {T E : Type 0} (result : Result T E) (old new : BindingCe
   -- three fault-free rounds of its life, or some of their events where memory ran out
   pub life : OnOk result (new.life ≡ settled_cell old.life)
   pub err : OnErr result (IsPartWay settling_events old.life new.life)
+  -- a tombstone is deleted in none of them
+  pub forgotten : new.forgotten ≡ old.forgotten
   -- it has converged then
   pub settled : HasNumbers 3 old.life → OnOk result (IsSettled new.life)
 

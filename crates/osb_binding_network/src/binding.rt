@@ -68,6 +68,7 @@ impl ServiceBinding {
         ensures life { OnOk result (self.new.life ≡ settled_cell self.old.life) }
         ensures err { OnErr result (IsPartWay settling_events self.old.life self.new.life) }
         ensures well { IsWell self.new }
+        ensures forgotten { self.new.forgotten ≡ self.old.forgotten }
         ensures settled { HasNumbers 3 self.old.life → OnOk result (IsSettled self.new.life) }
     {
         self.agreement();

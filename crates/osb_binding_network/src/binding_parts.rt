@@ -65,12 +65,12 @@ fn is_under_way(holding: Holding) -> bool
 }
 
 // The resource's credentials after an event.
-fn resource_after(holding: Holding, event: Event, chosen: u64, before: u64) -> u64
-    ensures after { result ≡ spec.resource_after holding event chosen before }
+fn resource_after(holding: Holding, event: Event, chosen: u64, left: u64) -> u64
+    ensures after { result ≡ spec.resource_after holding event chosen left }
 {
     match event {
         Event::Work { .. } if is_under_way(holding) => chosen,
-        _ => before,
+        _ => left,
     }
 }
 
@@ -234,6 +234,7 @@ impl BindingParts {
         ensures life { OnOk result (self.new.life ≡ cell_step self.old.life event) }
         ensures err { OnErr result (self.new.life ≡ self.old.life) }
         ensures well { IsWell self.old → IsWell self.new }
+        ensures forgotten { self.new.forgotten ≡ self.old.forgotten }
     {
         self.live(alloc, event, chosen)?;
         Ok(())
@@ -244,6 +245,7 @@ impl BindingParts {
         ensures life { OnOk result (self.new.life ≡ with_good self.old.life) }
         ensures err { OnErr result (self.new.life ≡ self.old.life) }
         ensures well { IsWell self.old → IsWell self.new }
+        ensures forgotten { self.new.forgotten ≡ self.old.forgotten }
     {
         let event = self.life.good_work();
         self.lives(alloc, event, self.resource)
@@ -254,6 +256,7 @@ impl BindingParts {
         ensures life { OnOk result (self.new.life ≡ worked_well self.old.life) }
         ensures err { OnErr result (IsPartWay work_events self.old.life self.new.life) }
         ensures well { IsWell self.old → IsWell self.new }
+        ensures forgotten { self.new.forgotten ≡ self.old.forgotten }
     {
         self.go_well(alloc)?;
         let outcome = WorkOutcome::Done;
@@ -265,6 +268,7 @@ impl BindingParts {
         ensures life { OnOk result (self.new.life ≡ operated_well self.old.life) }
         ensures err { OnErr result (IsPartWay operation_events self.old.life self.new.life) }
         ensures well { IsWell self.old → IsWell self.new }
+        ensures forgotten { self.new.forgotten ≡ self.old.forgotten }
     {
         self.go_well(alloc)?;
         self.lives(alloc, Event::Finish { ok: true }, 0)
@@ -275,6 +279,7 @@ impl BindingParts {
         ensures life { OnOk result (self.new.life ≡ with_arrival self.old.life) }
         ensures err { OnErr result (self.new.life ≡ self.old.life) }
         ensures well { IsWell self.old → IsWell self.new }
+        ensures forgotten { self.new.forgotten ≡ self.old.forgotten }
     {
         let event = self.life.arrival();
         self.lives(alloc, event, 0)
@@ -293,6 +298,7 @@ impl BindingParts {
         ensures life { OnOk result (self.new.life ≡ cell_step self.old.life (Event.Take at)) }
         ensures err { OnErr result (self.new.life ≡ self.old.life) }
         ensures well { IsWell self.old → IsWell self.new }
+        ensures forgotten { self.new.forgotten ≡ self.old.forgotten }
     {
         self.life.agreement();
         self.fetch()?;
@@ -306,6 +312,7 @@ impl BindingParts {
         ensures life { OnOk result (self.new.life ≡ with_answer self.old.life) }
         ensures err { OnErr result (self.new.life ≡ self.old.life) }
         ensures well { IsWell self.old → IsWell self.new }
+        ensures forgotten { self.new.forgotten ≡ self.old.forgotten }
     {
         let at = self.life.given().len().saturating_sub(1);
         if needs_fetch(&self.life, at) {
@@ -319,6 +326,7 @@ impl BindingParts {
         ensures life { OnOk result (self.new.life ≡ after_round self.old.life) }
         ensures err { OnErr result (IsPartWay round_events self.old.life self.new.life) }
         ensures well { IsWell self.old → IsWell self.new }
+        ensures forgotten { self.new.forgotten ≡ self.old.forgotten }
     {
         self.lives(alloc, Event::Timeout, 0)?;
         self.work_well(alloc)?;
@@ -334,6 +342,7 @@ impl BindingParts {
         ensures life { OnOk result (self.new.life ≡ settled_cell self.old.life) }
         ensures err { OnErr result (IsPartWay settling_events self.old.life self.new.life) }
         ensures well { IsWell self.old → IsWell self.new }
+        ensures forgotten { self.new.forgotten ≡ self.old.forgotten }
     {
         self.round(alloc)?;
         self.round(alloc)?;
