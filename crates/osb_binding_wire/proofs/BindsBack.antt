@@ -1,5 +1,5 @@
 -- The body of a Bind comes back, and keeps the further members.
-use Rattle.std.proofs.Common.{◌≡◌, ◌≢◌, ℕ, ◌≤◌, List, Some, Ok, IsUtf8, refl, ap, ◌∙◌, arith}
+use Rattle.std.proofs.Common.{◌≡◌, ℕ, ◌≤◌, List, Some, Ok, IsUtf8, refl, ap, ◌∙◌, arith}
 use Rattle.std.specs.Prelude.{codes, option_and_then}
 use Rattle.serde_json.specs.Data.{Data, string, object, Members, put, depth}
 use Rattle.serde_json.specs.Find.{as_str, get_member}

@@ -1,5 +1,5 @@
 -- Texts that are judged to be a request's are.
-use Rattle.std.proofs.Common.{◌≡◌, ℕ, Bool, true, false, not, ◌&&◌, cond, List, Ok, Err, refl}
+use Rattle.std.proofs.Common.{◌≡◌, Bool, true, false, not, ◌&&◌, cond, Ok, Err, refl}
 use Rattle.std.specs.Prelude.{Result}
 use Rattle.osb_binding.specs.declared.request.BindingRequest.{BindingRequest}
 use Rattle.osb_wire.specs.IdTexts.{number_of}

@@ -1,10 +1,10 @@
 -- What is asked for, and of which binding, comes back from the method and the path.
-use Rattle.std.proofs.Common.{◌≡◌, ◌≢◌, ℕ, Bool, true, false, List, ◌∷◌, ◌++◌, length, take, drop, All, [], Some, Ok, refl, ap, ◌∙◌}
+use Rattle.std.proofs.Common.{◌≡◌, ◌≢◌, ℕ, Bool, true, false, List, ◌++◌, take, drop, All, [], Some, Ok, refl, ap, ◌∙◌}
 use Rattle.std.specs.Prelude.{codes, option_map, option_and_then}
 use Rattle.std.proofs.lemmas.List.Elements.{All-append}
 use Rattle.std.proofs.Math.Seq.{take-append_seam, drop-append_seam}
 use Rattle.osb_wire.specs.IdTexts.{number_of}
-use Rattle.osb_wire.specs.Paths.{slash_at, plain_path, segment_of, segment_text}
+use Rattle.osb_wire.specs.Paths.{plain_path, segment_of, segment_text}
 use Rattle.osb_wire.specs.Targets.{instances_path, last_operation, place_below, after_front, below_instances, Place}
 use Rattle.osb_wire.proofs.IdBytes.{plain_segment}
 use Rattle.osb_wire.proofs.Paths.{no_mark_in, no_mark_in_segment, no_mark_in_front, slash_before, place_of_segment, place_of_operation, front_back}

@@ -1,5 +1,5 @@
 -- Whether a Bind names the application that it binds (section Binding).
-use Rattle.std.specs.Prelude.{ℕ, Bool, false, ◌||◌, List, codes, Option, option_map, unwrap_or}
+use Rattle.std.specs.Prelude.{ℕ, Bool, false, ◌||◌, List, codes, option_map, unwrap_or}
 use Rattle.serde_json.specs.Data.{Data}
 use Rattle.serde_json.specs.Find as json
 use Rattle.osb_wire.specs.Bodies.{object_in}

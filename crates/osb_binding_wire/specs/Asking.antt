@@ -1,5 +1,5 @@
 -- What a request asks of a binding.
-use Rattle.std.specs.Prelude.{ℕ, Bool, Option, Some, None, option_map}
+use Rattle.std.specs.Prelude.{ℕ, Option, Some, None}
 use Rattle.osb_message.specs.declared.messages.Kind.{Kind}
 use Rattle.osb_message.specs.declared.messages.Kind.TheVariants.{Poll}
 use Rattle.osb_message.specs.declared.messages.Request.{Request}

@@ -1,10 +1,8 @@
 -- Which binding a method and a path ask of.
 use Rattle.std.specs.Prelude.{ℕ, Bool, true, false, if◌then◌else◌, List, codes, take, drop}
 use Rattle.std.specs.Prelude.{Option, Some, None, option_map, option_and_then, Result, Ok, Err}
-use Rattle.std.specs.Option.{ok_or}
 use Rattle.std.specs.Str.{bytes_eq}
 use Rattle.osb_message.specs.declared.messages.Kind.TheVariants.{Provision, Poll, Deprovision}
-use Rattle.osb_wire.specs.Bodies.{and_then}
 use Rattle.osb_wire.specs.Paths.{slash_at, plain_path, segment_text, segment_number}
 use Rattle.osb_wire.specs.Targets.{after_front, place_below, below_instances}
 use Rattle.osb_wire.specs.declared.refusal.Refusal.TheVariants.{NoSuchTarget, NoSuchMethod, BadInstance}

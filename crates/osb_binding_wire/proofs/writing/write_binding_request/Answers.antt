@@ -1,4 +1,4 @@
-use Rattle.std.proofs.Common.{◌≡◌, option_map, string_bytes, sym, ap, subst, ◌∙◌}
+use Rattle.std.proofs.Common.{option_map, string_bytes, sym, ap, subst, ◌∙◌}
 use Rattle.serde_json.specs.View.{members_view}
 use Rattle.osb_binding.specs.Requests.{life_request}
 use Rattle.osb_wire.specs.Targets.{operation_asked}

@@ -1,8 +1,6 @@
-use Rattle.std.proofs.Common.{◌≡◌, List, ℕ, Some, ap, sym, ◌∙◌}
+use Rattle.std.proofs.Common.{Some, ap, sym, ◌∙◌}
 use Rattle.serde_json.specs.Written.{compact_text}
-use Rattle.osb_message.specs.declared.messages.Kind.{Kind}
 use Rattle.osb_wire.specs.Answers.{answer_in}
-use Rattle.osb_wire.specs.Bodies.{object_in}
 use Rattle.osb_binding_wire.specs.Refusals.{status_of, object_of, taken_for}
 use Rattle.osb_binding_wire.proofs.BodyTexts.{bad_binding_text, bad_binding_is, bad_binding_reads, bad_binding_taken}
 use Rattle.osb_binding_wire.proofs.refusal.BindingRefusal.body.Goals as goal
