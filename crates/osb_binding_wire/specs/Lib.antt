@@ -8,4 +8,5 @@ pub mod Parts
 pub mod Places
 pub mod Refusals
 pub mod Requests
+pub mod Retrievable
 pub mod Targets

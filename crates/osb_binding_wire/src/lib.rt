@@ -14,7 +14,8 @@
 //! The object of a binding (`credentials`, `syslog_drain_url`, `route_service_url`, `volume_mounts`, `endpoints`,
 //! `metadata`) is passed on as it stands, and so are the parts of a Bind's body ([`BindingParts`]).
 //!
-//! [`binding_modes`] returns how each plan binds, by the catalogue. [`requires_app`] judges whether a Bind lacks the
+//! [`binding_modes`] returns how each plan binds, by the catalogue, and [`bindings_retrievable`] whether the bindings of a
+//! service can be fetched. [`requires_app`] judges whether a Bind lacks the
 //! application that its plan needs.
 #![tactic(auto)]
 
@@ -29,6 +30,7 @@ mod place;
 mod reading;
 mod received;
 mod refusal;
+mod retrievable;
 mod writing;
 
 pub use answers::{BindingAnswer, read_binding_answer, read_fetched, write_binding};
@@ -40,4 +42,5 @@ pub use parts::{BindingParts, binding_parts};
 pub use reading::read_binding_request;
 pub use received::BindingReceived;
 pub use refusal::BindingRefusal;
+pub use retrievable::bindings_retrievable;
 pub use writing::{write_binding_request, write_fetch};
