@@ -12,7 +12,7 @@ use Rattle.osb_wire.specs.declared.names.NameFault.{NameFault}
 use Rattle.osb_wire.specs.declared.names.NameFault.TheVariants.{BadInstance, BadService, BadPlan}
 use Rattle.osb_wire.proofs.IdBytes.{own_number, own_no_dots}
 
-is_so : (o : Option ℕ) (n : ℕ) → unwrap_or (option_map (λ m. m == n) o) false ≡ true → o ≡ Some n
+pub is_so : (o : Option ℕ) (n : ℕ) → unwrap_or (option_map (λ m. m == n) o) false ≡ true → o ≡ Some n
 is_so None n h = absurd (true≢false (sym h))
 is_so (Some m) n h = ap Some (eqb-true m n h)
 

@@ -26,13 +26,13 @@ use Rattle.osb_wire.proofs.Segments.{is_text}
 other_than : (b : ℕ) → not (b == 63) ≡ true → b ≢ 63
 other_than b h e = true≢false (sym (subst (λ x. not (x == 63) ≡ true) e h))
 
-no_mark_in : (text : List ℕ) → list_all (λ b. not (b == 63)) text ≡ true → All (λ b. b ≢ 63) text
+pub no_mark_in : (text : List ℕ) → list_all (λ b. not (b == 63)) text ≡ true → All (λ b. b ≢ 63) text
 no_mark_in text h = passing (λ b. not (b == 63)) (λ b. b ≢ 63) other_than text h
 
-no_mark_in_segment : (text : List ℕ) → All (λ b. b ≢ 63) (segment_of text)
+pub no_mark_in_segment : (text : List ℕ) → All (λ b. b ≢ 63) (segment_of text)
 no_mark_in_segment text = All-weaker IsPlainByte (λ b. b ≢ 63) (λ b h. h.no_mark) (segment_of text) (plain_segment text)
 
-no_mark_in_front : (rest : List ℕ) → All (λ b. b ≢ 63) rest → All (λ b. b ≢ 63) (instances_path ++ rest)
+pub no_mark_in_front : (rest : List ℕ) → All (λ b. b ≢ 63) rest → All (λ b. b ≢ 63) (instances_path ++ rest)
 no_mark_in_front rest h = All-append (λ b. b ≢ 63) instances_path rest (no_mark_in instances_path refl) h
 
 no_mark_below : (kind : Kind) (text : List ℕ) → All (λ b. b ≢ 63) (path_of [] kind text)
@@ -52,7 +52,7 @@ no_mark_in_path prefix Deprovision text h =
 
 -- ---- the first slash after a segment
 
-slash_before : (text more : List ℕ) → All IsPlainByte text → slash_at (text ++ 47 ∷ more) ≡ length text
+pub slash_before : (text more : List ℕ) → All IsPlainByte text → slash_at (text ++ 47 ∷ more) ≡ length text
 slash_before [] more h = refl
 slash_before (b ∷ text) more h =
     rw (ne_eqb b 47 (All-head IsPlainByte b text h).no_slash, slash_before text more (All-tail IsPlainByte b text h))
@@ -64,13 +64,13 @@ slash_none (b ∷ text) h =
     rw (ne_eqb b 47 (All-head IsPlainByte b text h).no_slash, slash_none text (All-tail IsPlainByte b text h))
     (omega arith)
 
-place_of_segment : (text : List ℕ) → place_below (segment_of text) ≡ Some (segment_of text, false)
+pub place_of_segment : (text : List ℕ) → place_below (segment_of text) ≡ Some (segment_of text, false)
 place_of_segment text =
     let raw = segment_of text in
     ap (λ n. place_at (take n raw) (drop n raw)) (slash_none raw (plain_segment text))
     ∙ (λ i. place_at (take_all (length raw) raw (omega arith) i) (drop_all (length raw) raw (omega arith) i))
 
-place_of_operation : (text : List ℕ) → place_below (segment_of text ++ last_operation) ≡ Some (segment_of text, true)
+pub place_of_operation : (text : List ℕ) → place_below (segment_of text ++ last_operation) ≡ Some (segment_of text, true)
 place_of_operation text =
     let raw = segment_of text in
     let all = raw ++ last_operation in
@@ -78,7 +78,7 @@ place_of_operation text =
     ∙ (λ i. place_at (take-append_seam raw last_operation i) (drop-append_seam raw last_operation i))
 
 -- a text with a front, without it
-front_back : (front rest : List ℕ) → after_front front (front ++ rest) ≡ Some rest
+pub front_back : (front rest : List ℕ) → after_front front (front ++ rest) ≡ Some rest
 front_back front rest =
     rw (take-append_seam front rest, drop-append_seam front rest, (bytes_eq-Decides front front).1 refl) refl
 

@@ -26,13 +26,13 @@ depth_at Less k l s e ms later = omega arith
 depth_at Equal k l s e ms later = omega arith
 depth_at Greater k l s e ms later = omega (arith, later)
 
-depth_put : (k s : List ℕ) (ms : Members) → members_depth (put k (string s) ms) ≤ members_depth ms
+pub depth_put : (k s : List ℕ) (ms : Members) → members_depth (put k (string s) ms) ≤ members_depth ms
 depth_put k s no_members = omega arith
 depth_put k s (member l e ms) = depth_at (slice_cmp nat_cmp k l) k l s e ms (depth_put k s ms)
 
 -- ---- what stands under each name
 
-apart : (xs ys : List ℕ) → bytes_eq xs ys ≡ false → xs ≢ ys
+pub apart : (xs ys : List ℕ) → bytes_eq xs ys ≡ false → xs ≢ ys
 apart xs ys h e = true≢false (sym ((bytes_eq-Decides xs ys).1 e) ∙ h)
 
 abbrev one : List ℕ → Members → Members

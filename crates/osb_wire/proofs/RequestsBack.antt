@@ -20,11 +20,11 @@ use Rattle.osb_wire.proofs.Paths.{segment_back, place_comes_back, instance_back}
 use Rattle.osb_wire.proofs.TargetsBack.{path_comes_back, parameters_back}
 
 -- the parameters of a request
-abbrev parameters : Kind → List ℕ → List ℕ → Bool → Option (List ℕ) → List Parameter
+abbrev pub parameters : Kind → List ℕ → List ℕ → Bool → Option (List ℕ) → List Parameter
 parameters kind service plan flag operation =
     id_parameters kind service plan ++ (flag_parameters flag ++ operation_parameters operation)
 
-asked : (kind : Kind) (id s p : ℕ) (service plan : List ℕ) (flag : Bool) (operation : Option (List ℕ)) (body : List ℕ)
+pub asked : (kind : Kind) (id s p : ℕ) (service plan : List ℕ) (flag : Bool) (operation : Option (List ℕ)) (body : List ℕ)
     → number_of service ≡ Some s → number_of plan ≡ Some p → Names kind body s p
     → asked_at (parameters kind service plan flag operation) body (kind, id) ≡ Ok (asked_by kind id s p flag)
 asked Provision id s p service plan false None body is_service is_plan named = rw (named refl) refl
@@ -42,7 +42,7 @@ asked Deprovision id s p service plan true (Some text) body is_service is_plan n
 
 -- ---- the texts of the service's id and of the plan's
 
-ids_alone : (kind : Kind) (service plan : List ℕ) (flag : Bool) (operation : Option (List ℕ)) → kind ≢ Provision
+pub ids_alone : (kind : Kind) (service plan : List ℕ) (flag : Bool) (operation : Option (List ℕ)) → kind ≢ Provision
     → (value_in (codes "service_id") (parameters kind service plan flag operation) ≡ Ok (Some service))
     × (value_in (codes "plan_id") (parameters kind service plan flag operation) ≡ Ok (Some plan))
 ids_alone Provision service plan flag operation other = absurd (other refl)
@@ -85,7 +85,7 @@ either_way Provision P is other = is refl
 either_way Poll P is other = other (λ e. cc)
 either_way Deprovision P is other = other (λ e. cc)
 
-within : (longest n : ℕ) → n ≤ longest → nat_lt longest n ≡ false
+pub within : (longest n : ℕ) → n ≤ longest → nat_lt longest n ≡ false
 within longest n h = grind (arith, nat_tests)
 
 short_enough : (longest : ℕ) (ps : List Parameter) (body : List ℕ) (place : Kind × ℕ) → length body ≤ longest

@@ -20,11 +20,11 @@ use Rattle.osb_wire.proofs.IdBytes.{passing}
 use Rattle.osb_wire.proofs.Paths.{no_mark_in_path}
 use Rattle.osb_wire.proofs.Queries.{IsText, IsTextPair, pairs_back}
 
-path_back : (path query : List ℕ) → All (λ b. b ≢ 63) path → (split_once 63 (with_query path query)).0 ≡ path
+pub path_back : (path query : List ℕ) → All (λ b. b ≢ 63) path → (split_once 63 (with_query path query)).0 ≡ path
 path_back path [] h = split_once_before_none 63 path h
 path_back path (b ∷ bs) h = rw (ne_eqb (length (b ∷ bs)) 0 (omega arith)) (split_once_before_at 63 path (b ∷ bs) h)
 
-query_back : (path query : List ℕ) → All (λ b. b ≢ 63) path → (split_once 63 (with_query path query)).1 ≡ query
+pub query_back : (path query : List ℕ) → All (λ b. b ≢ 63) path → (split_once 63 (with_query path query)).1 ≡ query
 query_back path [] h = split_once_after_none 63 path h
 query_back path (b ∷ bs) h = rw (ne_eqb (length (b ∷ bs)) 0 (omega arith)) (split_once_after_at 63 path (b ∷ bs) h)
 
@@ -37,7 +37,7 @@ text_of_ascii text h = (
   All-weaker (λ b. b < 128) (λ b. b < 256) (λ b small. omega arith) text h,
 )
 
-literal : (text : List ℕ) → list_all (λ b. nat_lt b 128) text ≡ true → IsText text
+pub literal : (text : List ℕ) → list_all (λ b. nat_lt b 128) text ≡ true → IsText text
 literal text h = text_of_ascii text (passing (λ b. nat_lt b 128) (λ b. b < 128) below text h)
 
 ids_are_text : (kind : Kind) (service plan : List ℕ) → IsText service → IsText plan
@@ -52,12 +52,12 @@ flag_is_text : (flag : Bool) → AllByRecursion IsTextPair (flag_parameters flag
 flag_is_text true = ((literal (codes "accepts_incomplete") refl, literal (codes "true") refl), tt)
 flag_is_text false = tt
 
-operation_is_text : (operation : Option (List ℕ)) → IsTextIfAny operation
+pub operation_is_text : (operation : Option (List ℕ)) → IsTextIfAny operation
     → AllByRecursion IsTextPair (operation_parameters operation)
 operation_is_text None h = tt
 operation_is_text (Some text) h = ((literal (codes "operation") refl, h), tt)
 
-all_of_both : (ps qs : List Parameter) → AllByRecursion IsTextPair ps → AllByRecursion IsTextPair qs
+pub all_of_both : (ps qs : List Parameter) → AllByRecursion IsTextPair ps → AllByRecursion IsTextPair qs
     → AllByRecursion IsTextPair (ps ++ qs)
 all_of_both [] qs h k = k
 all_of_both (p ∷ ps) qs h k = (h.0, all_of_both ps qs h.1 k)

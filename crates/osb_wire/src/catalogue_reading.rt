@@ -55,8 +55,12 @@ fn mode_of(plan: &Value) -> Result<Mode, CatalogueFault>
     }
 }
 
-// The id of a service or of a plan.
-fn own_id<K>(object: &Value, fault: CatalogueFault) -> Result<Id<K>, CatalogueFault>
+/// The id of a service or of a plan.
+///
+/// # Errors
+///
+/// The fault that is given, where `id` is no text of an id.
+pub fn own_id<K>(object: &Value, fault: CatalogueFault) -> Result<Id<K>, CatalogueFault>
     ensures id { result ≡ documents.own_id fault (view object.now) }
 {
     let Some(text) = text_at(object, "id") else {
@@ -68,8 +72,12 @@ fn own_id<K>(object: &Value, fault: CatalogueFault) -> Result<Id<K>, CatalogueFa
     }
 }
 
-// The list that stands under a name.
-fn list_at<'v>(
+/// The list that stands under a name.
+///
+/// # Errors
+///
+/// The fault that is given, where there is none.
+pub fn list_at<'v>(
     object: &'v Value,
     name: &str,
     fault: CatalogueFault,

@@ -5,8 +5,8 @@ ghost use Rattle.osb_wire.specs.IdTexts as texts;
 use osb_message::Id;
 use sha2::{Digest, Sha256};
 
-// The longest text of an id, in bytes.
-pub(crate) const LONGEST_ID: usize = 255;
+/// The longest text of an id, in bytes.
+pub const LONGEST_ID: usize = 255;
 
 // The first 128 bits of a text's SHA-256.
 #[tactic(auto, unfolding(crate::specs::IdTexts::hashed))]

@@ -7,9 +7,13 @@ use osb_message::Memory;
 use serde_json::Value;
 use std::alloc::Global;
 
-// The value that a body is, if it is UTF-8 and JSON.
+/// The value that a body is, if it is UTF-8 and JSON.
+///
+/// # Errors
+///
+/// [`Memory`] where an allocation failed. The same call may be made again.
 #[tactic(auto, using(crate::proofs::BodyValues::value_in_text, crate::proofs::BodyValues::value_in_no_text))]
-pub(crate) fn read_value(alloc: Global, body: &[u8]) -> Result<Option<Value>, Memory>
+pub fn read_value(alloc: Global, body: &[u8]) -> Result<Option<Value>, Memory>
     ensures value { IfOk result (λ value. option_map view value ≡ value_in body.now) }
 {
     let Ok(text) = std::str::from_utf8(body) else {
@@ -18,8 +22,12 @@ pub(crate) fn read_value(alloc: Global, body: &[u8]) -> Result<Option<Value>, Me
     osb_json::read_value(alloc, text)
 }
 
-// The object that a body is.
-pub(crate) fn read_object(alloc: Global, body: &[u8]) -> Result<Option<Value>, Memory>
+/// The object that a body is, if it is one.
+///
+/// # Errors
+///
+/// [`Memory`] where an allocation failed. The same call may be made again.
+pub fn read_object(alloc: Global, body: &[u8]) -> Result<Option<Value>, Memory>
     ensures object { IfOk result (λ value. option_map view value ≡ object_in body.now) }
 {
     let Some(value) = read_value(alloc, body)? else {

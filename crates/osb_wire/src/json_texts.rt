@@ -39,9 +39,13 @@ fn text_of(alloc: Global, value: &Value<'_>) -> Result<String, Memory>
     text_from(bytes)
 }
 
-// The value that a body is, where it is UTF-8 and JSON.
+/// The value that a body is, where it is UTF-8 and JSON.
+///
+/// # Errors
+///
+/// [`Memory`] where an allocation failed. The same call may be made again.
 #[tactic(auto, using(crate::proofs::JsonBodies::json_steps))]
-pub(crate) fn read_json<'a>(
+pub fn read_json<'a>(
     alloc: Global,
     body: &'a [u8],
     scratch: &'a mut Scratch,
@@ -118,8 +122,12 @@ pub struct Parts {
     pub others: Option<String>,
 }
 
-// The text of what stands under a name.
-fn text_under(alloc: Global, value: &Value<'_>, name: &str) -> Result<Option<String>, Memory>
+/// The text of what stands under a name, with no spaces.
+///
+/// # Errors
+///
+/// [`Memory`] where an allocation failed. The same call may be made again.
+pub fn text_under(alloc: Global, value: &Value<'_>, name: &str) -> Result<Option<String>, Memory>
     requires { HasNumbers (value_view value.now) }
     ensures text { IfOk result (λ text. option_map string_bytes text
         ≡ option_map texts.text_of (get name.now (value_view value.now))) }

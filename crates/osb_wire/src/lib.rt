@@ -39,6 +39,8 @@
 //! What [`write_request`] gives, [`method_of`], [`write_named_target`] and [`write_named_body`] give one at a time;
 //! [`write_target`] and [`write_body`] do it of ids that are GUIDs in lower case.
 //!
+//! The modules that are public hold the parts that `osb_binding_wire` reads and writes requests of bindings by.
+//!
 //! Each call takes memory but [`api_version`], [`request_identity`], [`retry_after`], [`method_of`], [`id_of_text`],
 //! [`text_of_id`], [`asks_for_catalogue`], [`maintenance_conflict_body`] and those of [`Refusal`] and [`Asked`]. What the standard doesn't say and
 //! is said here is marked as this project's choice.
@@ -47,27 +49,27 @@
 mod answer_reading;
 mod answer_writing;
 mod asked;
-mod catalogue_reading;
+pub mod catalogue_reading;
 mod catalogue_rules;
 mod details;
 mod digests;
 mod headers;
-mod id_texts;
-mod json_body;
-mod json_texts;
+pub mod id_texts;
+pub mod json_body;
+pub mod json_texts;
 mod maintenance;
-mod names;
-mod path_reading;
-mod provision_reading;
-mod provision_writing;
-mod query_reading;
+pub mod names;
+pub mod path_reading;
+pub mod provision_reading;
+pub mod provision_writing;
+pub mod query_reading;
 mod received;
 mod refusal;
-mod request_reading;
+pub mod request_reading;
 mod request_writing;
 mod sold_document;
-mod target_reading;
-mod target_writing;
+pub mod target_reading;
+pub mod target_writing;
 
 pub use answer_reading::{read_answer, read_operation};
 pub use answer_writing::write_answer;

@@ -35,8 +35,8 @@ pub enum NameFault {
     Memory,
 }
 
-// Whether this is the id that a text names.
-pub(crate) fn is_id_of<K>(text: &str, id: Id<K>) -> bool
+/// Whether this is the id that a text names. It takes no memory.
+pub fn is_id_of<K>(text: &str, id: Id<K>) -> bool
     ensures is { result ≡ naming.is_number text.now id }
 {
     match id_of_text::<K>(text) {

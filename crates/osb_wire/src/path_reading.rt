@@ -7,8 +7,8 @@ ghost use Rattle.osb_wire.specs.Paths as paths;
 use crate::id_texts::LONGEST_ID;
 use percent_encoding::{AsciiSet, NON_ALPHANUMERIC, ascii_set, percent_decode};
 
-// The bytes of an id's text that a path has escaped: all but letters, digits, `-`, `.`, `_` and `~`.
-pub(crate) const SEGMENT: AsciiSet = ascii_set!(
+/// The bytes of an id's text that a path has escaped: all but letters, digits, `-`, `.`, `_` and `~`.
+pub const SEGMENT: AsciiSet = ascii_set!(
     NON_ALPHANUMERIC
         .remove(b'-')
         .remove(b'.')
@@ -16,8 +16,8 @@ pub(crate) const SEGMENT: AsciiSet = ascii_set!(
         .remove(b'~')
 );
 
-// Where a byte first stands, or the end.
-pub(crate) fn place_of(byte: u8, text: &[u8]) -> usize
+/// Where a byte first stands, or the end. It takes no memory.
+pub fn place_of(byte: u8, text: &[u8]) -> usize
     ensures place { result ≡ position_or_len (λ b. b == byte) text.now }
     ensures within { result ≤ length text.now }
 {
@@ -93,8 +93,8 @@ fn without_last_slash(path: &[u8]) -> &[u8]
     }
 }
 
-// The plain path that a target's path stands for.
-pub(crate) fn plain_path(path: &[u8]) -> &[u8]
+/// The plain path that a target's path stands for. It takes no memory.
+pub fn plain_path(path: &[u8]) -> &[u8]
     ensures path { result.now ≡ paths.plain_path path.now }
 {
     without_last_slash(with_one_slash(own_path(path)))
@@ -116,16 +116,16 @@ fn decode_into(raw: &[u8], buffer: &mut [u8; LONGEST_ID]) -> Option<usize>
     Some(count)
 }
 
-// Whether a text is `.` or `..`.
-pub(crate) fn is_dots(text: &str) -> bool
+/// Whether a text is `.` or `..`, which no path can carry as an id. It takes no memory.
+pub fn is_dots(text: &str) -> bool
     ensures dots { result ≡ paths.is_dots text.now }
 {
     text == "." || text == ".."
 }
 
-// The text that a segment of a path stands for, in a buffer.
+/// The text that a segment of a path stands for, in a buffer; none where it is no text of an id. It takes no memory.
 #[tactic(auto, using(crate::proofs::Segments::segment_steps))]
-pub(crate) fn segment_text<'b>(raw: &[u8], buffer: &'b mut [u8; LONGEST_ID]) -> Option<&'b str>
+pub fn segment_text<'b>(raw: &[u8], buffer: &'b mut [u8; LONGEST_ID]) -> Option<&'b str>
     ensures text { option_map (λ text. text.now) result ≡ paths.segment_text raw.now }
 {
     let count = decode_into(raw, buffer)?;

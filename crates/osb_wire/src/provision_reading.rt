@@ -11,8 +11,12 @@ use osb_message::{Id, PlanId, ServiceId};
 use serde_json::Value;
 use std::alloc::Global;
 
-// The id whose text stands under a name.
-fn read_id<K>(object: &Value, name: &str, fault: Refusal) -> Result<Id<K>, Refusal>
+/// The id whose text stands under a name.
+///
+/// # Errors
+///
+/// The fault that is given, where no text of an id stands there.
+pub fn member_id<K>(object: &Value, name: &str, fault: Refusal) -> Result<Id<K>, Refusal>
     ensures id { result ≡ provisions.id_member fault name.now (view object.now) }
 {
     let Some(text) = text_at(object, name) else {
@@ -38,11 +42,11 @@ fn has_text(object: &Value, name: &str) -> bool
 fn read_members(object: &Value) -> Result<(ServiceId, PlanId), Refusal>
     ensures named { result ≡ provisions.named_in (view object.now) }
 {
-    let service = match read_id(object, "service_id", Refusal::BadService) {
+    let service = match member_id(object, "service_id", Refusal::BadService) {
         Ok(service) => service,
         Err(fault) => return Err(fault),
     };
-    let plan = match read_id(object, "plan_id", Refusal::BadPlan) {
+    let plan = match member_id(object, "plan_id", Refusal::BadPlan) {
         Ok(plan) => plan,
         Err(fault) => return Err(fault),
     };

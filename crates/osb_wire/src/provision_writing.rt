@@ -13,8 +13,12 @@ use osb_message::Memory;
 use serde_json::{Map, Value};
 use std::alloc::{AllocError, Global};
 
-// Puts a text under a name.
-fn put_text(
+/// Puts a text under a name.
+///
+/// # Errors
+///
+/// [`AllocError`] where an allocation failed.
+pub fn put_text(
     alloc: Global,
     members: &mut Map<String, Value>,
     name: &str,

@@ -9,8 +9,12 @@ use osb_message::Id;
 use std::alloc::Global;
 use std::borrow::CowStr;
 
-// The value of the parameter with a name.
-pub(crate) fn read_value<'q>(
+/// The value of the parameter with a name.
+///
+/// # Errors
+///
+/// [`Refusal::Repeated`] where it stands twice, and [`Refusal::Memory`] where an allocation failed.
+pub fn read_value<'q>(
     alloc: Global,
     query: &'q [u8],
     name: &str,
@@ -35,8 +39,12 @@ pub(crate) fn read_value<'q>(
     Ok(found)
 }
 
-// An id that a query may lack.
-pub(crate) fn read_id<K>(
+/// An id that a query may lack.
+///
+/// # Errors
+///
+/// As of [`read_value`], and the fault that is given where the value is no text of an id.
+pub fn read_id<K>(
     alloc: Global,
     query: &[u8],
     name: &str,
@@ -55,8 +63,12 @@ pub(crate) fn read_id<K>(
     }
 }
 
-// An id that a query must have.
-pub(crate) fn read_needed_id<K>(
+/// An id that a query must have.
+///
+/// # Errors
+///
+/// As of [`read_id`], and the fault that is given where there is no value.
+pub fn read_needed_id<K>(
     alloc: Global,
     query: &[u8],
     name: &str,
@@ -75,8 +87,12 @@ pub(crate) fn read_needed_id<K>(
     }
 }
 
-// Whether an asynchronous operation is accepted.
-pub(crate) fn read_flag(alloc: Global, query: &[u8]) -> Result<bool, Refusal>
+/// Whether an asynchronous operation is accepted.
+///
+/// # Errors
+///
+/// As of [`read_value`], and [`Refusal::BadAcceptsIncomplete`].
+pub fn read_flag(alloc: Global, query: &[u8]) -> Result<bool, Refusal>
     ensures ok { IfOk result (λ flag. targets.flag_in (targets.parameters_in query.now) ≡ Ok flag) }
     ensures err { IfErr result (λ fault. (fault ≡ Refusal.Memory)
         ⊎ (targets.flag_in (targets.parameters_in query.now) ≡ Err fault)) }

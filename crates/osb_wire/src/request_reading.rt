@@ -44,8 +44,12 @@ fn read_provision_asked(
     })
 }
 
-// A Poll.
-fn read_poll(alloc: Global, id: InstanceId, query: &[u8]) -> Result<Asked, Refusal>
+/// A Poll, of the last operation on an instance with this id.
+///
+/// # Errors
+///
+/// As of [`read_request`], from the query on.
+pub fn read_poll(alloc: Global, id: InstanceId, query: &[u8]) -> Result<Asked, Refusal>
     ensures ok { IfOk result (λ asked. requests.poll_asked id (targets.parameters_in query.now) ≡ Ok asked) }
     ensures err { IfErr result (λ fault. (fault ≡ Refusal.Memory)
         ⊎ (requests.poll_asked id (targets.parameters_in query.now) ≡ Err fault)) }
@@ -62,8 +66,12 @@ fn read_poll(alloc: Global, id: InstanceId, query: &[u8]) -> Result<Asked, Refus
     })
 }
 
-// A Deprovision.
-fn read_deprovision(alloc: Global, id: InstanceId, query: &[u8]) -> Result<Asked, Refusal>
+/// A Deprovision, of an instance with this id.
+///
+/// # Errors
+///
+/// As of [`read_request`], from the query on.
+pub fn read_deprovision(alloc: Global, id: InstanceId, query: &[u8]) -> Result<Asked, Refusal>
     ensures ok { IfOk result (λ asked. requests.deprovision_asked id (targets.parameters_in query.now) ≡ Ok asked) }
     ensures err { IfErr result (λ fault. (fault ≡ Refusal.Memory)
         ⊎ (requests.deprovision_asked id (targets.parameters_in query.now) ≡ Err fault)) }
@@ -113,8 +121,12 @@ fn read_instance_text(alloc: Global, prefix: &str, path: &[u8]) -> Result<String
     }
 }
 
-// The one value that a parameter has, if it has one.
-fn read_one(alloc: Global, query: &[u8], name: &str) -> Result<Option<String>, Memory>
+/// The one value that a parameter has, if it has one.
+///
+/// # Errors
+///
+/// [`Memory`] where an allocation failed. The same call may be made again.
+pub fn read_one(alloc: Global, query: &[u8], name: &str) -> Result<Option<String>, Memory>
     ensures text { IfOk result (λ text. option_map string_bytes text
         ≡ requests.if_one (targets.value_in name.now (targets.parameters_in query.now))) }
 {
@@ -126,8 +138,12 @@ fn read_one(alloc: Global, query: &[u8], name: &str) -> Result<Option<String>, M
     }
 }
 
-// The text under a name in a body.
-fn read_member(alloc: Global, body: &[u8], name: &str) -> Result<Option<String>, Memory>
+/// The text under a name in a body that is an object.
+///
+/// # Errors
+///
+/// [`Memory`] where an allocation failed. The same call may be made again.
+pub fn read_member(alloc: Global, body: &[u8], name: &str) -> Result<Option<String>, Memory>
     ensures text { IfOk result (λ text. option_map string_bytes text
         ≡ option_and_then (text_at name.now) (object_in body.now)) }
 {

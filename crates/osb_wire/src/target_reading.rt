@@ -27,28 +27,27 @@ pub(crate) fn split_at_byte(byte: u8, text: &[u8]) -> (&[u8], &[u8])
     (&text[..place], &text[place + 1..])
 }
 
-// The path and the query of a target.
-pub(crate) fn split_query(target: &[u8]) -> (&[u8], &[u8])
+/// The path and the query of a target. It takes no memory.
+pub fn split_query(target: &[u8]) -> (&[u8], &[u8])
     ensures path { result.0.now ≡ (split_once 63 target.now).0 }
     ensures query { result.1.now ≡ (split_once 63 target.now).1 }
 {
     split_at_byte(b'?', target)
 }
 
-// What follows the prefix and the path of the instances.
-fn below_instances<'p>(prefix: &str, path: &'p [u8]) -> Option<&'p [u8]>
+/// What follows the prefix and the path of the instances. It takes no memory.
+pub fn below_instances<'p>(prefix: &str, path: &'p [u8]) -> Option<&'p [u8]>
     ensures below { option_map (λ rest. rest.now) result ≡ targets.below_instances prefix.now path.now }
 {
     path.strip_prefix(prefix.as_bytes())?
         .strip_prefix(INSTANCES)
 }
 
-// The segment of an id, and whether its last operation is asked for, in a path as it stands.
-fn split_as_it_stands<'p>(prefix: &str, path: &'p [u8]) -> Option<(&'p [u8], bool)>
-    ensures place { option_map (λ place. (place.0.now, place.1)) result
-        ≡ targets.place_as_it_stands prefix.now path.now }
+/// The segment of an id, and whether its last operation is asked for, in what a path has from that id on. It takes no
+/// memory.
+pub fn split_place(rest: &[u8]) -> Option<(&[u8], bool)>
+    ensures place { option_map (λ place. (place.0.now, place.1)) result ≡ targets.place_below rest.now }
 {
-    let rest = below_instances(prefix, path)?;
     let (text, more) = rest.split_at(place_of(b'/', rest));
     if more.is_empty() {
         Some((text, false))
@@ -57,6 +56,14 @@ fn split_as_it_stands<'p>(prefix: &str, path: &'p [u8]) -> Option<(&'p [u8], boo
     } else {
         None
     }
+}
+
+// The segment of an id, and whether its last operation is asked for, in a path as it stands.
+fn split_as_it_stands<'p>(prefix: &str, path: &'p [u8]) -> Option<(&'p [u8], bool)>
+    ensures place { option_map (λ place. (place.0.now, place.1)) result
+        ≡ targets.place_as_it_stands prefix.now path.now }
+{
+    split_place(below_instances(prefix, path)?)
 }
 
 // The segment of an id, and whether its last operation is asked for.
@@ -81,8 +88,8 @@ fn kind_at(method: &str, of_last_operation: bool) -> Option<Kind>
     }
 }
 
-// The id that a segment of a path names.
-fn segment_id<K>(raw: &[u8]) -> Option<Id<K>>
+/// The id that a segment of a path names; none where it is no text of an id. It takes no memory.
+pub fn segment_id<K>(raw: &[u8]) -> Option<Id<K>>
     ensures id { result ≡ paths.segment_number raw.now }
 {
     let mut buffer = [0u8; LONGEST_ID];

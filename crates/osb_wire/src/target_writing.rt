@@ -28,9 +28,17 @@ pub fn method_of(kind: Kind) -> &'static str
     }
 }
 
-// The path of an instance.
+/// The path of an instance.
+///
+/// # Errors
+///
+/// [`AllocError`] where an allocation failed.
 #[tactic(auto, using(std::proofs::Common::append_assoc))]
-fn write_instance_path(alloc: Global, prefix: &str, instance: &str) -> Result<String, AllocError>
+pub fn write_instance_path(
+    alloc: Global,
+    prefix: &str,
+    instance: &str,
+) -> Result<String, AllocError>
     ensures path { IfOk result (λ text. string_bytes text
         ≡ prefix.now ++ (targets.instances_path ++ paths.segment_of instance.now)) }
 {
@@ -54,8 +62,12 @@ fn write_path(alloc: Global, prefix: &str, kind: Kind, instance: &str) -> Result
     }
 }
 
-// Adds the service and the plan.
-fn add_plan(form: &mut Serializer, names: &Names) -> Result<(), AllocError>
+/// Adds the service and the plan.
+///
+/// # Errors
+///
+/// [`AllocError`] where an allocation failed.
+pub fn add_plan(form: &mut Serializer, names: &Names) -> Result<(), AllocError>
     ensures form { OnOk result (form.new.form
         ≡ extend_pairs form.old.form (targets.plan_parameters names.now.service.now names.now.plan.now)) }
     ensures prefix { OnOk result (form.new.prefix ≡ form.old.prefix) }
@@ -89,8 +101,8 @@ fn add_flag(form: &mut Serializer, accepts_incomplete: bool) -> Result<(), Alloc
     }
 }
 
-// That a text is UTF-8, and bytes.
-fn check_text(text: &str)
+/// That a text is UTF-8, and bytes.
+pub fn check_text(text: &str)
     ensures utf8 { IsUtf8 text.now }
     ensures bytes { All (λ b. b < 256) text.now }
 {}
@@ -111,9 +123,13 @@ fn add_operation(form: &mut Serializer, operation: Option<&str>) -> Result<(), A
     }
 }
 
-// The query of a request.
+/// The query of a request.
+///
+/// # Errors
+///
+/// [`AllocError`] where an allocation failed.
 #[tactic(auto, using(crate::proofs::Queries::extended))]
-fn write_query(
+pub fn write_query(
     alloc: Global,
     request: &Request,
     names: &Names,
@@ -130,8 +146,8 @@ fn write_query(
     Ok(form.finish())
 }
 
-// That the texts of ids are UTF-8, and bytes.
-fn check_names(names: &Names)
+/// That the texts of ids are UTF-8, and bytes.
+pub fn check_names(names: &Names)
     ensures utf8 { targets.AreUtf8 (naming.texts_of names.now) }
 {
     check_text(names.instance);

@@ -1,0 +1,5 @@
+pub mod BindsBack
+pub mod BodyTexts
+pub mod NamesJudged
+pub mod PathsBack
+pub mod SentBack

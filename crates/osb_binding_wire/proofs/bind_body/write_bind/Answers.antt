@@ -1,0 +1,27 @@
+use Rattle.std.proofs.Common.{Some, ap, ◌∙◌, option_and_then}
+use Rattle.std.proofs.lemmas.Str.{IsUtf8-string_bytes}
+use Rattle.serde_json.specs.Find.{get}
+use Rattle.serde_json.specs.View.{members_view}
+use Rattle.osb_binding_wire.proofs.BindsBack.{bind_depth, further_kept, bind_back, texts_kept}
+use Rattle.osb_binding_wire.proofs.bind_body.write_bind.Goals as goal
+
+pub returns-clause-object : goal.returns-clause-object
+returns-clause-object c = λ flat.
+    let value = c.in_ok-value.ensures.value in
+    let deep = bind_depth c.args.service.now c.args.plan.now (members_view c.args.further.entries) flat in
+    c.in_ok-text.ensures.reads_back (rw value deep) ∙ ap Some value
+
+pub returns-clause-back : goal.returns-clause-back
+returns-clause-back c = λ s p is_service is_plan flat.
+    bind_back _ s p c.args.service.now c.args.plan.now (members_view c.args.further.entries) (IsUtf8-string_bytes c.in_ok-text.text)
+    (returns-clause-object c flat) is_service is_plan
+
+pub returns-clause-kept : goal.returns-clause-kept
+returns-clause-kept c = λ name other flat.
+    ap (option_and_then (get name)) (returns-clause-object c flat)
+    ∙ further_kept name c.args.service.now c.args.plan.now (members_view c.args.further.entries) other
+
+pub returns-clause-texts : goal.returns-clause-texts
+returns-clause-texts c = λ flat.
+    texts_kept _ c.args.service.now c.args.plan.now (members_view c.args.further.entries)
+    (IsUtf8-string_bytes c.in_ok-text.text) (returns-clause-object c flat)

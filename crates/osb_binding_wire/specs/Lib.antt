@@ -1,0 +1,12 @@
+pub mod Apps
+pub mod Asking
+pub mod Binds
+pub mod Modes
+pub mod Names
+pub mod Objects
+pub mod Parts
+pub mod Places
+pub mod Refusals
+pub mod Requests
+pub mod Retrievable
+pub mod Targets
