@@ -25,6 +25,7 @@ type steps struct {
 	sent                      osb.Sent
 	failed                    osb.Answer
 	wanted, cleaning, polling osb.Record
+	ready                     osb.Record
 	none, begun, running      osb.Holding
 	record, holding           []byte
 	asked                     osb.Asked
@@ -33,7 +34,7 @@ type steps struct {
 func newSteps(b *testing.B) steps {
 	s := steps{failed: osb.Answer{Status: 500, Body: osb.BodyOtherError}}
 	accepted := osb.Answer{Status: 202, Body: osb.BodyEmpty}
-	var errs [7]error
+	var errs [8]error
 	s.wanted, s.sent = osb.Create(instance, service, plan, true)
 	s.cleaning, errs[0] = s.wanted.Answer(1, s.failed)
 	s.polling, errs[1] = s.wanted.Answer(1, accepted)
@@ -42,6 +43,7 @@ func newSteps(b *testing.B) steps {
 	s.record, errs[4] = s.wanted.MarshalJSON()
 	s.holding, errs[5] = s.begun.MarshalJSON()
 	s.asked, errs[6] = osb.ReadRequest("", 1000, "PUT", target, []byte(provisionBody))
+	s.ready, errs[7] = s.wanted.Answer(1, osb.Answer{Status: 201, Body: osb.BodyEmpty})
 	for _, err := range errs {
 		if err != nil {
 			b.Fatal(err)
@@ -64,6 +66,11 @@ func (s steps) ofRecords() []step {
 		{"Record.Timeout", func() error { return second(s.wanted.Timeout(1)) }},
 		{"Record.Expire", func() error { return second(s.polling.Expire()) }},
 		{"Record.Remove", func() error { return second(s.polling.Remove()) }},
+		{"Record.RemoveIf", func() error { return second(s.polling.RemoveIf(true)) }},
+		{"Record.IsReady", func() error { s.polling.IsReady(); return nil }},
+		{"Record.IsGone", func() error { s.polling.IsGone(); return nil }},
+		{"Record.CreateBinding", func() error { _, _, err := s.ready.CreateBinding(instance, true); return err }},
+		{"Record.AnswerBinding", func() error { return second(s.wanted.AnswerBinding(1, s.failed, true)) }},
 		{"Record.MarshalJSON", func() error { return second(s.wanted.MarshalJSON()) }},
 		{"Record.UnmarshalJSON", func() error { var read osb.Record; return read.UnmarshalJSON(s.record) }},
 	}
@@ -73,6 +80,17 @@ func (s steps) ofHoldings() []step {
 	return []step{
 		{"Holding.Fits", func() error { s.begun.Fits(osb.ModeAsync); return nil }},
 		{"Holding.Begin", func() error { _, _, err := s.none.Begin(osb.ModeAsync, s.sent.Request, osb.Rules{}); return err }},
+		{"Holding.BeginIf", func() error {
+			_, _, err := s.none.BeginIf(osb.ModeAsync, s.sent.Request, osb.Rules{}, false)
+			return err
+		}},
+		{"Holding.BeginBinding", func() error {
+			_, _, err := s.none.BeginBinding(s.none, osb.ModeAsync, s.sent.Request, osb.Rules{})
+			return err
+		}},
+		{"Holding.Fetch", func() error { return second(s.begun.Fetch()) }},
+		{"Holding.IsHeld", func() error { s.begun.IsHeld(); return nil }},
+		{"Holding.IsThere", func() error { s.begun.IsThere(service, plan); return nil }},
 		{"Holding.End", func() error { _, _, err := s.begun.End(osb.ModeAsync, osb.OutcomeDone); return err }},
 		{"Holding.Finish", func() error { return second(s.running.Finish(true)) }},
 		{"WorkOf", func() error { osb.WorkOf(osb.KindProvision, osb.ModeSync); return nil }},

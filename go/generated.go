@@ -144,6 +144,10 @@ const (
 	ErrBindingsUnserved Status = C.OSB_BINDINGS_UNSERVED
 	// Two ids of the document have one number.
 	ErrSameNumber Status = C.OSB_SAME_NUMBER
+	// The instance isn't recorded ready, so no binding of it is created.
+	ErrNotReady Status = C.OSB_NOT_READY
+	// A binding of the instance isn't gone, so the instance isn't removed.
+	ErrBound Status = C.OSB_BOUND
 )
 
 var meanings = map[Status]string{
@@ -215,6 +219,8 @@ var meanings = map[Status]string{
 	ErrInstancesUnserved:        "fetching an instance isn't served, and instances_retrievable is true",
 	ErrBindingsUnserved:         "fetching a binding isn't served, and bindings_retrievable is true",
 	ErrSameNumber:               "two ids of the document have one number",
+	ErrNotReady:                 "the instance isn't recorded ready, so no binding of it is created",
+	ErrBound:                    "a binding of the instance isn't gone, so the instance isn't removed",
 }
 
 // A Kind is what a request asks for.

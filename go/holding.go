@@ -69,17 +69,55 @@ func (h Holding) Fits(mode Mode) bool {
 //
 // Errors: ErrBadHolding, ErrBadMode, ErrBadKind.
 func (h Holding) Begin(mode Mode, request Request, rules Rules) (Holding, Begun, error) {
-	holding, asked := h.c(), request.c()
-	var attributes [32]C.uint8_t
-	for at, one := range rules.Attributes {
-		attributes[at] = C.uint8_t(one)
-	}
+	holding, asked, attributes := h.c(), request.c(), rules.Attributes.c()
 	var begun C.struct_osb_begun
-	status := C.osb_holding_begin(&holding, C.uint8_t(mode), C.bool(rules.FirstPoll), &asked, &attributes[0], &begun)
+	return h.next(&holding, &begun, C.osb_holding_begin(
+		&holding, C.uint8_t(mode), C.bool(rules.FirstPoll), &asked, &attributes[0], &begun))
+}
+
+// BeginIf begins with a request as Begin does, but if mayBegin is false, nothing begins: a request whose work would be
+// due is answered as if work were pending, and nothing changes. For an instance that may have bindings, mayBegin is
+// whether IsHeld is false of each of them. Read it in the transaction that writes the holding. A Deprovision is then
+// answered with 422.
+//
+// Errors: ErrBadHolding, ErrBadMode, ErrBadKind.
+func (h Holding) BeginIf(mode Mode, request Request, rules Rules, mayBegin bool) (Holding, Begun, error) {
+	holding, asked, attributes := h.c(), request.c(), rules.Attributes.c()
+	var begun C.struct_osb_begun
+	return h.next(&holding, &begun, C.osb_holding_begin_if(
+		&holding, C.uint8_t(mode), C.bool(rules.FirstPoll), &asked, &attributes[0], C.bool(mayBegin), &begun))
+}
+
+// next is what a call that begins gave, or with an error the holding before.
+func (h Holding) next(holding *C.struct_osb_holding, begun *C.struct_osb_begun, status C.uint32_t) (
+	Holding, Begun, error,
+) {
 	if err := done(status); err != nil {
 		return h, Begun{}, err
 	}
-	return holdingOf(holding), begunOf(begun), nil
+	return holdingOf(*holding), begunOf(*begun), nil
+}
+
+// c is the digest as it crosses.
+func (d Digest) c() (to [32]C.uint8_t) {
+	for at, one := range d {
+		to[at] = C.uint8_t(one)
+	}
+	return to
+}
+
+// IsHeld is whether there is a row, or work is pending. It is true also of a holding that no call gives, so that
+// nothing begins then. While a binding is held, the deletion of its instance doesn't begin.
+func (h Holding) IsHeld() bool {
+	holding := h.c()
+	return bool(C.osb_holding_is_held(&holding))
+}
+
+// IsThere is whether the row is ready, with this service and plan, and no work is pending. BeginBinding asks this of
+// the instance's holding.
+func (h Holding) IsThere(service, plan ID) bool {
+	holding := h.c()
+	return bool(C.osb_holding_is_there(&holding, service.c(), plan.c()))
 }
 
 // End ends the pending work with this outcome, and returns the answer to its request. The mode is that of the pending

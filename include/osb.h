@@ -122,7 +122,9 @@ enum osb_status {
     OSB_UPDATE_UNSERVED = 72,            /* updating isn't served, and plan_updateable is true */
     OSB_INSTANCES_UNSERVED = 73,         /* fetching an instance isn't served, and instances_retrievable is true */
     OSB_BINDINGS_UNSERVED = 74,          /* fetching a binding isn't served, and bindings_retrievable is true */
-    OSB_SAME_NUMBER = 75                 /* two ids of the document have one number */
+    OSB_SAME_NUMBER = 75,                /* two ids of the document have one number */
+    OSB_NOT_READY = 76,                  /* the instance isn't recorded ready, so no binding of it is created */
+    OSB_BOUND = 77                       /* a binding of the instance isn't gone, so the instance isn't removed */
 };
 
 /* ---- Ids. The id of an instance, a service or a plan is any text of 1 to 255 bytes of UTF-8, and the calls know it by
@@ -278,6 +280,19 @@ uint32_t osb_record_retry(struct osb_record *record);
  * OSB_DONE, OSB_BAD_RECORD, OSB_BUSY, OSB_NOT_REMOVABLE. */
 uint32_t osb_record_remove(struct osb_record *record);
 
+/* Has an instance deleted that may have bindings, as osb_record_remove does. all_gone is whether each recorded binding
+ * of the instance is gone (osb_record_is_gone), read in the transaction that writes the record, with the record locked.
+ * The call waits for no binding and removes none: do that first.
+ * OSB_DONE, OSB_BAD_RECORD, OSB_BUSY, OSB_NOT_REMOVABLE, OSB_BOUND. */
+uint32_t osb_record_remove_if(struct osb_record *record, bool all_gone);
+
+/* Whether the record is one that a call gives, and ready is recorded. A binding of an instance is created only then. */
+bool osb_record_is_ready(const struct osb_record *record);
+
+/* Whether the record is one that a call gives, and gone is recorded. An instance is removed only once this is so of
+ * each of its bindings. */
+bool osb_record_is_gone(const struct osb_record *record);
+
 /* Writes the text of the record, for a column of a database (docs/instance.md).
  * OSB_DONE, OSB_BAD_RECORD, OSB_TOO_SMALL, OSB_MEMORY. */
 uint32_t osb_record_to_text(const struct osb_record *record, uint8_t *buffer, size_t bytes, size_t *needed);
@@ -367,6 +382,23 @@ bool osb_holding_fits(const struct osb_holding *holding, uint8_t mode);
 uint32_t osb_holding_begin(struct osb_holding *holding, uint8_t mode, bool first_poll,
                            const struct osb_request *request, const uint8_t attributes[32], struct osb_begun *begun);
 
+/* Begins with a request as osb_holding_begin does, but if may_begin is false, nothing begins: a request whose work
+ * would be due is answered as if work were pending, and nothing changes. For an instance that may have bindings,
+ * may_begin is whether osb_holding_is_held is false of each of them, read in the transaction that writes the holding. A
+ * Deprovision is then answered with 422.
+ * OSB_DONE, OSB_BAD_HOLDING, OSB_BAD_MODE, OSB_BAD_KIND. */
+uint32_t osb_holding_begin_if(struct osb_holding *holding, uint8_t mode, bool first_poll,
+                              const struct osb_request *request, const uint8_t attributes[32], bool may_begin,
+                              struct osb_begun *begun);
+
+/* Whether there is a row, or work is pending. True also if the holding is none that a call gives, so that nothing
+ * begins then. While a binding is held, the deletion of its instance doesn't begin. */
+bool osb_holding_is_held(const struct osb_holding *holding);
+
+/* Whether the holding is one that a call gives, its row is ready, with this service and plan, and no work is pending.
+ * osb_binding_begin asks this of the instance's holding. */
+bool osb_holding_is_there(const struct osb_holding *holding, struct osb_id service, struct osb_id plan);
+
 /* Ends the pending work with this outcome, and returns the answer to its request. The mode is that of the pending
  * request's plan, and has to fit. A refusal leaves the tombstone. The holding is written to the database before the
  * answer is sent.
@@ -394,6 +426,58 @@ uint32_t osb_holding_to_text(const struct osb_holding *holding, uint8_t *buffer,
  * OSB_DONE, OSB_NOT_UTF8, OSB_NOT_JSON, OSB_NOT_AN_OBJECT, OSB_BAD_VERSION, OSB_BAD_OUTER, OSB_BAD_MEMBER,
  * OSB_IMPOSSIBLE, OSB_MEMORY. */
 uint32_t osb_holding_from_text(const uint8_t *text, size_t length, struct osb_holding *holding);
+
+/* ---- Service bindings as values. A platform keeps a struct osb_record of each binding, and a broker keeps a struct
+ *      osb_holding, beside those of the instance. The key in the database is the pair of the instance's id and the
+ *      binding's, which is used once and never again. A Bind is an OSB_KIND_PROVISION, an Unbind an
+ *      OSB_KIND_DEPROVISION, and the Poll of a binding's last operation an OSB_KIND_POLL. The id of a request is the
+ *      binding's, and the mode is that of binding at the plan: OSB_MODE_NONE if the plan isn't bindable. Every call on
+ *      a record or a holding serves for a binding too, but osb_record_create, osb_record_answer and osb_holding_begin
+ *      have those below in their place.
+ *
+ *      Credentials stand in a column of their own. Write them in the transaction in which the row or the record becomes
+ *      ready, and never again.
+ *
+ *      Three rules tie a binding to its instance. A broker begins a Bind only while the instance is there
+ *      (osb_binding_begin), and the deletion of an instance only while it holds none of its bindings
+ *      (osb_holding_begin_if). A platform creates a binding only while it records the instance ready
+ *      (osb_binding_create), and removes an instance only once it records each of its bindings gone
+ *      (osb_record_remove_if). Read what a rule looks at in the transaction that writes the result, locked. */
+
+/* A new binding of the instance, wanted, with the instance's service and plan, and its Bind, which is then in flight
+ * with the number 1 (record->attempt). The request's id is the binding's. Accept an asynchronous operation only if the
+ * broker serves the Fetch of a binding (bindings_retrievable). The record is written to the database before the request
+ * is sent.
+ * OSB_DONE, OSB_BAD_RECORD (the instance's), OSB_NOT_READY. */
+uint32_t osb_binding_create(const struct osb_record *instance, struct osb_id binding, bool accepts_incomplete,
+                            struct osb_record *record, struct osb_request *request);
+
+/* Takes the answer to the request of this number, as osb_record_answer does. But if the binding can't be fetched
+ * (retrievable is false), a 202 to a Bind is cleaned up: its credentials could never be had.
+ *
+ * If a Poll says succeeded in polling, send a Fetch first. Call this once the Fetch was answered 200 with an object,
+ * and otherwise osb_record_timeout for the Poll.
+ * OSB_DONE, OSB_BAD_RECORD, OSB_NOT_IN_FLIGHT. */
+uint32_t osb_binding_answer(struct osb_record *record, uint64_t attempt, struct osb_answer answer, bool retrievable);
+
+/* Begins with a request to this binding, as osb_holding_begin does for an instance, with two differences. `instance` is
+ * the holding of the binding's instance, read and locked in the transaction that writes this one.
+ *
+ * - If the instance isn't there (osb_holding_is_there), nothing begins: a Bind whose work would be due is answered with
+ * 503, and nothing changes.
+ *   - If the instance has a tombstone, and nothing is kept of the binding, nothing changes: every Bind is answered with
+ *     503, and an Unbind with 410. So the tombstones of bindings may be deleted once their instance has one.
+ *
+ * If the holding changed, it is written to the database before the work begins or the answer is sent.
+ * OSB_DONE, OSB_BAD_HOLDING (holding or instance), OSB_BAD_MODE, OSB_BAD_KIND. */
+uint32_t osb_binding_begin(struct osb_holding *holding, const struct osb_holding *instance, uint8_t mode,
+                           bool first_poll, const struct osb_request *request, const uint8_t attributes[32],
+                           struct osb_begun *begun);
+
+/* The answer to a Fetch of this binding: 200 if the row is ready and no work is pending, and else 404. Send a 200 with
+ * the credentials that are stored beside the holding.
+ * OSB_DONE, OSB_BAD_HOLDING. */
+uint32_t osb_binding_fetch(const struct osb_holding *holding, struct osb_answer *answer);
 
 /* ---- Requests and answers as HTTP and JSON have them (docs/wire.md). No connection is opened, and no HTTP is written:
  *      methods, targets, statuses and bodies go into an HTTP library and come out of one. Every body is JSON

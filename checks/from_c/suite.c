@@ -334,6 +334,77 @@ static void call_holding_texts(void)
     THEN(is_same_id(out.holding.work.id, id) && is_same_id(out.holding.work.plan, plan));
 }
 
+/* ---- Bindings. */
+
+static const struct osb_id binding = {0, 2};
+
+static void call_binding_records(void)
+{
+    struct osb_record instance = {{0, 0xa0}, {0, 0xb1}, 1, OSB_STATE_READY, OSB_KIND_NONE};
+    CALL(true, osb_record_is_ready(&instance));
+    CALL(false, osb_record_is_gone(&instance));
+    CALL(OSB_DONE, osb_binding_create(&instance, binding, true, &out.record, &out.request));
+    THEN(is_recorded(1, OSB_STATE_WANTED, OSB_KIND_PROVISION));
+    THEN(out.request.kind == OSB_KIND_PROVISION && out.request.accepts_incomplete);
+    THEN(is_same_id(out.request.id, binding) && is_same_id(out.request.service, service));
+    THEN(is_same_id(out.request.plan, plan));
+    CALL(OSB_NOT_IN_FLIGHT, osb_binding_answer(&out.record, 2, answered(202, OSB_BODY_EMPTY), false));
+    CALL(OSB_DONE, osb_binding_answer(&out.record, 1, answered(202, OSB_BODY_EMPTY), false));
+    THEN(is_recorded(1, OSB_STATE_CLEANING, OSB_KIND_NONE));
+    CALL(OSB_DONE, osb_binding_create(&instance, binding, true, &out.record, &out.request));
+    CALL(OSB_DONE, osb_binding_answer(&out.record, 1, answered(202, OSB_BODY_EMPTY), true));
+    THEN(is_recorded(1, OSB_STATE_POLLING, OSB_KIND_NONE));
+    CALL(OSB_BOUND, osb_record_remove_if(&out.record, false));
+    CALL(OSB_DONE, osb_record_remove_if(&out.record, true));
+    THEN(is_recorded(1, OSB_STATE_CLEANING, OSB_KIND_NONE));
+    CALL(OSB_NOT_REMOVABLE, osb_record_remove_if(&out.record, false));
+    instance.state = OSB_STATE_GONE;
+    CALL(true, osb_record_is_gone(&instance));
+    CALL(OSB_NOT_READY, osb_binding_create(&instance, binding, true, &out.record, &out.request));
+    instance.state = 7;
+    CALL(OSB_BAD_RECORD, osb_binding_create(&instance, binding, true, &out.record, &out.request));
+}
+
+static void call_binding_holdings(void)
+{
+    static const struct osb_holding nothing;
+    struct osb_holding instance = {{{0, 0xa0}, {0, 0xb1}, OSB_PHASE_READY}, {0}, true, false, false, {0}};
+    out.holding = nothing;
+    CALL(true, osb_holding_is_there(&instance, service, plan));
+    CALL(false, osb_holding_is_there(&instance, plan, service));
+    CALL(OSB_DONE, osb_binding_begin(&out.holding, &nothing, OSB_MODE_SYNC, false, &provision, no_attributes,
+                                     &out.begun));
+    THEN(out.begun.work == OSB_WORK_NONE && out.begun.answer.status == 503 && !out.holding.has_work);
+    CALL(false, osb_holding_is_held(&out.holding));
+    CALL(OSB_DONE, osb_binding_begin(&out.holding, &instance, OSB_MODE_SYNC, false, &provision, out.digest,
+                                     &out.begun));
+    THEN(out.begun.work == OSB_WORK_MAKE && out.holding.has_work && !out.holding.has_row);
+    THEN(memcmp(out.holding.attributes, out.digest, 32) == 0);
+    CALL(true, osb_holding_is_held(&out.holding));
+    CALL(OSB_DONE, osb_binding_fetch(&out.holding, &out.answer));
+    THEN(out.answer.status == 404 && out.answer.body == OSB_BODY_OTHER_ERROR);
+    CALL(OSB_DONE, osb_holding_end(&out.holding, OSB_MODE_SYNC, OSB_OUTCOME_DONE, &out.answer));
+    CALL(OSB_DONE, osb_binding_fetch(&out.holding, &out.answer));
+    THEN(out.answer.status == 200 && out.answer.body == OSB_BODY_EMPTY);
+    CALL(OSB_BAD_MODE, osb_binding_begin(&out.holding, &instance, 7, false, &provision, no_attributes, &out.begun));
+
+    /* A Deprovision of the instance, while a binding is held and after. */
+    out.holding = instance;
+    CALL(OSB_DONE, osb_holding_begin_if(&out.holding, OSB_MODE_SYNC, false, &deprovision, no_attributes, false,
+                                        &out.begun));
+    THEN(out.begun.work == OSB_WORK_NONE && out.begun.answer.status == 422 && !out.holding.has_work);
+    CALL(OSB_DONE, osb_holding_begin_if(&out.holding, OSB_MODE_SYNC, false, &deprovision, no_attributes, true,
+                                        &out.begun));
+    THEN(out.begun.work == OSB_WORK_DELETE && out.holding.has_work);
+
+    instance.has_tombstone = true;
+    CALL(false, osb_holding_is_there(&instance, service, plan));
+    CALL(true, osb_holding_is_held(&instance));
+    CALL(OSB_BAD_HOLDING, osb_binding_fetch(&instance, &out.answer));
+    CALL(OSB_BAD_HOLDING, osb_binding_begin(&out.holding, &instance, OSB_MODE_SYNC, false, &provision, no_attributes,
+                                            &out.begun));
+}
+
 /* ---- The wire, as a platform uses it (docs/wire.md). */
 
 static void call_platform_wire(void)
@@ -555,6 +626,8 @@ int main(void)
     call_holdings();
     call_waiting();
     call_holding_texts();
+    call_binding_records();
+    call_binding_holdings();
     call_platform_wire();
     call_named();
     call_details();

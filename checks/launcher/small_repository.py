@@ -16,6 +16,7 @@ osb_world: uuid
 osb_replay: osb_world
 osb_c: osb_world
 osb_c_instance: osb_world
+osb_c_binding: osb_c_instance
 osb_c_wire: osb_world
 """
 

@@ -66,8 +66,8 @@ fn some_work_from(holding: &OsbHolding) -> Option<Option<Request>>
     }
 }
 
-// The holding that crossed, if a call gives such a one.
-pub(crate) fn held_from(holding: &OsbHolding) -> Option<Holding>
+/// The holding that crossed, if a call gives such a one. It takes no memory.
+pub fn held_from(holding: &OsbHolding) -> Option<Holding>
     ensures held { result ≡ held_of holding.now }
 {
     let row = some_row_from(holding)?;
@@ -110,8 +110,8 @@ fn some_request_out(request: Option<Request>) -> OsbRequest
     }
 }
 
-// The holding as it crosses.
-pub(crate) fn held_out(held: Holding) -> OsbHolding
+/// The holding as it crosses. It takes no memory.
+pub fn held_out(held: Holding) -> OsbHolding
     ensures held { held_of result ≡ Some held }
     ensures row { result.has_row ≡ is_some held.row }
     ensures tombstone { result.has_tombstone ≡ held.tombstone }
@@ -132,8 +132,8 @@ pub(crate) fn held_out(held: Holding) -> OsbHolding
     }
 }
 
-// What comes of a request as it crosses.
-pub(crate) fn begun_out(begun: Begun) -> OsbBegun
+/// What comes of a request as it crosses. It takes no memory.
+pub fn begun_out(begun: Begun) -> OsbBegun
     ensures begun { begun_of result ≡ Some begun }
     ensures due { (result.work ≢ 0) ↔ IsWork begun }
     ensures plain { IsPlainBegun result }

@@ -22,8 +22,8 @@ pub struct OsbRecord {
     pub out: u8,
 }
 
-// The record that crossed, if a call gives such a one.
-pub(crate) fn recorded_from(kept: &OsbRecord) -> Option<Record>
+/// The record that crossed, if a call gives such a one. It takes no memory.
+pub fn recorded_from(kept: &OsbRecord) -> Option<Record>
     ensures recorded { result ≡ recorded_of kept.now }
 {
     let row = OsbPlatformRow {
@@ -36,9 +36,9 @@ pub(crate) fn recorded_from(kept: &OsbRecord) -> Option<Record>
     Record::from_parts(row, kept.attempt)
 }
 
-// The record as it crosses.
+/// The record as it crosses. It takes no memory.
 #[tactic(auto, using(osb_instance::proofs::RecordBack::sound_can_be))]
-pub(crate) fn recorded_out(recorded: Record) -> OsbRecord
+pub fn recorded_out(recorded: Record) -> OsbRecord
     ensures recorded { recorded_of result ≡ Some recorded }
 {
     let row = record_out(recorded.row());

@@ -19,7 +19,7 @@ use Rattle.osb_c_types.specs.declared.status.Status.TheVariants.{NotServiceText,
 use Rattle.osb_c_types.specs.declared.status.Status.TheVariants.{NoPlanVersion, RefusedMaintenance, NoName, NameTwice}
 use Rattle.osb_c_types.specs.declared.status.Status.TheVariants.{NoDescription, NotABoolean, NoBindable, NoPlan}
 use Rattle.osb_c_types.specs.declared.status.Status.TheVariants.{BindableUnserved, UpdateUnserved, InstancesUnserved}
-use Rattle.osb_c_types.specs.declared.status.Status.TheVariants.{BindingsUnserved, SameNumber}
+use Rattle.osb_c_types.specs.declared.status.Status.TheVariants.{BindingsUnserved, SameNumber, NotReady, Bound}
 
 abbrev pub code : Status → ℕ
 code Done = 0
@@ -91,6 +91,8 @@ code UpdateUnserved = 72
 code InstancesUnserved = 73
 code BindingsUnserved = 74
 code SameNumber = 75
+code NotReady = 76
+code Bound = 77
 
 -- whether a number is one of those of the statuses
 abbrev pub is_one_of : List Status → ℕ → Bool

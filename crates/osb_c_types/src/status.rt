@@ -145,6 +145,10 @@ pub enum Status {
     BindingsUnserved,
     /// Two ids of the document have one number.
     SameNumber,
+    /// The instance isn't recorded `ready`, so no binding of it is created.
+    NotReady,
+    /// A binding of the instance isn't `gone`, so the instance isn't removed.
+    Bound,
 }
 
 impl Status {
@@ -222,6 +226,8 @@ impl Status {
             Status::InstancesUnserved => 73,
             Status::BindingsUnserved => 74,
             Status::SameNumber => 75,
+            Status::NotReady => 76,
+            Status::Bound => 77,
         }
     }
 }

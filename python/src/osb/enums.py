@@ -82,6 +82,8 @@ class Status(Named):
     INSTANCES_UNSERVED = 73, "fetching an instance isn't served, and instances_retrievable is true"
     BINDINGS_UNSERVED = 74, "fetching a binding isn't served, and bindings_retrievable is true"
     SAME_NUMBER = 75, "two ids of the document have one number"
+    NOT_READY = 76, "the instance isn't recorded ready, so no binding of it is created"
+    BOUND = 77, "a binding of the instance isn't gone, so the instance isn't removed"
 
 
 class Kind(Named):

@@ -5,12 +5,13 @@ import ctypes
 from dataclasses import dataclass
 from typing import ClassVar
 
-from osb._crossing import answer_from, broker_row_from, broker_row_to, kind_to, mode_to, request_from, request_to
+from osb._crossing import answer_from, broker_row_from, broker_row_to, id_to, kind_to, mode_to, request_from, request_to
 from osb._header import WORK_NONE, CAnswer, CBegun, CHolding
 from osb._lib import lib
 from osb._texts import utf8
 from osb.enums import Kind, Mode, Outcome, Phase, Work
 from osb.errors import check, text_of
+from osb.ids import Id
 from osb.messages import Answer, BrokerRow, Request
 
 NO_ATTRIBUTES = bytes(32)
@@ -68,8 +69,72 @@ class Holding:
         holding, begun = _to(self), CBegun()
         digest = bytes(_digest(attributes))
         check(lib.osb_holding_begin(holding, mode_to(mode), first_poll, request_to(request), digest, begun))
-        due: Answer | Work = answer_from(begun.answer) if begun.work == WORK_NONE else Work(begun.work)
-        return _from(holding), due
+        return _from(holding), _due(begun)
+
+    def begin_if(
+        self,
+        mode: Mode | None,
+        request: Request,
+        *,
+        may_begin: bool,
+        first_poll: bool = False,
+        attributes: bytes = NO_ATTRIBUTES,
+    ) -> tuple[Holding, Answer | Work]:
+        """Begins with a request as `begin` does, but if `may_begin` is false, nothing begins: a request whose work
+        would be due is answered as if work were pending, and nothing changes.
+
+        For an instance that may have bindings, `may_begin` is whether `is_held` is false of each of them. Read it in
+        the transaction that writes the holding. A Deprovision is then answered with 422.
+        """
+        holding, begun = _to(self), CBegun()
+        digest, asked = bytes(_digest(attributes)), request_to(request)
+        check(lib.osb_holding_begin_if(holding, mode_to(mode), first_poll, asked, digest, may_begin, begun))
+        return _from(holding), _due(begun)
+
+    def begin_binding(
+        self,
+        instance: Holding,
+        mode: Mode | None,
+        request: Request,
+        *,
+        first_poll: bool = False,
+        attributes: bytes = NO_ATTRIBUTES,
+    ) -> tuple[Holding, Answer | Work]:
+        """Begins with a request to this binding, as `begin` does for an instance, with two differences. `instance` is
+        the holding of the binding's instance. Read it, locked, in the transaction that writes this one. The mode is
+        that of binding at the plan, and the id of the request is the binding's.
+
+        If the instance isn't there (`is_there`), nothing begins: a Bind whose work would be due is answered with 503,
+        and nothing changes.
+
+        If the instance has a tombstone, and nothing is kept of the binding, nothing changes: every Bind is answered
+        with 503, and an Unbind with 410. So the tombstones of bindings may be deleted once their instance has one.
+        """
+        holding, begun = _to(self), CBegun()
+        digest, asked = bytes(_digest(attributes)), request_to(request)
+        check(lib.osb_binding_begin(holding, _to(instance), mode_to(mode), first_poll, asked, digest, begun))
+        return _from(holding), _due(begun)
+
+    def fetch(self) -> Answer:
+        """The answer to a Fetch of this binding: 200 if the row is `ready` and no work is pending, and else 404. Send a
+        200 with the credentials that are stored beside the holding.
+        """
+        answer = CAnswer()
+        check(lib.osb_binding_fetch(_to(self), answer))
+        return answer_from(answer)
+
+    @property
+    def is_held(self) -> bool:
+        """Whether there is a row, or work is pending. True also of a holding that no call gives, so that nothing begins
+        then. While a binding is held, the deletion of its instance doesn't begin.
+        """
+        return bool(lib.osb_holding_is_held(_to(self)))
+
+    def is_there(self, service: Id, plan: Id) -> bool:
+        """Whether the row is `ready`, with this service and plan, and no work is pending. `begin_binding` asks this of
+        the instance's holding.
+        """
+        return bool(lib.osb_holding_is_there(_to(self), id_to(service), id_to(plan)))
 
     def end(self, mode: Mode | None, outcome: Outcome) -> tuple[Holding, Answer]:
         """Ends the pending work with this outcome, and gives the answer to its request. The mode has to fit. A refusal
@@ -120,6 +185,11 @@ def work_of(kind: Kind, mode: Mode | None) -> Work | None:
     """
     work = lib.osb_work_of(kind_to(kind), mode_to(mode))
     return None if work == WORK_NONE else Work(work)
+
+
+def _due(begun: CBegun) -> Answer | Work:
+    """The answer to send, or the work that is due."""
+    return answer_from(begun.answer) if begun.work == WORK_NONE else Work(begun.work)
 
 
 def _digest(attributes: bytes) -> ctypes.Array[ctypes.c_uint8]:

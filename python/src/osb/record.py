@@ -91,6 +91,48 @@ class Record:
         check(lib.osb_record_remove(record))
         return _from(record)
 
+    def remove_if(self, all_gone: bool) -> Record:
+        """Has an instance deleted that may have bindings, as `remove` does. `all_gone` is whether each binding of the
+        instance that is recorded `is_gone`. Read it in the transaction that writes the record, with the record locked.
+        This call waits for no binding and removes none: do that first. Raises BUSY, NOT_REMOVABLE, BOUND.
+        """
+        record = _to(self)
+        check(lib.osb_record_remove_if(record, all_gone))
+        return _from(record)
+
+    @property
+    def is_ready(self) -> bool:
+        """Whether `ready` is recorded. A binding of an instance is created only then."""
+        return bool(lib.osb_record_is_ready(_to(self)))
+
+    @property
+    def is_gone(self) -> bool:
+        """Whether `gone` is recorded. An instance is removed only once each of its bindings is gone."""
+        return bool(lib.osb_record_is_gone(_to(self)))
+
+    def create_binding(self, binding: Id, accepts_incomplete: bool) -> tuple[Record, Request]:
+        """A new binding of the instance that this is the record of: wanted, with the instance's service and plan, and
+        its Bind, which is then in flight with the number 1. The id of the request is the binding's.
+
+        Read this record, locked, in the transaction that writes the binding's. Accept an asynchronous operation only if
+        the broker serves the Fetch of a binding. Write the record to the database before the request is sent, under the
+        ids of the instance and of the binding, a pair that is used once and never again. Raises NOT_READY.
+        """
+        record, request = CRecord(), CRequest()
+        check(lib.osb_binding_create(_to(self), id_to(binding), accepts_incomplete, record, request))
+        return _from(record), request_from(request)
+
+    def answer_binding(self, attempt: int, answer: Answer, *, retrievable: bool) -> Record:
+        """Takes the answer to the request of this number, as `answer` does. But if the binding can't be fetched
+        (`retrievable` is false), a 202 to a Bind is cleaned up: its credentials could never be had.
+
+        If a Poll says `succeeded` in `polling`, send a Fetch first. Call this once the Fetch was answered 200 with an
+        object, and otherwise `timeout` for the Poll. Raises NOT_IN_FLIGHT.
+        """
+        record = _to(self)
+        check(lib.osb_binding_answer(record, _in_range(attempt), answer_to(answer), retrievable))
+        return _from(record)
+
     def to_text(self) -> str:
         """The text of the record, for a column of a database."""
         record = _to(self)

@@ -1,0 +1,68 @@
+package osb
+
+// #include <osb.h>
+import "C"
+
+// A platform keeps a Record of each binding, and a broker keeps a Holding, beside those of the instance. A Bind is a
+// KindProvision, an Unbind a KindDeprovision, and the Poll of a binding's last operation a KindPoll. The ID of a request
+// is the binding's, and the mode is that of binding at the plan. Every call serves for bindings too, but Create, Answer
+// and Begin have CreateBinding, AnswerBinding and BeginBinding in their place.
+
+// CreateBinding is a new binding of the instance that r is the record of: wanted, with the instance's service and plan,
+// and its Bind, which is then in flight with the number 1. Read r, locked, in the transaction that writes the binding's
+// record. Accept an asynchronous operation only if the broker serves the Fetch of a binding. Write the record to the
+// database before the request is sent, under the IDs of the instance and of the binding, a pair that is used once and
+// never again.
+//
+// Errors: ErrBadRecord, ErrNotReady.
+func (r Record) CreateBinding(binding ID, acceptsIncomplete bool) (Record, Sent, error) {
+	instance := r.c()
+	var record C.struct_osb_record
+	var request C.struct_osb_request
+	status := C.osb_binding_create(&instance, binding.c(), C.bool(acceptsIncomplete), &record, &request)
+	if err := done(status); err != nil {
+		return Record{}, Sent{}, err
+	}
+	return recordOf(record), Sent{Request: requestOf(request), Attempt: uint64(record.attempt)}, nil
+}
+
+// AnswerBinding takes the answer to the request of this number, as Answer does. But if the binding can't be fetched
+// (retrievable is false), a 202 to a Bind is cleaned up: its credentials could never be had.
+//
+// If a Poll says succeeded in polling, send a Fetch first. Call AnswerBinding once the Fetch was answered 200 with an
+// object, and otherwise Timeout for the Poll.
+//
+// Errors: ErrBadRecord, ErrNotInFlight.
+func (r Record) AnswerBinding(attempt uint64, answer Answer, retrievable bool) (Record, error) {
+	record := r.c()
+	return r.next(&record, C.osb_binding_answer(&record, C.uint64_t(attempt), answer.c(), C.bool(retrievable)))
+}
+
+// BeginBinding begins with a request to this binding, as Begin does for an instance, with two differences. The instance
+// is the holding of the binding's instance. Read it, locked, in the transaction that writes this one.
+//
+//   - If the instance isn't there (IsThere), nothing begins: a Bind whose work would be due is answered with 503, and
+//     nothing changes.
+//   - If the instance has a tombstone, and nothing is kept of the binding, nothing changes: every Bind is answered with
+//     503, and an Unbind with 410. So the tombstones of bindings may be deleted once their instance has one.
+//
+// Errors: ErrBadHolding, ErrBadMode, ErrBadKind.
+func (h Holding) BeginBinding(instance Holding, mode Mode, request Request, rules Rules) (Holding, Begun, error) {
+	holding, beside, asked, attributes := h.c(), instance.c(), request.c(), rules.Attributes.c()
+	var begun C.struct_osb_begun
+	return h.next(&holding, &begun, C.osb_binding_begin(
+		&holding, &beside, C.uint8_t(mode), C.bool(rules.FirstPoll), &asked, &attributes[0], &begun))
+}
+
+// Fetch is the answer to a Fetch of this binding: 200 if the row is ready and no work is pending, and else 404. Send a
+// 200 with the credentials that are stored beside the holding.
+//
+// Errors: ErrBadHolding.
+func (h Holding) Fetch() (Answer, error) {
+	holding := h.c()
+	var answer C.struct_osb_answer
+	if err := done(C.osb_binding_fetch(&holding, &answer)); err != nil {
+		return Answer{}, err
+	}
+	return answerOf(answer), nil
+}
