@@ -575,7 +575,7 @@ INTERFACE: list[Part] = [
         """Begins with a request to this binding, as osb_holding_begin does for an instance, with two differences.
         `instance` is the holding of the binding's instance, read and locked in the transaction that writes this one.
 
-        - If the instance isn't there (osb_holding_is_there), nothing begins: a Bind whose work would be due is answered
+        - If the instance isn't there (osb_holding_is_there), no Bind begins: one whose work would be due is answered
           with 503, and nothing changes.
         - If the instance has a tombstone, and nothing is kept of the binding, nothing changes: every Bind is answered
           with 503, and an Unbind with 410. So the tombstones of bindings may be deleted once their instance has one.

@@ -41,7 +41,7 @@ func (r Record) AnswerBinding(attempt uint64, answer Answer, retrievable bool) (
 // BeginBinding begins with a request to this binding, as Begin does for an instance, with two differences. The instance
 // is the holding of the binding's instance. Read it, locked, in the transaction that writes this one.
 //
-//   - If the instance isn't there (IsThere), nothing begins: a Bind whose work would be due is answered with 503, and
+//   - If the instance isn't there (IsThere), no Bind begins: one whose work would be due is answered with 503, and
 //     nothing changes.
 //   - If the instance has a tombstone, and nothing is kept of the binding, nothing changes: every Bind is answered with
 //     503, and an Unbind with 410. So the tombstones of bindings may be deleted once their instance has one.

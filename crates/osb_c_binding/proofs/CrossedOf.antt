@@ -3,10 +3,11 @@ use Rattle.std.proofs.Common.{◌≡◌, ◌∙◌, ap, subst, true, false, ℕ}
 use Rattle.std.specs.Prelude.{Option, Some, IsSomeAnd}
 use Rattle.osb_message.specs.declared.catalogue.Mode.{Mode}
 use Rattle.osb_message.specs.declared.messages.Request.{Request}
-use Rattle.osb_instance.specs.Begin.{begins, busy, is_there}
+use Rattle.osb_instance.specs.Begin.{begins, busy}
 use Rattle.osb_instance.specs.Held.{Held}
 use Rattle.osb_instance.specs.declared.digest.Digest.{Digest}
 use Rattle.osb_instance.specs.declared.work.Begun.{Begun}
+use Rattle.osb_binding.specs.Begun.{may_begin}
 use Rattle.osb_binding.specs.Requests.{binding_request, life_request}
 use Rattle.osb_binding.specs.declared.request.BindingRequest.{BindingRequest}
 use Rattle.osb_c_types.specs.Modes.{mode_of}
@@ -31,13 +32,13 @@ with_begun after held = (held, after.1)
 -- what is put off, of the request and the holding that a call was given in their place
 pub put_off_as : (i held self x : Held) (m : Option Mode) (r : BindingRequest) (q : Request) (d : Digest)
     (after : Held × Begun) → r ≡ binding_request 0 q → self ≡ held → x ≡ after.0
-    → (is_there i r.service r.plan ≡ false → begins m self (life_request r) d ≡ true
+    → (may_begin i r ≡ false → begins m self (life_request r) d ≡ true
     → after ≡ (self, Begun.Answered (busy r.kind)))
-    → is_there i q.service q.plan ≡ false → begins m held q d ≡ true
+    → may_begin i (binding_request 0 q) ≡ false → begins m held q d ≡ true
     → with_begun after x ≡ (held, Begun.Answered (busy q.kind))
 put_off_as i held self x m r q d after e f g h away due =
     ap (with_begun after) g
-    ∙ subst (λ (s : Held). is_there i q.service q.plan ≡ false → begins m s q d ≡ true
+    ∙ subst (λ (s : Held). may_begin i (binding_request 0 q) ≡ false → begins m s q d ≡ true
     → after ≡ (s, Begun.Answered (busy q.kind))) f
-    (subst (λ (b : BindingRequest). is_there i b.service b.plan ≡ false → begins m self (life_request b) d ≡ true
+    (subst (λ (b : BindingRequest). may_begin i b ≡ false → begins m self (life_request b) d ≡ true
     → after ≡ (self, Begun.Answered (busy b.kind))) e h) away due

@@ -1,11 +1,11 @@
 //! A broker's holding of one binding: the calls in which it differs from an instance's.
 ghost use Rattle.std.specs.Prelude.{◌≡◌, ◌≢◌, ◌↔◌, ◌⊎◌, [], ◌∷◌, Some, true, false};
 ghost use Rattle.std.specs.Prelude.{IsTrue, IsSome, IsNone, IsSomeAnd};
-ghost use Rattle.osb_instance.specs.Begin.{begins, busy, is_held, is_there, IsWork};
+ghost use Rattle.osb_instance.specs.Begin.{begins, busy, is_held, IsWork};
 ghost use Rattle.osb_instance.specs.Fits.{fits};
 ghost use Rattle.osb_instance.specs.Held.{nothing_held};
 ghost use Rattle.osb_instance.specs.declared.work.Begun.{Begun};
-ghost use Rattle.osb_binding.specs.Begun.{fetched};
+ghost use Rattle.osb_binding.specs.Begun.{fetched, may_begin};
 ghost use Rattle.osb_binding.specs.Requests.{binding_request};
 ghost use Rattle.osb_c_types.specs.Answers.{IsNumbered, answer_of};
 ghost use Rattle.osb_c_types.specs.Kinds.{kind_of};
@@ -45,10 +45,10 @@ fn begin_within(
     attributes: Digest,
 ) -> (Holding, Begun)
     ensures begun { result ≡ begun_within instance mode first_poll held asked attributes }
-    ensures put_off { is_there instance asked.service asked.plan ≡ false → begins mode held asked attributes ≡ true
+    ensures put_off { may_begin instance (binding_request 0 asked) ≡ false → begins mode held asked attributes ≡ true
         → result ≡ (held, Begun.Answered (busy asked.kind)) }
-    ensures nothing_begins { is_there instance asked.service asked.plan ≡ false → IsWork result.1 → ⊥ }
-    ensures unheld { is_there instance asked.service asked.plan ≡ false → is_held held ≡ false
+    ensures nothing_begins { may_begin instance (binding_request 0 asked) ≡ false → IsWork result.1 → ⊥ }
+    ensures unheld { may_begin instance (binding_request 0 asked) ≡ false → is_held held ≡ false
         → is_held result.0 ≡ false }
     ensures forgotten { instance.tombstone ≡ true → held ≡ nothing_held → result.0 ≡ nothing_held }
     ensures fits { fits mode held ≡ true → fits mode result.0 ≡ true }
@@ -64,8 +64,8 @@ fn begin_within(
 /// is the holding of the binding's instance, read and locked in the transaction that writes this one. The mode is that
 /// of binding at the request's plan, and the id of the request is the binding's.
 ///
-/// 1. If the instance isn't there (`osb_holding_is_there`, with the request's service and plan), nothing begins: a Bind
-///    whose work would be due is answered with 503, and nothing changes.
+/// 1. If the instance isn't there (`osb_holding_is_there`, with the request's service and plan), no Bind begins: one whose
+///    work would be due is answered with 503, and nothing changes.
 /// 2. If the instance has a tombstone, and nothing is kept of the binding, nothing changes: every Bind is answered with
 ///    503, and an Unbind with 410, which leaves no tombstone. So tombstones of bindings may be deleted once their
 ///    instance has one.
@@ -92,14 +92,14 @@ pub extern "C" fn osb_binding_begin(
         × (begun_of given.new ≡ Some (begun_within i m first_poll held asked (digest_of attributes.now)).1)) }
     ensures put_off { result ≡ code Status.Done
         → IsAskedOf holding.old instance.now mode request.now (λ held i m asked.
-        is_there i asked.service asked.plan ≡ false → begins m held asked (digest_of attributes.now) ≡ true
+        may_begin i (binding_request 0 asked) ≡ false → begins m held asked (digest_of attributes.now) ≡ true
         → (held_of holding.new ≡ Some held) × (begun_of given.new ≡ Some (Begun.Answered (busy asked.kind)))) }
     ensures nothing_begins { result ≡ code Status.Done
         → IsAskedOf holding.old instance.now mode request.now (λ held i m asked.
-        is_there i asked.service asked.plan ≡ false → given.new.work ≡ 0) }
+        may_begin i (binding_request 0 asked) ≡ false → given.new.work ≡ 0) }
     ensures unheld { result ≡ code Status.Done
         → IsAskedOf holding.old instance.now mode request.now (λ held i m asked.
-        is_there i asked.service asked.plan ≡ false → is_held held ≡ false
+        may_begin i (binding_request 0 asked) ≡ false → is_held held ≡ false
         → IsSomeAnd (held_of holding.new) (λ after. is_held after ≡ false)) }
     ensures forgotten { result ≡ code Status.Done
         → IsAskedOf holding.old instance.now mode request.now (λ held i m asked.

@@ -104,8 +104,8 @@ class Holding:
         the holding of the binding's instance. Read it, locked, in the transaction that writes this one. The mode is
         that of binding at the plan, and the id of the request is the binding's.
 
-        If the instance isn't there (`is_there`), nothing begins: a Bind whose work would be due is answered with 503,
-        and nothing changes.
+        If the instance isn't there (`is_there`), no Bind begins: one whose work would be due is answered with 503, and
+        nothing changes.
 
         If the instance has a tombstone, and nothing is kept of the binding, nothing changes: every Bind is answered
         with 503, and an Unbind with 410. So the tombstones of bindings may be deleted once their instance has one.

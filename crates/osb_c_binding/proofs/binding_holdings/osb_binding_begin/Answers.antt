@@ -1,9 +1,11 @@
 use Rattle.std.proofs.Common.{◌≡◌, true, false, sym, ◌∙◌, ap}
 use Rattle.std.specs.Prelude.{Some, IsSomeAnd}
 use Rattle.osb_instance.specs.Fits.{fits}
-use Rattle.osb_instance.specs.Begin.{begins, busy, is_held, is_there}
+use Rattle.osb_instance.specs.Begin.{begins, busy, is_held}
 use Rattle.osb_instance.specs.Held.{Held, nothing_held}
 use Rattle.osb_instance.specs.declared.work.Begun.{Begun}
+use Rattle.osb_binding.specs.Begun.{may_begin}
+use Rattle.osb_binding.specs.Requests.{binding_request}
 use Rattle.osb_c_instance.specs.Holdings.{begun_of, digest_of, held_of}
 use Rattle.osb_c_instance.proofs.Crossed.{some_and}
 use Rattle.osb_c_binding.proofs.CrossedOf.{asked_of}
@@ -12,7 +14,7 @@ use Rattle.osb_c_binding.proofs.binding_holdings.osb_binding_begin.Goals as goal
 pub returns-clause-put_off : goal.returns-clause-put_off
 returns-clause-put_off c = λ done.
     asked_of c.args.holding.now c.args.instance.now c.args.mode c.args.request.now
-    (λ held i m q. is_there i q.service q.plan ≡ false → begins m held q (digest_of c.args.attributes.now) ≡ true
+    (λ held i m q. may_begin i (binding_request 0 q) ≡ false → begins m held q (digest_of c.args.attributes.now) ≡ true
     → (held_of c.held_out.result ≡ Some held) × (begun_of c.begun_out.result ≡ Some (Begun.Answered (busy q.kind))))
     c.in-Some.held c.in-Some-held_from.instance c.in-Some-mode_from.mode c.in-Some-request_from.asked
     c.in-Some.ensures.held c.in-Some-held_from.ensures.held c.in-Some-mode_from.ensures.mode
@@ -25,7 +27,7 @@ returns-clause-put_off c = λ done.
 pub returns-clause-unheld : goal.returns-clause-unheld
 returns-clause-unheld c = λ done.
     asked_of c.args.holding.now c.args.instance.now c.args.mode c.args.request.now
-    (λ held i m q. is_there i q.service q.plan ≡ false → is_held held ≡ false
+    (λ held i m q. may_begin i (binding_request 0 q) ≡ false → is_held held ≡ false
     → IsSomeAnd (held_of c.held_out.result) (λ after. is_held after ≡ false))
     c.in-Some.held c.in-Some-held_from.instance c.in-Some-mode_from.mode c.in-Some-request_from.asked
     c.in-Some.ensures.held c.in-Some-held_from.ensures.held c.in-Some-mode_from.ensures.mode
