@@ -794,7 +794,8 @@ INTERFACE: list[Part] = [
     Call(
         "uint32_t osb_request_identity(const uint8_t *value, size_t length)",
         """Judges the header X-Broker-API-Request-Identity. If it is done, the broker returns the value in the same
-        header of its answer. A value that is empty or has a control character names nobody (this project's choice).""",
+        header of its answer. A value that is empty or has an ASCII control character names nobody (this project's
+        choice).""",
         "OSB_DONE, OSB_NOT_UTF8, OSB_NO_IDENTITY.",
     ),
     Call(

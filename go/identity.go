@@ -36,8 +36,8 @@ func OriginatingIdentity(value string) (Identity, error) {
 // RequestIdentity judges the header X-Broker-API-Request-Identity (section Request Identity). If it returns nil, the
 // broker returns the value in the same header of its answer.
 //
-// Errors: ErrNotUTF8, and ErrNoIdentity if the value is empty or has a control character, which is this project's
-// choice.
+// Errors: ErrNotUTF8, and ErrNoIdentity if the value is empty or has an ASCII control character, which is this
+// project's choice.
 func RequestIdentity(value string) error {
 	given := []byte(value)
 	return done(C.osb_request_identity(pointer(given), size(given)))

@@ -659,7 +659,7 @@ uint32_t osb_originating_identity(const uint8_t *value, size_t length, size_t *p
                                   size_t *needed);
 
 /* Judges the header X-Broker-API-Request-Identity. If it is done, the broker returns the value in the same header of
- * its answer. A value that is empty or has a control character names nobody (this project's choice).
+ * its answer. A value that is empty or has an ASCII control character names nobody (this project's choice).
  * OSB_DONE, OSB_NOT_UTF8, OSB_NO_IDENTITY. */
 uint32_t osb_request_identity(const uint8_t *value, size_t length);
 

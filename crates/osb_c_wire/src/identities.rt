@@ -57,9 +57,9 @@ pub extern "C" fn osb_originating_identity(
 }
 
 /// Judges the text by which a platform names a request, the value of the header X-Broker-API-Request-Identity, which a
-/// broker returns in the same header of its answer: any text that isn't empty and has no control character, which no
-/// answer could carry (section Request Identity; that other values count as none is this project's choice). It takes no
-/// memory.
+/// broker returns in the same header of its answer: any text that isn't empty and has no ASCII control character, which
+/// no answer could carry (section Request Identity; that other values count as none is this project's choice). It takes
+/// no memory.
 ///
 /// It returns `Done`; `NotUtf8` exactly where the value isn't UTF-8; or `NoIdentity` exactly where it is, and counts as
 /// none.

@@ -55,8 +55,8 @@ pub enum BrokerEvent {
     },
     /// The broker gives up a row that waits for its first Poll. It applies if one does.
     GiveUpWaiting,
-    /// The resource becomes this. It applies if work is pending or an operation runs, and a deletion creates nothing:
-    /// what it leaves is no more than before.
+    /// The resource becomes this. It applies if work is pending or an operation runs. A deletion creates nothing: by one
+    /// the resource may become absent, or a part of what exists, and never whole.
     Work {
         /// What exists of it then.
         resource: Resource,

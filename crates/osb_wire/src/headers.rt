@@ -215,8 +215,8 @@ fn are_printable(text: &[u8]) -> bool
 }
 
 /// The text by which a platform names a request, from the value of [`REQUEST_IDENTITY_HEADER`], which a broker returns in
-/// the same header of its answer; none where it is empty or has a control character, which no answer could carry. It takes
-/// no memory. Section Request Identity; that other values count as none is this project's choice.
+/// the same header of its answer; none where it is empty or has an ASCII control character, which no answer could carry.
+/// It takes no memory. Section Request Identity; that other values count as none is this project's choice.
 pub fn request_identity(value: &str) -> Option<&str>
     ensures identity { option_map (λ text. text.now) result ≡ headers.request_identity_in value.now }
 {

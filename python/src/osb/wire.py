@@ -422,8 +422,8 @@ def originating_identity(value: str) -> OriginatingIdentity | None:
 
 def request_identity(value: str) -> str | None:
     """The text by which a platform names a request in the header X-Broker-API-Request-Identity, which a broker returns
-    in the same header of its answer (section Request Identity). None where it is empty or has a control character,
-    which is this project's choice. Raises NOT_UTF8.
+    in the same header of its answer (section Request Identity). None where it is empty or has an ASCII control
+    character, which is this project's choice. Raises NOT_UTF8.
     """
     given = utf8(value)
     status = lib.osb_request_identity(given, len(given))
