@@ -1,4 +1,4 @@
-"""The programs of crates that are for checks alone: `library_cases` and `refusal_cases`.
+"""The programs of crates that are for checks alone: `library_cases`, `refusal_cases` and `binding_cases`.
 
 They aren't shipped. `rt ci` builds them, and so does `rt run` in the crate's folder. A test that needs one is skipped
 if it isn't built from the sources as they stand.
@@ -30,14 +30,20 @@ def program_of(crate: str) -> Path:
     return program
 
 
-def cases_of(library: str) -> Tell:
-    """Tells what library_cases writes of some lines of the library. Skips the test if the program isn't built."""
-    program = program_of("library_cases")
+def told_by(crate: str) -> Tell:
+    """Tells what the program of the crate writes of some lines. Skips the test if the program isn't built."""
+    program = program_of(crate)
 
     def tell(lines: Sequence[str]) -> str:
-        text = "".join(f"{line}\n" for line in (f"of {library}", *lines))
+        text = "".join(f"{line}\n" for line in lines)
         ran = subprocess.run([program], input=text.encode(), capture_output=True, check=False)
         assert (ran.returncode, ran.stderr) == (0, b"")
-        return ran.stdout.decode().partition("\n")[2]
+        return ran.stdout.decode()
 
     return tell
+
+
+def cases_of(library: str) -> Tell:
+    """Tells what library_cases writes of some lines of the library. Skips the test if the program isn't built."""
+    tell = told_by("library_cases")
+    return lambda lines: tell((f"of {library}", *lines)).partition("\n")[2]

@@ -460,8 +460,8 @@ def own_number(of: dict[str, Any], fault: str) -> int:
     return number
 
 
-def sold(document: bytes) -> dict[tuple[int, int], str]:
-    """The modes of the plans that a document names, or `Refused` with the first fault."""
+def top_of(document: bytes) -> dict[str, Any]:
+    """The members of a document, none if it is no object, or `Refused` if it isn't JSON."""
     try:
         value = json.loads(
             document.decode(), parse_constant=refuse, parse_float=finite, parse_int=finite, object_pairs_hook=Pairs
@@ -470,8 +470,13 @@ def sold(document: bytes) -> dict[tuple[int, int], str]:
         value = refuse
     if value is refuse or not is_sound(value):
         raise Refused("the document must be JSON")
+    return dict(value.pairs) if isinstance(value, Pairs) else {}
+
+
+def sold(document: bytes) -> dict[tuple[int, int], str]:
+    """The modes of the plans that a document names, or `Refused` with the first fault."""
     modes: dict[tuple[int, int], str] = {}
-    top = dict(value.pairs) if isinstance(value, Pairs) else {}
+    top = top_of(document)
     for service in listed(top, "services", "the document must have a list of services"):
         number = own_number(service, "the id of a service must be a string of 1 to 255 bytes")
         for plan in listed(service, "plans", "a service must have a list of plans"):

@@ -1,0 +1,1 @@
+"""osb_binding_wire, compared with Python's json and urllib."""
