@@ -63,7 +63,7 @@ def comment(text: str, front: str = "", returns: str = "") -> list[str]:
     blocks: list[tuple[str, str]] = []
     for paragraph in re.split(r"\n\s*\n", text.strip()):
         blocks += [("", "")] if blocks else []
-        blocks += [(it, "  " * it.startswith("- ")) for it in re.split(r"\n\s*(?=- )", paragraph)]
+        blocks += [(it, "  " * it.startswith("- ")) for it in re.split(r"\n\s*(?=- )", paragraph.strip())]
     blocks += [(returns, "")] if returns else []
     blocks[-1] = (blocks[-1][0] + "\0*/", blocks[-1][1])
     lines: list[str] = []

@@ -463,8 +463,8 @@ uint32_t osb_binding_answer(struct osb_record *record, uint64_t attempt, struct 
 /* Begins with a request to this binding, as osb_holding_begin does for an instance, with two differences. `instance` is
  * the holding of the binding's instance, read and locked in the transaction that writes this one.
  *
- * - If the instance isn't there (osb_holding_is_there), no Bind begins: one whose work would be due is answered with
- * 503, and nothing changes.
+ *   - If the instance isn't there (osb_holding_is_there), no Bind begins: one whose work would be due is answered with
+ *     503, and nothing changes.
  *   - If the instance has a tombstone, and nothing is kept of the binding, nothing changes: every Bind is answered with
  *     503, and an Unbind with 410. So the tombstones of bindings may be deleted once their instance has one.
  *
