@@ -25,4 +25,4 @@ pub use binding::ServiceBinding;
 pub use event::{BindingEvent, ServiceEvent};
 pub use order::BindingOrder;
 pub use rules::Rules;
-pub use service::ServiceInstance;
+pub use service::{ServiceInstance, run};

@@ -1,5 +1,5 @@
 //! An instance and its bindings.
-ghost use Rattle.std.specs.Prelude.{◌≡◌, ◌≢◌, ℕ, true, false, None, Some, Ok, IfSome, IsSome, OnOk, OnErr, option_copied, option_map};
+ghost use Rattle.std.specs.Prelude.{◌≡◌, ◌≢◌, ℕ, true, false, None, Some, Ok, IfOk, IfSome, IsSome, OnOk, OnErr, option_copied, option_map};
 ghost use Rattle.std.specs.BTreeMap as tree;
 ghost use Rattle.std.specs.FinMap as finite;
 ghost use Rattle.std.specs.Ordering.{nat_cmp};
@@ -320,6 +320,30 @@ impl ServiceInstance {
         };
         step_at(&mut self.bindings, alloc, id, allowed, event)
     }
+}
+
+/// A new instance without bindings, stepped through the events: whatever they are, and in whatever order, it agrees with
+/// its bindings then, in the sense of the [crate](crate)'s first page (this project's choice). `alloc` is for all that is
+/// written.
+///
+/// # Errors
+///
+/// [`Memory`] at the first step at which an allocation failed.
+pub fn run(
+    alloc: Global,
+    rules: Rules,
+    order: Order,
+    events: &[ServiceEvent],
+) -> Result<ServiceInstance, Memory>
+    ensures rules { IfOk result (λ service. service.rules ≡ rules) }
+    ensures agrees { IfOk result (λ service. ServiceAgrees service) }
+{
+    let mut service = ServiceInstance::new(alloc, rules, order);
+    for event in events {
+        service.step(alloc, *event)?;
+    }
+    service.agreement();
+    Ok(service)
 }
 
 // The order of a binding's life: it has the service and plan of its instance.
