@@ -10,7 +10,6 @@ import urllib.parse
 from collections.abc import Callable
 
 from binding_wire import model
-
 from wire.cases import data, form, given, rejection, spaceless, split, text, told
 from wire.model import Refused
 from wire.model import answer as life_answer

@@ -7,7 +7,6 @@ from __future__ import annotations
 import json
 
 from hypothesis import strategies as st
-
 from wire.lines import AT_ONCE, NAMED_IDS, SEEDS, Lines, changed, hexed, some
 from wire.texts import (
     IDS,
