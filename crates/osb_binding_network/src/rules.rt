@@ -7,7 +7,7 @@ pub struct Rules {
     /// The platform creates a binding only while it records the instance `ready`, and removes an instance only while
     /// it records each binding `gone`, or not at all.
     pub platform: bool,
-    /// The broker begins nothing of a binding unless the instance is there, and nothing of an instance while it holds a
-    /// binding. It answers then as if work were pending.
+    /// The broker begins no Bind unless the instance is there, and nothing of an instance while it holds a binding. It
+    /// answers then as if work were pending.
     pub broker: bool,
 }
