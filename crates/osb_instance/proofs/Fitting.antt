@@ -1,6 +1,6 @@
 -- What fits its plan goes on fitting it.
 use Rattle.std.proofs.Common.{◌≡◌, ◌≢◌, ℕ, Bool, true, false, refl, sym, ap, subst}
-use Rattle.std.specs.Prelude.{Option, Some, None, is_some, ◌&&◌, ◌||◌, ◌==◌, not, if◌then◌else◌}
+use Rattle.std.specs.Prelude.{Option, Some, None, is_some, ◌&&◌, ◌==◌, not, if◌then◌else◌}
 use Rattle.osb_message.specs.declared.catalogue.Mode.{Mode}
 use Rattle.osb_message.specs.declared.catalogue.Mode.TheVariants.{Sync, Async}
 use Rattle.osb_message.specs.declared.messages.Kind.{Kind}
@@ -18,7 +18,6 @@ use Rattle.osb_broker.specs.Finished.{finished_in}
 use Rattle.osb_instance.specs.Due.{work_due, work_of}
 use Rattle.osb_message.specs.declared.messages.Answer.{Answer}
 use Rattle.osb_message.specs.declared.messages.ErrorCode.TheVariants.{AsyncRequired}
-use Rattle.osb_instance.specs.declared.work.Begun.TheVariants.{Answered}
 use Rattle.osb_instance.specs.declared.work.Work.{Work}
 use Rattle.osb_instance.specs.Fits.{fits, row_fits, work_fits}
 use Rattle.osb_instance.specs.declared.digest.Digest.{Digest}

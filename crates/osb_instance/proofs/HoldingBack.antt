@@ -1,23 +1,27 @@
 -- A holding comes back from its text, and what a text names can come about.
-use Rattle.std.proofs.Common.{◌≡◌, ◌≤◌, ℕ, ◌*◌, Bool, true, false, refl, sym, ◌∙◌, ap, arith}
-use Rattle.std.specs.Prelude.{List, Option, Some, None, Ok, IsSome, IsSomeAnd, ◌&&◌, length, option_map}
+use Rattle.std.proofs.Common.{◌≡◌, ◌≤◌, ℕ, ◌*◌, Bool, true, false, refl, ◌∙◌, ap, arith, eq-eqb}
+use Rattle.std.specs.Prelude.{List, Option, Some, None, Result, Ok, Err, ◌&&◌, if◌then◌else◌}
+use Rattle.std.specs.Prelude.{length, option_map}
 use Rattle.std.proofs.lemmas.Slice.Eq.{bytes_eq-Decides}
-use Rattle.hex.specs.Hex.{IsBytes, decode_of, decode_sized, encode_lower, lower_digits}
+use Rattle.hex.specs.Hex.{IsBytes, lower_digits}
 use Rattle.hex.proofs.HexLemmas.{length-encode_with, decode_of-encode_lower, decode_sized-twice}
 use Rattle.osb_broker.specs.declared.row.BrokerRow.{BrokerRow}
 use Rattle.osb_broker.specs.declared.row.Phase.{Phase}
 use Rattle.osb_message.specs.IdText.{id_text, id_of_lower}
 use Rattle.osb_message.specs.declared.messages.Request.{Request}
-use Rattle.osb_instance.specs.Frame.{and_then, as_an_object}
+use Rattle.osb_instance.specs.Frame.{and_then, as_an_object, has_version, object_in, of_version}
 use Rattle.osb_instance.specs.Held.{Held, IsHeldSound, no_attributes}
 use Rattle.osb_instance.specs.HoldingText.{row_value, row_named, some_row_value, some_row_in}
 use Rattle.osb_instance.specs.HoldingText.{work_value, work_named, some_work_value, some_work_in}
 use Rattle.osb_instance.specs.HoldingText.{digest_text, digest_in, digest_of, can_be, can_have, is_making}
-use Rattle.osb_instance.specs.HoldingText.{holding_value, holding_named, holding_by_version, holding_in}
+use Rattle.osb_instance.specs.HoldingText.{holding_value, holding_named, holding_of, holding_by_version, holding_in}
+use Rattle.osb_instance.specs.HoldingText.{holding_in_of, first_holding_of, first_version, version}
 use Rattle.osb_instance.specs.Rows.{broker_row, held_of_parts, held_row, is_waiting, phase_in, phase_named, phase_word, row_phase}
 use Rattle.osb_instance.specs.declared.digest.Digest.{Digest}
 use Rattle.osb_instance.specs.declared.phase.HoldingPhase.{HoldingPhase}
 use Rattle.osb_instance.specs.declared.phase.HoldingRow.{HoldingRow}
+use Rattle.osb_instance.specs.declared.faults.TextFault.{TextFault}
+use Rattle.osb_instance.specs.declared.faults.TextFault.TheVariants.{BadVersion}
 use Rattle.osb_instance.proofs.RecordBack.{kind_reads}
 use Rattle.serde_json.specs.Data.{Data, depth}
 use Rattle.serde_json.specs.Read.{read, max_depth}
@@ -94,12 +98,12 @@ pub shown : (held : Held) → IsHeldSound held
     → held_of_parts (held_row held.row held.waiting) held.work held.tombstone held.attributes ≡ held
 shown held sound = shown_with held.row held.work held.tombstone held.waiting held.attributes sound
 
-pub holding_reads : (held : Held) → digest_in (digest_text held.attributes) ≡ Some held.attributes
+pub holding_reads : (format : ℕ) (held : Held) → digest_in (digest_text held.attributes) ≡ Some held.attributes
     → some_row_in (some_row_value (held_row held.row held.waiting)) ≡ Some (held_row held.row held.waiting)
     → some_work_in (some_work_value held.work) ≡ Some held.work → IsHeldSound held
-    → holding_named (holding_value held) ≡ Some held
+    → holding_named (holding_value format held) ≡ Some held
 unfolding holding_named
-holding_reads held digest row work sound =
+holding_reads format held digest row work sound =
     rw (digest, row, work) (ap Some (shown held sound))
 
 -- ---- what can come about
@@ -179,16 +183,35 @@ shallow_work : (k : Option Request) → depth (some_work_value k) ≤ 1
 shallow_work None = omega arith
 shallow_work (Some k) = omega arith
 
-holding_value_read : (text : List ℕ) (d : Data) (held : Held) → d ≡ holding_value held
-    → (depth d ≤ max_depth → read text ≡ Some d) → read text ≡ Some (holding_value held)
-holding_value_read text d held is reads =
-    let shallow : depth (holding_value held) ≤ max_depth =
+holding_value_read : (format : ℕ) (text : List ℕ) (d : Data) (held : Held) → d ≡ holding_value format held
+    → (depth d ≤ max_depth → read text ≡ Some d) → read text ≡ Some (holding_value format held)
+holding_value_read format text d held is reads =
+    let shallow : depth (holding_value format held) ≤ max_depth =
     omega (arith, shallow_row (held_row held.row held.waiting), shallow_work held.work) in
     reads (rw is shallow) ∙ ap Some is
 
-pub holding_back : (text : List ℕ) (d : Data) (held : Held) → d ≡ holding_value held
-    → (depth d ≤ max_depth → read text ≡ Some d) → holding_named (holding_value held) ≡ Some held → IsHeldSound held
-    → holding_in text ≡ Ok held
-holding_back text d held is reads named sound =
-    ap (λ found. and_then holding_by_version (as_an_object found)) (holding_value_read text d held is reads)
-    ∙ rw (named, sound_can_be held sound) refl
+pub holding_back : (format : ℕ) (text : List ℕ) (d : Data) (held : Held) → d ≡ holding_value format held
+    → (depth d ≤ max_depth → read text ≡ Some d) → holding_named (holding_value format held) ≡ Some held
+    → IsHeldSound held → holding_in_of format text ≡ Ok held
+holding_back format text d held is reads named sound =
+    ap (λ found. and_then holding_of (and_then (of_version format) (as_an_object found)))
+    (holding_value_read format text d held is reads)
+    ∙ rw (eq-eqb format format refl, named, sound_can_be held sound) refl
+
+-- ---- what has the latest number is read among the formats of an instance, too
+
+latest_if : (b : Bool) (d : Data) (others : Result Held TextFault) (held : Held)
+    → and_then holding_of (if b then Ok d else Err BadVersion) ≡ Ok held
+    → (if b then holding_of d else others) ≡ Ok held
+latest_if true d others held e = e
+latest_if false d others held e = cc
+
+latest_object : (found : Result Data TextFault) (held : Held)
+    → and_then holding_of (and_then (of_version version) found) ≡ Ok held
+    → and_then holding_by_version found ≡ Ok held
+latest_object (Err fault) held e = cc
+latest_object (Ok d) held e =
+    latest_if (has_version version d) d (if has_version first_version d then first_holding_of d else Err BadVersion) held e
+
+pub latest : (text : List ℕ) (held : Held) → holding_in_of version text ≡ Ok held → holding_in text ≡ Ok held
+latest text held e = latest_object (object_in text) held e

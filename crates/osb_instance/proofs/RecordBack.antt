@@ -1,5 +1,5 @@
 -- A record comes back from its text, and what a text names can come about.
-use Rattle.std.proofs.Common.{◌≡◌, ◌≤◌, ℕ, Bool, true, false, refl, ◌∙◌, ap, arith}
+use Rattle.std.proofs.Common.{◌≡◌, ◌≤◌, ℕ, Bool, true, false, refl, ◌∙◌, ap, arith, eq-eqb}
 use Rattle.std.proofs.lemmas.Bool.Decides.{nat_tests}
 use Rattle.std.specs.Prelude.{List, Option, Some, None, Ok, ◌&&◌, not}
 use Rattle.osb_message.specs.IdText.{id_text, id_of_lower}
@@ -12,7 +12,7 @@ use Rattle.osb_platform.specs.declared.state.State.{State}
 use Rattle.osb_platform.specs.declared.state.State.TheVariants.{Wanted, Polling, Cleaning, CleaningPolling}
 use Rattle.osb_instance.specs.Recorded.{Recorded, IsRecordedSound}
 use Rattle.osb_instance.specs.Frame.{and_then, as_an_object, of_version}
-use Rattle.osb_instance.specs.RecordText.{version, record_value, record_named, record_of, record_in, out_value, out_in}
+use Rattle.osb_instance.specs.RecordText.{record_value, record_named, record_of, record_in_of, out_value, out_in}
 use Rattle.osb_instance.specs.RecordText.{can_be, can_be_with, can_be_out, can_have, is_wanted}
 use Rattle.serde_json.specs.Data.{Data, depth}
 use Rattle.serde_json.specs.Read.{read, max_depth}
@@ -27,10 +27,10 @@ out_reads (Some Provision) = refl
 out_reads (Some Poll) = refl
 out_reads (Some Deprovision) = refl
 
-pub record_reads : (r : Recorded) → id_of_lower (id_text r.row.plan) ≡ Some r.row.plan
-    → id_of_lower (id_text r.row.service) ≡ Some r.row.service → record_named (record_value r) ≡ Some r
+pub record_reads : (format : ℕ) (r : Recorded) → id_of_lower (id_text r.row.plan) ≡ Some r.row.plan
+    → id_of_lower (id_text r.row.service) ≡ Some r.row.service → record_named (record_value format r) ≡ Some r
 unfolding record_named
-record_reads r plan service = rw (plan, service, word_reads r.row.state, out_reads r.row.out) refl
+record_reads format r plan service = rw (plan, service, word_reads r.row.state, out_reads r.row.out) refl
 
 -- ---- what can come about
 
@@ -128,15 +128,16 @@ flat_out : (out : Option Kind) → depth (out_value out) ≤ 0
 flat_out None = omega arith
 flat_out (Some k) = omega arith
 
-record_value_read : (text : List ℕ) (d : Data) (r : Recorded) → d ≡ record_value r
-    → (depth d ≤ max_depth → read text ≡ Some d) → read text ≡ Some (record_value r)
-record_value_read text d r is reads =
-    let flat : depth (record_value r) ≤ max_depth = omega (arith, flat_out r.row.out) in
+record_value_read : (format : ℕ) (text : List ℕ) (d : Data) (r : Recorded) → d ≡ record_value format r
+    → (depth d ≤ max_depth → read text ≡ Some d) → read text ≡ Some (record_value format r)
+record_value_read format text d r is reads =
+    let flat : depth (record_value format r) ≤ max_depth = omega (arith, flat_out r.row.out) in
     reads (rw is flat) ∙ ap Some is
 
-pub record_back : (text : List ℕ) (d : Data) (r : Recorded) → d ≡ record_value r
-    → (depth d ≤ max_depth → read text ≡ Some d) → record_named (record_value r) ≡ Some r → IsRecordedSound r
-    → record_in text ≡ Ok r
-record_back text d r is reads named sound =
-    ap (λ found. and_then record_of (and_then (of_version version) (as_an_object found))) (record_value_read text d r is reads)
-    ∙ rw (named, sound_can_be r sound) refl
+pub record_back : (format : ℕ) (text : List ℕ) (d : Data) (r : Recorded) → d ≡ record_value format r
+    → (depth d ≤ max_depth → read text ≡ Some d) → record_named (record_value format r) ≡ Some r → IsRecordedSound r
+    → record_in_of format text ≡ Ok r
+record_back format text d r is reads named sound =
+    ap (λ found. and_then record_of (and_then (of_version format) (as_an_object found)))
+    (record_value_read format text d r is reads)
+    ∙ rw (eq-eqb format format refl, named, sound_can_be r sound) refl

@@ -1,5 +1,5 @@
 -- A Provision whose work waits for the first Poll makes a row in `making`.
-use Rattle.std.proofs.Common.{◌≡◌, ◌≢◌, Bool, true, false, refl, sym, subst}
+use Rattle.std.proofs.Common.{◌≡◌, ◌≢◌, Bool, true, false, refl, subst}
 use Rattle.std.specs.Prelude.{Option, Some, None, IsSome, IsSomeAnd, if◌then◌else◌}
 use Rattle.osb_message.specs.declared.catalogue.Mode.{Mode}
 use Rattle.osb_message.specs.declared.catalogue.Mode.TheVariants.{Sync, Async}
@@ -16,7 +16,7 @@ use Rattle.osb_broker.specs.Decided.{decided, decided_as}
 use Rattle.osb_broker.specs.Provision.{accepted_provision}
 use Rattle.osb_instance.specs.declared.work.Work.{Work}
 use Rattle.osb_instance.specs.Begin.{waits_for_poll}
-use Rattle.osb_instance.specs.Due.{work_due, IsDue}
+use Rattle.osb_instance.specs.Due.{work_due}
 use Rattle.osb_instance.proofs.Dues.{due_is_work}
 
 abbrev pub IsMaking : Option BrokerRow → Type 0

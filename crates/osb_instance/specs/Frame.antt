@@ -1,6 +1,6 @@
 -- The frame of both texts, which is this project's choice: an object with the number of the format.
-use Rattle.std.specs.Prelude.{ℕ, Bool, ◌==◌, if◌then◌else◌, List, codes}
-use Rattle.std.specs.Prelude.{Option, Some, None, Result, Ok, Err, is_some, unwrap_or}
+use Rattle.std.specs.Prelude.{ℕ, Bool, false, ◌==◌, if◌then◌else◌, List, codes}
+use Rattle.std.specs.Prelude.{Option, Some, None, Result, Ok, Err, is_some}
 use Rattle.serde_json.specs.Data.{Data}
 use Rattle.serde_json.specs.Find.{as_object}
 use Rattle.serde_json.specs.Read.{read}
@@ -8,9 +8,13 @@ use Rattle.osb_json.specs.Members.{number_at}
 use Rattle.osb_instance.specs.declared.faults.TextFault.{TextFault}
 use Rattle.osb_instance.specs.declared.faults.TextFault.TheVariants.{NotJson, NotAnObject, BadVersion}
 
--- whether this number of a format stands in a value; no format has the number 0
+abbrev pub is_number : ℕ → Option ℕ → Bool
+is_number version None = false
+is_number version (Some found) = found == version
+
+-- whether this number of a format stands in a value
 abbrev pub has_version : ℕ → Data → Bool
-has_version version d = unwrap_or (number_at (codes "version") d) 0 == version
+has_version version d = is_number version (number_at (codes "version") d)
 
 abbrev pub as_an_object : Option Data → Result Data TextFault
 as_an_object None = Err NotJson

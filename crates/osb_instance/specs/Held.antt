@@ -1,6 +1,6 @@
 -- What a broker holds of one instance. That it records work before it begins, keeps a tombstone once an instance has
 -- ended, waits for the first Poll and compares attributes is this project's choice.
-use Rattle.std.specs.Prelude.{◌≡◌, ℕ, Bool, true, false, Option, Some, None, IsSome, IsSomeAnd, IfSome, replicate}
+use Rattle.std.specs.Prelude.{◌≡◌, Bool, true, false, Option, Some, None, IsSome, IsSomeAnd, IfSome, replicate}
 use Rattle.osb_message.specs.declared.catalogue.Mode.TheVariants.{Sync}
 use Rattle.osb_message.specs.declared.messages.Request.{Request}
 use Rattle.osb_broker.specs.declared.row.BrokerRow.{BrokerRow}

@@ -1,5 +1,5 @@
 -- The text of a holding, which is this project's choice.
-use Rattle.std.specs.Prelude.{ℕ, Bool, true, false, ◌&&◌, ◌||◌, not, ◌==◌, if◌then◌else◌, List, codes, is_some, is_none}
+use Rattle.std.specs.Prelude.{ℕ, Bool, true, false, ◌&&◌, ◌==◌, if◌then◌else◌, List, codes, is_some, is_none}
 use Rattle.std.specs.Prelude.{Option, Some, None, Result, Ok, Err, option_map, option_and_then}
 use Rattle.hex.specs.Hex.{decode_sized, encode_lower}
 use Rattle.hex.specs.declared.error.FromHexError.{FromHexError}
@@ -16,7 +16,7 @@ use Rattle.serde_json.specs.Find as json
 use Rattle.serde_json.specs.Written.{compact_text}
 use Rattle.osb_instance.specs.Begin.{is_same_digest}
 use Rattle.osb_instance.specs.Due.{work_due}
-use Rattle.osb_instance.specs.Frame.{object_in, and_then, has_version}
+use Rattle.osb_instance.specs.Frame.{framed, object_in, and_then, has_version}
 use Rattle.osb_instance.specs.Held.{Held, no_attributes}
 use Rattle.osb_instance.specs.Rows.{held_of_parts, held_row, phase_named, phase_word}
 use Rattle.osb_instance.specs.declared.digest.Digest.{Digest}
@@ -26,7 +26,8 @@ use Rattle.osb_instance.specs.declared.faults.TextFault.{TextFault}
 use Rattle.osb_instance.specs.declared.faults.TextFault.TheVariants.{BadOuter, BadMember, BadVersion, Impossible}
 use Rattle.osb_instance.specs.declared.holding_text.Parts.{Parts}
 
--- the number of the format, and that of the first one, which has `marked` for the tombstone and no attributes
+-- the number of the format, and that of the first one, which has `marked` for the tombstone and no attributes; the
+-- texts of another kind of life have a number of their own
 abbrev pub version : ℕ
 version = 2
 
@@ -66,17 +67,20 @@ digest_text digest = encode_lower digest.bytes
 abbrev pub digest_value : Digest → Data
 digest_value digest = string (digest_text digest)
 
-abbrev pub holding_value : Held → Data
-holding_value held =
+abbrev pub holding_value : ℕ → Held → Data
+holding_value format held =
     object (member (codes "attributes") (digest_value held.attributes)
     (member (codes "row") (some_row_value (held_row held.row held.waiting))
     (member (codes "tombstone") (boolean held.tombstone)
-    (member (codes "version") (number (unsigned version))
+    (member (codes "version") (number (unsigned format))
     (member (codes "work") (some_work_value held.work) no_members)))))
 
 -- with no spaces
+abbrev pub holding_text_of : ℕ → Held → List ℕ
+holding_text_of format held = compact_text (holding_value format held)
+
 abbrev pub holding_text : Held → List ℕ
-holding_text held = compact_text (holding_value held)
+holding_text held = holding_text_of version held
 
 -- ---- what is read
 
@@ -234,3 +238,7 @@ holding_by_version d =
 -- the holding that a text names, or the first fault
 abbrev pub holding_in : List ℕ → Result Held TextFault
 holding_in text = and_then holding_by_version (object_in text)
+
+-- the same, if the texts have this one number of a format
+abbrev pub holding_in_of : ℕ → List ℕ → Result Held TextFault
+holding_in_of format text = and_then holding_of (framed format text)

@@ -19,7 +19,7 @@ use Rattle.osb_instance.specs.Recorded.{Recorded}
 use Rattle.osb_instance.specs.declared.faults.TextFault.{TextFault}
 use Rattle.osb_instance.specs.declared.faults.TextFault.TheVariants.{BadOuter, BadMember, Impossible}
 
--- the number of the format
+-- the number of the format; the texts of another kind of life have one of their own
 abbrev pub version : ℕ
 version = 1
 
@@ -30,18 +30,21 @@ abbrev pub out_value : Option Kind → Data
 out_value None = null
 out_value (Some kind) = string (kind_word kind)
 
-abbrev pub record_value : Recorded → Data
-record_value r =
+abbrev pub record_value : ℕ → Recorded → Data
+record_value format r =
     object (member (codes "attempt") (number (unsigned r.attempt))
     (member (codes "out") (out_value r.row.out)
     (member (codes "plan") (string (id_text r.row.plan))
     (member (codes "service") (string (id_text r.row.service))
     (member (codes "state") (string (state_word r.row.state))
-    (member (codes "version") (number (unsigned version)) no_members))))))
+    (member (codes "version") (number (unsigned format)) no_members))))))
 
 -- with no spaces
+abbrev pub record_text_of : ℕ → Recorded → List ℕ
+record_text_of format r = compact_text (record_value format r)
+
 abbrev pub record_text : Recorded → List ℕ
-record_text r = compact_text (record_value r)
+record_text r = record_text_of version r
 
 -- ---- what is read
 
@@ -123,5 +126,8 @@ abbrev pub record_of : Data → Result Recorded TextFault
 record_of d = if has_names d then record_or (record_named d) else Err BadOuter
 
 -- the record that a text names, or the first fault
+abbrev pub record_in_of : ℕ → List ℕ → Result Recorded TextFault
+record_in_of format text = and_then record_of (framed format text)
+
 abbrev pub record_in : List ℕ → Result Recorded TextFault
-record_in text = and_then record_of (framed version text)
+record_in text = record_in_of version text

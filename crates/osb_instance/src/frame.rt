@@ -1,5 +1,5 @@
 //! The frame of both texts: an object with the number of the format.
-ghost use Rattle.std.specs.Prelude.{◌≡◌, ◌≢◌, ◌⊎◌, Some, Ok, Err, IfOk, IfErr};
+ghost use Rattle.std.specs.Prelude.{◌≡◌, ◌⊎◌, Ok, Err, IfOk, IfErr};
 ghost use Rattle.serde_json.specs.View.{view};
 ghost use Rattle.osb_instance.specs.Frame.{framed, has_version, object_in};
 
@@ -28,15 +28,16 @@ pub(crate) fn read_object(alloc: Global, text: &str) -> Result<Value, TextFault>
 
 // Whether the number of the format stands in a value.
 pub(crate) fn has_version(value: &Value, version: u64) -> bool
-    requires some { version ≢ 0 }
     ensures has { result ≡ has_version version (view value.now) }
 {
-    number_at(value, "version") == Some(version)
+    match number_at(value, "version") {
+        None => false,
+        Some(found) => found == version,
+    }
 }
 
 // The object that a text is, if its version is that of the format.
 pub(crate) fn read_frame(alloc: Global, text: &str, version: u64) -> Result<Value, TextFault>
-    requires some { version ≢ 0 }
     ensures ok { IfOk result (λ value. framed version text.now ≡ Ok (view value)) }
     ensures err { IfErr result (λ fault.
         (fault ≡ TextFault.Memory) ⊎ (framed version text.now ≡ Err fault)) }

@@ -8,12 +8,13 @@ ghost use Rattle.osb_instance.specs.Begin.{IsWork, IsAnsweredBy};
 ghost use Rattle.osb_instance.specs.Due.{IsDue, work_due};
 ghost use Rattle.osb_instance.specs.Fits.{fits};
 ghost use Rattle.osb_instance.specs.Held.{Held, IsHeldSound};
-ghost use Rattle.osb_instance.specs.HoldingText.{held_of, holding_text, holding_in, possible};
+ghost use Rattle.osb_instance.specs.HoldingText.{held_of, holding_text, holding_text_of, holding_in, holding_in_of};
+ghost use Rattle.osb_instance.specs.HoldingText.{possible};
 ghost use Rattle.osb_instance.specs.Rows.{held_of_parts, held_row};
 ghost use Rattle.osb_message.specs.declared.catalogue.Mode.{Mode};
 ghost use Rattle.osb_message.specs.declared.messages.Kind.TheVariants.{Provision, Deprovision};
 
-use crate::holding_text::{Parts, can_be, read_holding, write_holding};
+use crate::holding_text::{Parts, VERSION, can_be, read_holding, read_holding_of, write_holding};
 use crate::work::{
     busy, conflict, deleted, ends, failed_row, is_provision, kept_attributes, names_held, too_late,
     waits_for_poll, work_due,
@@ -579,7 +580,20 @@ impl Holding {
         ensures text { IfOk result (λ text. string_bytes text ≡ holding_text self) }
         ensures back { IfOk result (λ text. holding_in (string_bytes text) ≡ Ok self) }
     {
-        write_holding(alloc, &self.parts())
+        self.to_text_with_version(alloc, VERSION)
+    }
+
+    /// The text of a holding of something else than an instance, such as a binding, whose texts have a number of their
+    /// own: as [`Holding::to_text`], with this number under `version` (this project's choice).
+    ///
+    /// # Errors
+    ///
+    /// [`Memory`] if an allocation failed.
+    pub fn to_text_with_version(self, alloc: Global, version: u64) -> Result<String, Memory>
+        ensures text { IfOk result (λ text. string_bytes text ≡ holding_text_of version self) }
+        ensures back { IfOk result (λ text. holding_in_of version (string_bytes text) ≡ Ok self) }
+    {
+        write_holding(alloc, version, &self.parts())
     }
 
     // Its parts.
@@ -619,6 +633,30 @@ impl Holding {
             → IfErr result (λ fault. fault ≡ TextFault.Memory) }
     {
         let parts = read_holding(alloc, text)?;
+        Ok(Holding::of(&parts))
+    }
+
+    /// The holding that a text names, as [`Holding::to_text_with_version`] writes it with this number: as
+    /// [`Holding::from_text`], with this one number of a format, whose members are those of version 2 (this project's
+    /// choice).
+    ///
+    /// # Errors
+    ///
+    /// As at [`Holding::from_text`]; [`TextFault::BadVersion`] if `version` isn't this number, written as an integer.
+    pub fn from_text_with_version(
+        alloc: Global,
+        version: u64,
+        text: &str,
+    ) -> Result<Holding, TextFault>
+        ensures ok { IfOk result (λ holding. holding_in_of version text.now ≡ Ok holding) }
+        ensures err { IfErr result (λ fault.
+            (fault ≡ TextFault.Memory) ⊎ (holding_in_of version text.now ≡ Err fault)) }
+        ensures back { (written : Held) → holding_in_of version text.now ≡ Ok written
+            → IfOk result (λ holding. holding ≡ written) }
+        ensures back_err { (written : Held) → holding_in_of version text.now ≡ Ok written
+            → IfErr result (λ fault. fault ≡ TextFault.Memory) }
+    {
+        let parts = read_holding_of(alloc, version, text)?;
         Ok(Holding::of(&parts))
     }
 }

@@ -5,7 +5,7 @@ ghost use Rattle.osb_instance.specs.Held.{IsHeldSound};
 ghost use Rattle.osb_instance.specs.Rows.{held_of_parts, held_row};
 ghost use Rattle.osb_instance.specs.HoldingText as spec;
 
-use crate::frame::{has_version, read_object};
+use crate::frame::{has_version, read_frame, read_object};
 use crate::work::work_due;
 use crate::{Digest, HoldingPhase, HoldingRow, TextFault};
 use hex::FromHex;
@@ -15,8 +15,8 @@ use osb_message::{Kind, Memory, Mode, Request};
 use serde_json::{Value, json};
 use std::alloc::{AllocError, Global};
 
-// The number of the format, and that of the first one.
-const VERSION: u64 = 2;
+// The number of the format of an instance's holding, and that of its first one.
+pub(crate) const VERSION: u64 = 2;
 
 const FIRST_VERSION: u64 = 1;
 
@@ -134,11 +134,11 @@ fn digest_value(alloc: Global, digest: Digest) -> Result<Value, AllocError>
     Ok(Value::String(text))
 }
 
-// The JSON value of a holding.
-fn holding_value(alloc: Global, parts: &Parts) -> Result<Value, AllocError>
-    ensures value { IfOk result (λ v. view v ≡ spec.holding_value (spec.held_of parts.now)) }
+// The JSON value of a holding, with this number of its format.
+fn holding_value(alloc: Global, version: u64, parts: &Parts) -> Result<Value, AllocError>
+    ensures value { IfOk result (λ v. view v ≡ spec.holding_value version (spec.held_of parts.now)) }
     ensures named { IsHeldSound (spec.held_of parts.now) → IfOk result (λ _.
-        spec.holding_named (spec.holding_value (spec.held_of parts.now)) ≡ Some (spec.held_of parts.now)) }
+        spec.holding_named (spec.holding_value version (spec.held_of parts.now)) ≡ Some (spec.held_of parts.now)) }
 {
     let attributes = digest_value(alloc, parts.attributes)?;
     let row = some_row_value(alloc, parts.shown_row())?;
@@ -148,18 +148,19 @@ fn holding_value(alloc: Global, parts: &Parts) -> Result<Value, AllocError>
         "attributes": attributes,
         "row": row,
         "tombstone": tombstone,
-        "version": VERSION,
+        "version": version,
         "work": work,
     })
 }
 
-// The text of a holding.
-pub(crate) fn write_holding(alloc: Global, parts: &Parts) -> Result<String, Memory>
-    ensures text { IfOk result (λ text. string_bytes text ≡ spec.holding_text (spec.held_of parts.now)) }
-    ensures back { IsHeldSound (spec.held_of parts.now)
-        → IfOk result (λ text. spec.holding_in (string_bytes text) ≡ Ok (spec.held_of parts.now)) }
+// The text of a holding, with this number of its format.
+pub(crate) fn write_holding(alloc: Global, version: u64, parts: &Parts) -> Result<String, Memory>
+    ensures text { IfOk result (λ text.
+        string_bytes text ≡ spec.holding_text_of version (spec.held_of parts.now)) }
+    ensures back { IsHeldSound (spec.held_of parts.now) → IfOk result (λ text.
+        spec.holding_in_of version (string_bytes text) ≡ Ok (spec.held_of parts.now)) }
 {
-    let value = holding_value(alloc, parts)?;
+    let value = holding_value(alloc, version, parts)?;
     let text = value.to_string(alloc)?;
     Ok(text)
 }
@@ -408,4 +409,15 @@ pub(crate) fn read_holding(alloc: Global, text: &str) -> Result<Parts, TextFault
         return read_first(&value);
     }
     Err(TextFault::BadVersion)
+}
+
+// The same, if the texts have this one number of a format.
+pub(crate) fn read_holding_of(alloc: Global, version: u64, text: &str) -> Result<Parts, TextFault>
+    ensures ok { IfOk result (λ h. spec.holding_in_of version text.now ≡ Ok (spec.held_of h)) }
+    ensures err { IfErr result (λ fault.
+        (fault ≡ TextFault.Memory) ⊎ (spec.holding_in_of version text.now ≡ Err fault)) }
+    ensures sound { IfOk result (λ h. IsHeldSound (spec.held_of h)) }
+{
+    let value = read_frame(alloc, text, version)?;
+    read_latest(&value)
 }

@@ -3,11 +3,11 @@ ghost use Rattle.std.specs.Prelude.{◌≡◌, ◌≢◌, ◌↔◌, ◌⊎◌, 
 ghost use Rattle.std.specs.Prelude.{IsTrue, IsSome, IsOk, IfOk, IfErr, string_bytes};
 ghost use Rattle.osb_platform.specs.PlatformRow.{wanted_row, first_request, restarted_row};
 ghost use Rattle.osb_platform.specs.PlatformRow.{can_send, can_expire, can_remove, is_idle};
-ghost use Rattle.osb_instance.specs.RecordText.{record_text, record_in, possible};
+ghost use Rattle.osb_instance.specs.RecordText.{record_text, record_text_of, record_in, record_in_of, possible};
 ghost use Rattle.osb_instance.specs.Recorded.{Recorded, IsRecordedSound, IsSentAfter, IsAnsweredAfter};
 ghost use Rattle.osb_instance.specs.Recorded.{IsGivenUpAfter, IsCleanedUpAfter, can_retry, is_gone_in, is_ready_in};
 
-use crate::record_text::{can_be, read_record, write_record};
+use crate::record_text::{VERSION, can_be, read_record, write_record};
 use crate::{ExpireRefused, NotOut, RemoveRefused, RetryRefused, SendRefused, TextFault};
 use osb_message::{Answer, InstanceId, Kind, Memory, PlanId, Request, ServiceId};
 use osb_platform::{PlatformRow, State, decide_answer, decide_restart, decide_timeout, kind_due};
@@ -346,8 +346,21 @@ impl Record {
         ensures text { IfOk result (λ text. string_bytes text ≡ record_text self) }
         ensures back { IfOk result (λ text. record_in (string_bytes text) ≡ Ok self) }
     {
+        self.to_text_with_version(alloc, VERSION)
+    }
+
+    /// The text of a record of something else than an instance, such as a binding, whose texts have a number of their
+    /// own: as [`Record::to_text`], with this number under `version` (this project's choice).
+    ///
+    /// # Errors
+    ///
+    /// [`Memory`] if an allocation failed.
+    pub fn to_text_with_version(self, alloc: Global, version: u64) -> Result<String, Memory>
+        ensures text { IfOk result (λ text. string_bytes text ≡ record_text_of version self) }
+        ensures back { IfOk result (λ text. record_in_of version (string_bytes text) ≡ Ok self) }
+    {
         let Record { row, attempt } = self;
-        write_record(alloc, &row, attempt)
+        write_record(alloc, version, &row, attempt)
     }
 
     /// The record that a text names, as [`Record::to_text`] writes it. The text may have any spacing, and members in
@@ -372,7 +385,29 @@ impl Record {
         ensures back_err { (written : Recorded) → record_in text.now ≡ Ok written
             → IfErr result (λ fault. fault ≡ TextFault.Memory) }
     {
-        let (row, attempt) = read_record(alloc, text)?;
+        Record::from_text_with_version(alloc, VERSION, text)
+    }
+
+    /// The record that a text names, as [`Record::to_text_with_version`] writes it with this number: as
+    /// [`Record::from_text`], with this number in place of 1 (this project's choice).
+    ///
+    /// # Errors
+    ///
+    /// As at [`Record::from_text`]; [`TextFault::BadVersion`] if `version` isn't this number, written as an integer.
+    pub fn from_text_with_version(
+        alloc: Global,
+        version: u64,
+        text: &str,
+    ) -> Result<Record, TextFault>
+        ensures ok { IfOk result (λ r. record_in_of version text.now ≡ Ok r) }
+        ensures err { IfErr result (λ fault.
+            (fault ≡ TextFault.Memory) ⊎ (record_in_of version text.now ≡ Err fault)) }
+        ensures back { (written : Recorded) → record_in_of version text.now ≡ Ok written
+            → IfOk result (λ r. r ≡ written) }
+        ensures back_err { (written : Recorded) → record_in_of version text.now ≡ Ok written
+            → IfErr result (λ fault. fault ≡ TextFault.Memory) }
+    {
+        let (row, attempt) = read_record(alloc, version, text)?;
         Ok(Record { row, attempt })
     }
 }

@@ -12,8 +12,8 @@ use osb_platform::{PlatformRow, State};
 use serde_json::{Value, json};
 use std::alloc::{AllocError, Global};
 
-// The number of the format.
-const VERSION: u64 = 1;
+// The number of the format of an instance's record.
+pub(crate) const VERSION: u64 = 1;
 
 // The JSON value of the kind of the request that is out.
 fn out_value(alloc: Global, out: Option<Kind>) -> Result<Value, AllocError>
@@ -25,12 +25,17 @@ fn out_value(alloc: Global, out: Option<Kind>) -> Result<Value, AllocError>
     }
 }
 
-// The JSON value of a record.
-fn record_value(alloc: Global, row: &PlatformRow, attempt: u64) -> Result<Value, AllocError>
+// The JSON value of a record, with this number of its format.
+fn record_value(
+    alloc: Global,
+    version: u64,
+    row: &PlatformRow,
+    attempt: u64,
+) -> Result<Value, AllocError>
     ensures value { IfOk result (λ v.
-        view v ≡ spec.record_value (record { row = row.now; attempt = attempt })) }
+        view v ≡ spec.record_value version (record { row = row.now; attempt = attempt })) }
     ensures named { IfOk result (λ _.
-        spec.record_named (spec.record_value (record { row = row.now; attempt = attempt }))
+        spec.record_named (spec.record_value version (record { row = row.now; attempt = attempt }))
         ≡ Some (record { row = row.now; attempt = attempt })) }
 {
     let out = out_value(alloc, row.out)?;
@@ -45,19 +50,24 @@ fn record_value(alloc: Global, row: &PlatformRow, attempt: u64) -> Result<Value,
         "plan": plan,
         "service": service,
         "state": state,
-        "version": VERSION,
+        "version": version,
     })
 }
 
-// The text of a record.
-pub(crate) fn write_record(alloc: Global, row: &PlatformRow, attempt: u64) -> Result<String, Memory>
+// The text of a record, with this number of its format.
+pub(crate) fn write_record(
+    alloc: Global,
+    version: u64,
+    row: &PlatformRow,
+    attempt: u64,
+) -> Result<String, Memory>
     ensures text { IfOk result (λ text. string_bytes text
-        ≡ spec.record_text (record { row = row.now; attempt = attempt })) }
+        ≡ spec.record_text_of version (record { row = row.now; attempt = attempt })) }
     ensures back { IsRecordedSound (record { row = row.now; attempt = attempt })
-        → IfOk result (λ text. spec.record_in (string_bytes text)
+        → IfOk result (λ text. spec.record_in_of version (string_bytes text)
         ≡ Ok (record { row = row.now; attempt = attempt })) }
 {
-    let value = record_value(alloc, row, attempt)?;
+    let value = record_value(alloc, version, row, attempt)?;
     let text = value.to_string(alloc)?;
     Ok(text)
 }
@@ -132,15 +142,19 @@ pub(crate) fn can_be(row: &PlatformRow, attempt: u64) -> bool
     }
 }
 
-// The record that a text names.
-pub(crate) fn read_record(alloc: Global, text: &str) -> Result<(PlatformRow, u64), TextFault>
+// The record that a text names, if it has this number of its format.
+pub(crate) fn read_record(
+    alloc: Global,
+    version: u64,
+    text: &str,
+) -> Result<(PlatformRow, u64), TextFault>
     ensures ok { IfOk result (λ r.
-        spec.record_in text.now ≡ Ok (spec.recorded_of r)) }
+        spec.record_in_of version text.now ≡ Ok (spec.recorded_of r)) }
     ensures err { IfErr result (λ fault.
-        (fault ≡ TextFault.Memory) ⊎ (spec.record_in text.now ≡ Err fault)) }
+        (fault ≡ TextFault.Memory) ⊎ (spec.record_in_of version text.now ≡ Err fault)) }
     ensures sound { IfOk result (λ r. IsRecordedSound (spec.recorded_of r)) }
 {
-    let value = read_frame(alloc, text, VERSION)?;
+    let value = read_frame(alloc, text, version)?;
     if !has_names(&value) {
         return Err(TextFault::BadOuter);
     }

@@ -1,7 +1,8 @@
-//! Ids of service instances, services and plans: GUIDs in the hyphenated text form.
+//! Ids of service instances, services and plans, as numbers of 128 bits. The text of a number is a GUID in the
+//! hyphenated form.
 //!
-//! The standard recommends GUIDs and allows other strings; that other strings are refused is this
-//! project's choice.
+//! The standard recommends GUIDs and allows other strings. The calls of this crate read GUIDs alone, and `osb_wire`
+//! gives every other string a number (this project's choice).
 ghost use Rattle.std.specs.Prelude.{◌≡◌, ◌==◌, ◌<◌, ◌^◌, ℕ, Some, None, MatchResult};
 ghost use Rattle.std.specs.Cmp.Lexicographic.{slice_cmp};
 ghost use Rattle.std.proofs.Common.{rules};
@@ -37,8 +38,8 @@ pub enum Service {}
 /// Marks the ids of plans (this project's choice). It has no values.
 pub enum Plan {}
 
-/// An id of what `K` marks, a GUID: a number of 128 bits, equal and ordered as that number, and
-/// printed in the text form of [`Id::to_text`], by `{}` as by `{:?}`.
+/// An id of what `K` marks: a number of 128 bits, equal and ordered as that number, and printed as a GUID in the text
+/// form of [`Id::to_text`], by `{}` as by `{:?}`.
 ///
 /// The standard recommends a GUID for `instance_id`, `service_id` and `plan_id` (sections
 /// Provisioning and Catalog Management); that one type serves for all three is this project's choice,

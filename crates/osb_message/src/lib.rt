@@ -1,7 +1,7 @@
 //! Messages between a platform and a broker, as in the Open Service Broker API Specification 2.17.
 //!
-//! An [`InstanceId`], a [`ServiceId`] and a [`PlanId`] are GUIDs, a [`Request`] is what a platform sends,
-//! an [`Answer`] is what comes back, and a [`Catalogue`] is what a broker sells. [`Rows`] keeps what
+//! An [`InstanceId`], a [`ServiceId`] and a [`PlanId`] are numbers whose texts are GUIDs, a [`Request`] is what a platform
+//! sends, an [`Answer`] is what comes back, and a [`Catalogue`] is what a broker sells. [`Rows`] keeps what
 //! either side knows of each instance. Everything here is plain values and maps: there is no HTTP and
 //! no JSON. Sections are those of the specification.
 //!

@@ -1,6 +1,6 @@
 -- Whatever any platform does, what a broker holds keeps its promises.
-use Rattle.std.proofs.Common.{◌≡◌, ◌≢◌, ℕ, Bool, true, false, arith, refl, sym, ◌∙◌, ap, subst, ◌⊎◌, inl, inr, ⊎_elim}
-use Rattle.std.specs.Prelude.{Option, Some, None, IsSome, IsSomeAnd, ◌&&◌, ◌||◌, not, ◌==◌, if◌then◌else◌, List, [], ◌∷◌}
+use Rattle.std.proofs.Common.{◌≡◌, ◌≢◌, ℕ, Bool, true, false, arith, refl, sym, ◌∙◌, subst, ◌⊎◌, inl, inr, ⊎_elim}
+use Rattle.std.specs.Prelude.{Option, Some, None, IsSome, ◌&&◌, ◌||◌, not, ◌==◌, if◌then◌else◌, List, [], ◌∷◌}
 use Rattle.std.specs.Prelude.{Result, Ok, Err, OnOk, OnErr, is_some}
 use Rattle.std.specs.FinMap as map
 use Rattle.std.proofs.lemmas.Bool.Decides.{nat_tests}
@@ -11,7 +11,6 @@ use Rattle.osb_message.specs.declared.messages.Answer.{Answer}
 use Rattle.osb_message.specs.declared.messages.Kind.{Kind}
 use Rattle.osb_message.specs.declared.messages.Kind.TheVariants.{Provision, Poll, Deprovision}
 use Rattle.osb_message.specs.declared.messages.Body.{Body}
-use Rattle.osb_message.specs.declared.messages.Body.TheVariants as Body
 use Rattle.osb_message.specs.declared.messages.ErrorCode.TheVariants.{Other}
 use Rattle.osb_message.specs.declared.messages.LastState.TheVariants.{Succeeded}
 use Rattle.osb_message.specs.declared.messages.Request.{Request}
@@ -19,9 +18,8 @@ use Rattle.osb_broker.specs.declared.outcome.Outcome.TheVariants as table
 use Rattle.osb_broker.specs.declared.row.BrokerRow.{BrokerRow}
 use Rattle.osb_broker.specs.declared.row.Phase.{Phase}
 use Rattle.osb_broker.specs.Answers.{error, mode_of, same_plan}
-use Rattle.osb_broker.specs.Decided.{decided, decided_as}
 use Rattle.osb_broker.specs.Deprovision.{deprovision_at}
-use Rattle.osb_broker.specs.Finished.{finished_in, in_phase, is_running_in}
+use Rattle.osb_broker.specs.Finished.{in_phase, is_running_in}
 use Rattle.osb_broker.specs.Poll.{own_poll, polled}
 use Rattle.osb_broker.specs.Provision.{provision_at}
 use Rattle.osb_instance.specs.declared.digest.Digest.{Digest}
@@ -29,11 +27,10 @@ use Rattle.osb_instance.specs.declared.outcome.Rejection.{Rejection}
 use Rattle.osb_instance.specs.declared.outcome.WorkOutcome.{WorkOutcome}
 use Rattle.osb_instance.specs.declared.outcome.WorkOutcome.TheVariants.{Done, Before, After, Refused}
 use Rattle.osb_instance.specs.declared.work.Begun.{Begun}
-use Rattle.osb_instance.specs.declared.work.Begun.TheVariants.{Answered}
 use Rattle.osb_instance.specs.declared.work.Work.{Work}
-use Rattle.osb_instance.specs.Begin.{begun, begun_by, begun_in, begun_with, begun_work, busy, conflict, conflicts, failed_row}
-use Rattle.osb_instance.specs.Begin.{finished_held, given_up, is_operating, names_held, polled_held, too_late, waiting_by}
-use Rattle.osb_instance.specs.Begin.{is_provision, rejection_status, waiting_deprovision, waits_for_poll, worked}
+use Rattle.osb_instance.specs.Begin.{begun, begun_by, busy, conflicts}
+use Rattle.osb_instance.specs.Begin.{finished_held, given_up, is_operating, polled_held}
+use Rattle.osb_instance.specs.Begin.{is_provision, rejection_status, waiting_deprovision, worked}
 use Rattle.osb_instance.specs.Due.{work_due, IsDue}
 use Rattle.osb_instance.specs.Fits.{is_ready, row_fits}
 use Rattle.osb_instance.specs.HoldingText.{is_making}
@@ -42,13 +39,13 @@ use Rattle.osb_instance.proofs.Dues.{due_is_work, not_due}
 use Rattle.osb_network.specs.declared.any_platform.BrokerEvent.{BrokerEvent}
 use Rattle.osb_network.specs.declared.any_platform.Told.{Told}
 use Rattle.osb_network.specs.declared.resource.Resource.{Resource}
-use Rattle.osb_network.specs.declared.resource.Resource.TheVariants.{Absent, Part, Whole}
+use Rattle.osb_network.specs.declared.resource.Resource.TheVariants.{Absent, Whole}
 use Rattle.osb_network.specs.AnyPlatform.{AnyCell, IsAlone, IsAloneAs, IsAtRest, IsCreating, IsDeleting, IsEmpty, IsFit}
 use Rattle.osb_network.specs.AnyPlatform.{IsFresh, IsPolledFor, IsPromised, IsWaiting, any_empty, any_end, any_end_of, any_step}
 use Rattle.osb_network.specs.AnyPlatform.{any_steps, believed, believed_poll, creates_by, heard, is_less, is_succeeded}
 use Rattle.osb_network.specs.AnyPlatform.{is_sure_end, mode_at, reported, told_gone, told_ready}
 use Rattle.osb_network.specs.Possible.{CanDelete, IsInDeletion}
-use Rattle.osb_network.specs.Truth.{is_absent, is_true_end, is_true_finish, is_true_finish_of, is_under_way, is_whole}
+use Rattle.osb_network.specs.Truth.{is_true_end, is_true_finish, is_true_finish_of, is_under_way, is_whole}
 use Rattle.osb_network.proofs.Ends.{absent, whole}
 use Rattle.osb_network.proofs.Says.{Tells, IsDeletable, SaysLeaving, SaysPhase, deletable, deprovision_says, poll_says}
 use Rattle.osb_network.proofs.Says.{provision_none, provision_says}

@@ -7,6 +7,7 @@ pub mod Taken
 pub mod Kept
 pub mod Agreements
 pub mod Rounds
+pub mod Removing
 pub mod Numbers
 pub mod Many
 pub mod PartWay

@@ -1,12 +1,14 @@
 -- How far a settling is on its way, where one of its parts is on its own.
-use Rattle.std.proofs.Common.{◌≡◌, ℕ, zero, suc, ◌+◌, ◌<◌, arith, refl, sym, ◌∙◌, ap, subst, List, [], ◌∷◌, ◌++◌, length}
-use Rattle.std.specs.Prelude.{Result, Ok, Err, OnErr}
+use Rattle.std.proofs.Common.{◌≡◌, ℕ, zero, suc, ◌<◌, arith, refl, sym, ◌∙◌, ap, subst, List, [], ◌∷◌, ◌++◌, length}
+use Rattle.std.specs.Prelude.{Result, Ok, Err, OnErr, OnOk}
 use Rattle.std.proofs.lemmas.List.{length-append}
 use Rattle.osb_network.specs.declared.event.Event.{Event}
 use Rattle.osb_network.specs.Cell.{Cell}
 use Rattle.osb_network.specs.Settling.{after_first, arrival, latest_answer, IsPartWay, SettlesByEvents}
-use Rattle.osb_network.specs.Settling.{exchange_events, operation_events, round_events, settling_events, work_events}
-use Rattle.osb_network.specs.Settling.{after_round, operated_well, settled_cell, with_arrival, with_good, worked_well}
+use Rattle.osb_network.specs.Removing.{after_removing_round, removing_round_events, RemovesByEvents}
+use Rattle.osb_network.specs.Settling.{exchange_events, free_events, operation_events, round_events}
+use Rattle.osb_network.specs.Settling.{after_free, after_round, operated_well, with_arrival}
+use Rattle.osb_network.specs.Settling.{work_events, worked_well}
 use Rattle.osb_network.specs.Steps.{cell_step}
 
 -- ---- of any events
@@ -74,57 +76,93 @@ not_taken d e f g n sent came worked same =
     arrived d e f n sent came
     (after work_events (latest_answer ∷ []) f g n worked (none latest_answer [] g n same))
 
+-- ---- once nothing is out
+
+pub in_work : (b n : Cell) → IsPartWay work_events b n → IsPartWay free_events b n
+in_work b n part = before work_events (operation_events ++ exchange_events) b n part
+
+pub in_operation : (b c n : Cell) → c ≡ worked_well b → IsPartWay operation_events c n → IsPartWay free_events b n
+in_operation b c n worked part =
+    after work_events (operation_events ++ exchange_events) b c n worked
+    (before operation_events exchange_events c n part)
+
+pub in_exchange : (b c d n : Cell) → c ≡ worked_well b → d ≡ operated_well c → IsPartWay exchange_events d n
+    → IsPartWay free_events b n
+in_exchange b c d n worked operated part =
+    after work_events (operation_events ++ exchange_events) b c n worked
+    (after operation_events exchange_events c d n operated part)
+
 -- ---- in a round
 
 pub not_begun : (a n : Cell) → n ≡ a → IsPartWay round_events a n
-not_begun a n same =
-    none (λ cell. Event.Timeout) (work_events ++ (operation_events ++ exchange_events)) a n same
+not_begun a n same = none (λ cell. Event.Timeout) free_events a n same
 
-timed_out : (a b n : Cell) → b ≡ cell_step a Event.Timeout
-    → IsPartWay (work_events ++ (operation_events ++ exchange_events)) b n → IsPartWay round_events a n
-timed_out a b n out part =
-    next (λ cell. Event.Timeout) (work_events ++ (operation_events ++ exchange_events)) a b n out part
+pub timed_out : (a b n : Cell) → b ≡ cell_step a Event.Timeout → IsPartWay free_events b n
+    → IsPartWay round_events a n
+timed_out a b n out part = next (λ cell. Event.Timeout) free_events a b n out part
 
-pub in_work : (a b n : Cell) → b ≡ cell_step a Event.Timeout → IsPartWay work_events b n → IsPartWay round_events a n
-in_work a b n out part = timed_out a b n out (before work_events (operation_events ++ exchange_events) b n part)
+pub round_done : {T E : Type 0} (x : Result T E) (a b n : Cell) → b ≡ cell_step a Event.Timeout
+    → OnOk x (n ≡ after_free b) → OnOk x (n ≡ after_round a)
+round_done (Ok v) a b n out free = free ∙ ap after_free out
+round_done (Err v) a b n out free = tt
 
-pub in_operation : (a b c n : Cell) → b ≡ cell_step a Event.Timeout → c ≡ worked_well b
-    → IsPartWay operation_events c n → IsPartWay round_events a n
-in_operation a b c n out worked part =
-    timed_out a b n out
-    (after work_events (operation_events ++ exchange_events) b c n worked
-    (before operation_events exchange_events c n part))
+-- ---- in a removing round
 
-pub in_exchange : (a b c d n : Cell) → b ≡ cell_step a Event.Timeout → c ≡ worked_well b → d ≡ operated_well c
-    → IsPartWay exchange_events d n → IsPartWay round_events a n
-in_exchange a b c d n out worked operated part =
-    timed_out a b n out
-    (after work_events (operation_events ++ exchange_events) b c n worked
-    (after operation_events exchange_events c d n operated part))
+pub removing_done : {T E : Type 0} (x : Result T E) (a b c n : Cell) → b ≡ cell_step a Event.Timeout
+    → c ≡ cell_step b Event.Remove → OnOk x (n ≡ after_free c) → OnOk x (n ≡ after_removing_round a)
+removing_done (Ok v) a b c n out gone free =
+    free ∙ ap after_free (gone ∙ ap (λ (d : Cell). cell_step d Event.Remove) out)
+removing_done (Err v) a b c n out gone free = tt
+
+pub not_given_up : (a n : Cell) → n ≡ a → IsPartWay removing_round_events a n
+not_given_up a n same = none (λ cell. Event.Timeout) ((λ cell. Event.Remove) ∷ free_events) a n same
+
+pub not_removed : (a b n : Cell) → b ≡ cell_step a Event.Timeout → n ≡ b → IsPartWay removing_round_events a n
+not_removed a b n out same =
+    next (λ cell. Event.Timeout) ((λ cell. Event.Remove) ∷ free_events) a b n out
+    (none (λ cell. Event.Remove) free_events b n same)
+
+pub removed : (a b c n : Cell) → b ≡ cell_step a Event.Timeout → c ≡ cell_step b Event.Remove
+    → IsPartWay free_events c n → IsPartWay removing_round_events a n
+removed a b c n out gone part =
+    next (λ cell. Event.Timeout) ((λ cell. Event.Remove) ∷ free_events) a b n out
+    (next (λ cell. Event.Remove) free_events b c n gone part)
 
 -- ---- in three rounds
 
-whole_round : (c : Cell) → after_round c ≡ after_first (length round_events) round_events c
+pub whole_round : (c : Cell) → after_round c ≡ after_first (length round_events) round_events c
 whole_round c = refl
 
-pub in_first : (a n : Cell) → IsPartWay round_events a n → IsPartWay settling_events a n
-in_first a n part = before round_events (round_events ++ round_events) a n part
+pub whole_removing : (c : Cell) → after_removing_round c ≡ after_first (length removing_round_events) removing_round_events c
+whole_removing c = refl
 
-pub in_second : (a b n : Cell) → b ≡ after_round a → IsPartWay round_events b n → IsPartWay settling_events a n
-in_second a b n one part =
-    after round_events (round_events ++ round_events) a b n (one ∙ whole_round a)
-    (before round_events round_events b n part)
+-- all of the events of a round have happened
+abbrev IsWhole : List (Cell → Event) → Cell → Cell → Type 0
+IsWhole round c d = d ≡ after_first (length round) round c
 
-pub in_third : (a b c n : Cell) → b ≡ after_round a → c ≡ after_round b → IsPartWay round_events c n
-    → IsPartWay settling_events a n
-in_third a b c n one two part =
-    after round_events (round_events ++ round_events) a b n (one ∙ whole_round a)
-    (after round_events round_events b c n (two ∙ whole_round b) part)
+pub in_first : (round : List (Cell → Event)) (a n : Cell) → IsPartWay round a n
+    → IsPartWay (round ++ (round ++ round)) a n
+in_first round a n part = before round (round ++ round) a n part
+
+pub in_second : (round : List (Cell → Event)) (a b n : Cell) → IsWhole round a b → IsPartWay round b n
+    → IsPartWay (round ++ (round ++ round)) a n
+in_second round a b n one part = after round (round ++ round) a b n one (before round round b n part)
+
+pub in_third : (round : List (Cell → Event)) (a b c n : Cell) → IsWhole round a b → IsWhole round b c
+    → IsPartWay round c n → IsPartWay (round ++ (round ++ round)) a n
+in_third round a b c n one two part =
+    after round (round ++ round) a b n one (after round round b c n two part)
+
+three_by_events : (round : List (Cell → Event)) (f : Cell → Cell) → ((c : Cell) → IsWhole round c (f c)) → (c : Cell)
+    → f (f (f c)) ≡ after_first (length (round ++ (round ++ round))) (round ++ (round ++ round)) c
+three_by_events round f whole c =
+    let happens : Cell → Cell = after_first (length round) round in
+    let two : f (f c) ≡ happens (happens c) = whole (f c) ∙ ap happens (whole c) in
+    let three : f (f (f c)) ≡ happens (happens (happens c)) = whole (f (f c)) ∙ ap happens two in
+    three ∙ sym (all_of round (round ++ round) c ∙ all_of round round (happens c))
 
 pub settles_by_events : SettlesByEvents
-settles_by_events c =
-    let round : Cell → Cell = after_first (length round_events) round_events in
-    let two : after_round (after_round c) ≡ round (round c) = whole_round (after_round c) ∙ ap round (whole_round c) in
-    let three : settled_cell c ≡ round (round (round c)) = whole_round (after_round (after_round c)) ∙ ap round two in
-    three
-    ∙ sym (all_of round_events (round_events ++ round_events) c ∙ all_of round_events round_events (round c))
+settles_by_events c = three_by_events round_events after_round whole_round c
+
+pub removes_by_events : RemovesByEvents
+removes_by_events c = three_by_events removing_round_events after_removing_round whole_removing c

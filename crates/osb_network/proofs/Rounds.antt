@@ -1,6 +1,6 @@
 -- A fault-free round brings an instance nearer to where nothing is due, and three settle it.
 use Rattle.std.proofs.Common.{◌≡◌, ◌≢◌, ℕ, Bool, true, false, arith, refl, sym, ◌∙◌, ap, subst, ◌≤◌}
-use Rattle.std.specs.Prelude.{◌+◌, ◌-◌, ◌==◌, ◌||◌, ◌&&◌, not, IsSomeAnd, if◌then◌else◌, is_some, nat_lt, length, slice_get, ⊤}
+use Rattle.std.specs.Prelude.{◌+◌, ◌-◌, ◌==◌, ◌&&◌, not, IsSomeAnd, if◌then◌else◌, is_some, nat_lt, length, slice_get, ⊤}
 use Rattle.std.specs.Prelude.{Option, Some, None, IsSome, IfSome, Result, Ok, Err, OnOk, List, [], ◌∷◌, ◌++◌}
 use Rattle.std.proofs.lemmas.Bool.Decides.{nat_tests}
 use Rattle.osb_message.specs.declared.catalogue.Mode.{Mode}
@@ -20,7 +20,7 @@ use Rattle.osb_platform.specs.declared.state.State.{State}
 use Rattle.osb_platform.specs.declared.state.State.TheVariants.{Wanted, Polling, Ready, Cleaning}
 use Rattle.osb_platform.specs.declared.state.State.TheVariants.{CleaningPolling, Gone, Unsettled}
 use Rattle.osb_platform.specs.PlatformRow.{in_state}
-use Rattle.osb_platform.specs.State.{after_timeout, due, state_after, state_after_poll, state_after_deprovision}
+use Rattle.osb_platform.specs.State.{after_timeout, due, state_after, state_after_poll}
 use Rattle.osb_instance.specs.declared.record.Sent.{Sent}
 use Rattle.osb_instance.specs.declared.work.Begun.{Begun}
 use Rattle.osb_instance.specs.declared.work.Begun.TheVariants.{Answered}
@@ -34,7 +34,7 @@ use Rattle.osb_network.specs.declared.resource.Resource.{Resource}
 use Rattle.osb_network.specs.Cell.{Cell, IsNumbered, IsPossible, IsPossibleRecord}
 use Rattle.osb_network.specs.Possible.{IsBefore, IsBrokerStep, IsInDeletion, IsKept, IsKeptAs, IsLeavingAs, IsRow}
 use Rattle.osb_network.specs.Possible.{HeldByState, attributes_of, refuses, request_of, row_of}
-use Rattle.osb_network.specs.Settling.{after_round, exchanged, good_of, good_resource, number_out, operated_well, settled_cell}
+use Rattle.osb_network.specs.Settling.{after_free, after_round, exchanged, good_of, good_resource, number_out, operated_well, settled_cell}
 use Rattle.osb_network.specs.Settling.{with_answer, with_arrival, with_good, worked_well}
 use Rattle.osb_network.specs.Settling.{HasNumbers, IsSettled, IsSettledIn, ThreeRoundsSettle}
 use Rattle.osb_network.specs.Steps.{arrive, arrived, cell_step, end, ended, give_up, has_number, next_recorded, send, send_due}
@@ -215,7 +215,7 @@ made_after (Some b) h = subst (λ (p : Phase). IsReadyRow (finished_in p b true)
 
 -- ---- what is out is given up
 
-abbrev resting : Recorded → State → Recorded
+abbrev pub resting : Recorded → State → Recorded
 resting rec s = record { row = in_state s rec.row; attempt = rec.attempt }
 
 given_up_out : (c : Cell) (rec : Recorded) (out : Option Kind) → rec.row.out ≡ out → c.recorded ≡ Some rec
@@ -238,7 +238,7 @@ stays : (s : State) → s ≢ Wanted → after_timeout s ≡ s
 stays Wanted n = absurd (n refl)
 stays s n = refl
 
-given_up : (c : Cell) (rec : Recorded) → c.recorded ≡ Some rec → IsPossibleRecord c rec
+pub given_up : (c : Cell) (rec : Recorded) → c.recorded ≡ Some rec → IsPossibleRecord c rec
     → (cell_step c Event.Timeout).recorded ≡ Some (resting rec (after_timeout rec.row.state))
 given_up c rec e h =
     (λ i. (give_up c (e i)).recorded)
@@ -439,10 +439,30 @@ unexchanged c rec e out d =
 
 -- ---- how near an instance is to where nothing is due
 
+-- it is gone, or a deletion is polled that runs or has ended
+abbrev pub IsEnding : State → Held → Type 0
+IsEnding CleaningPolling h = (h.work ≡ None) × (h.waiting ≡ false) × IfSome h.row (λ row. row.phase ≡ Phase.Deleting)
+IsEnding Gone h = ⊤
+IsEnding s h = ⊥
+
+-- it is cleaned up, or it is nearer to its end
+abbrev pub IsEndingInTwo : State → Held → Type 0
+IsEndingInTwo Cleaning h = ⊤
+IsEndingInTwo s h = IsEnding s h
+
+pub ending_in_two : (s : State) (h : Held) → IsEnding s h → IsEndingInTwo s h
+ending_in_two Cleaning h n = tt
+ending_in_two s h n = n
+
 -- one round more settles it, if that: nothing is due, or a deletion is polled that runs or has ended
 abbrev IsInOne : State → Held → Type 0
-IsInOne CleaningPolling h = (h.work ≡ None) × (h.waiting ≡ false) × IfSome h.row (λ row. row.phase ≡ Phase.Deleting)
+IsInOne CleaningPolling h = IsEnding CleaningPolling h
 IsInOne s h = IsSettledIn s
+
+ending_too : (s : State) (h : Held) → IsEnding s h → IsInOne s h
+ending_too CleaningPolling h n = n
+ending_too Gone h n = tt
+ending_too s h n = absurd n
 
 -- two rounds more, if that: it is cleaned up, a making is polled that runs, or it is nearer
 abbrev IsInTwo : State → Held → Type 0
@@ -455,8 +475,12 @@ in_two_too Cleaning h n = tt
 in_two_too Polling h n = absurd n
 in_two_too s h n = n
 
+ending_in_two_too : (s : State) (h : Held) → IsEndingInTwo s h → IsInTwo s h
+ending_in_two_too Cleaning h n = tt
+ending_in_two_too s h n = in_two_too s h (ending_too s h n)
+
 -- so near, and with so many numbers left
-abbrev IsNear : (State → Held → Type 0) → ℕ → Cell → Type 0
+abbrev pub IsNear : (State → Held → Type 0) → ℕ → Cell → Type 0
 IsNear near n c =
     IfSome c.recorded (λ rec. near rec.row.state c.held × (rec.attempt + n ≤ 18446744073709551615))
 
@@ -483,7 +507,7 @@ near_exchanged near n c d rec k s x e room is =
 -- ---- the tables, for what nothing runs on
 
 -- the same of what is held of an order, whose requests conflict with nothing
-abbrev After_now : (State → Held → Type 0) → Order → State → Kind → Held → Type 0
+abbrev pub After_now : (State → Held → Type 0) → Order → State → Kind → Held → Type 0
 After_now near o s k h =
     near (state_after s k (done_as (begun_now o h k).1 (begun_now o h k).0 o.mode (request_of o k)).1)
     (done_as (begun_now o h k).1 (begun_now o h k).0 o.mode (request_of o k)).0
@@ -506,7 +530,7 @@ after_of near o s k h t kept e is =
     (done_as p.1 p.0 o.mode (request_of o k)).0) (sym (begun_is_now o k h.row None h.tombstone h.waiting)) is)
 
 abbrev Cleaned : Order → Held → Type 0
-Cleaned o h = After_now IsInOne o Cleaning Deprovision h
+Cleaned o h = After_now IsEnding o Cleaning Deprovision h
 
 cleaned_sync : (i v p : ℕ) (a f : Bool) (d : Digest) (h : Phase) → (is_running_in h && not false) ≡ false
     → Cleaned (order i v p (Some Sync) a f d) (row_held (order i v p (Some Sync) a f d) h)
@@ -538,10 +562,10 @@ cleaned_waiting i v p (Some Sync) a f d row = let e = row.ready refl in cc
 cleaned_waiting i v p (Some Async) a f d row = simp (same_number v, same_number p) tt
 
 -- what is polled
-polled_by : (i v p : ℕ) (m : Option Mode) (a f : Bool) (d : Digest) (s : State) (h : Phase)
-    → IsInTwo (state_after_poll s (own_poll h table.Done)) (row_held (order i v p m a f d) h)
-    → After_now IsInTwo (order i v p m a f d) s Poll (row_held (order i v p m a f d) h)
-polled_by i v p m a f d s h is = simp (same_number v, same_number p) is
+polled_by : (near : State → Held → Type 0) (i v p : ℕ) (m : Option Mode) (a f : Bool) (d : Digest) (s : State)
+    (h : Phase) → near (state_after_poll s (own_poll h table.Done)) (row_held (order i v p m a f d) h)
+    → After_now near (order i v p m a f d) s Poll (row_held (order i v p m a f d) h)
+polled_by near i v p m a f d s h is = simp (same_number v, same_number p) is
 
 polled_making : (h : Phase) (g : Held) → (is_running_in h && not false) ≡ false
     → IsInTwo (state_after_poll Polling (own_poll h table.Done)) g
@@ -550,7 +574,7 @@ polled_making Phase.Deleting g off = cc
 polled_making h g off = tt
 
 polled_deleting : (h : Phase) (g : Held) → (is_running_in h && not false) ≡ false
-    → IsInTwo (state_after_poll CleaningPolling (own_poll h table.Done)) g
+    → IsEndingInTwo (state_after_poll CleaningPolling (own_poll h table.Done)) g
 polled_deleting Phase.Making g off = cc
 polled_deleting Phase.Deleting g off = cc
 polled_deleting h g off = tt
@@ -580,7 +604,7 @@ polled_row o None x v t kept off some = cc
 polled_row o (Some b) true v t kept off some = absurd kept
 polled_row o (Some b) false false t kept off some =
     subst (λ (r : BrokerRow). After_now IsInTwo o Polling Poll (held o (Some r) None false)) (sym kept.same)
-    (polled_by o.id o.service o.plan o.mode o.accepts o.first_poll o.attributes Polling b.phase
+    (polled_by IsInTwo o.id o.service o.plan o.mode o.accepts o.first_poll o.attributes Polling b.phase
     (polled_making b.phase _ off))
 polled_row o (Some b) false true t kept off some =
     let is : b ≡ row_of o Phase.Making = kept.0.same ∙ ap (row_of o) kept.1 in
@@ -593,14 +617,15 @@ not_leaving Phase.DeleteFailed e l = cc
 not_leaving p e l = l
 
 polled_end : (o : Order) (b : Option BrokerRow) (x v : Bool) (t : Resource) → IsKeptAs o b None x v t → IsQuiet b v
-    → IsLeavingAs b x → After_now IsInTwo o CleaningPolling Poll (held_as o b None x v)
+    → IsLeavingAs b x → After_now IsEndingInTwo o CleaningPolling Poll (held_as o b None x v)
 polled_end o None true false t kept off leaves = tt
 polled_end o None false false t kept off leaves = tt
 polled_end o None x true t kept off leaves = absurd kept
 polled_end o (Some b) true v t kept off leaves = absurd kept
 polled_end o (Some b) false false t kept off leaves =
-    subst (λ (r : BrokerRow). After_now IsInTwo o CleaningPolling Poll (held o (Some r) None false)) (sym kept.same)
-    (polled_by o.id o.service o.plan o.mode o.accepts o.first_poll o.attributes CleaningPolling b.phase
+    subst (λ (r : BrokerRow). After_now IsEndingInTwo o CleaningPolling Poll (held o (Some r) None false))
+    (sym kept.same)
+    (polled_by IsEndingInTwo o.id o.service o.plan o.mode o.accepts o.first_poll o.attributes CleaningPolling b.phase
     (polled_deleting b.phase _ off))
 polled_end o (Some b) false true t kept off leaves = absurd (not_leaving b.phase kept.1 leaves)
 
@@ -634,7 +659,7 @@ made o (Some b) false true t kept ready = (let e : Phase.Making ≡ Phase.Ready 
 
 -- ---- the second half of a round, from a cell in which nothing is out and nothing under way
 
-record IsCalm (c : Cell) (rec : Recorded) : Type 0 where
+pub record IsCalm (c : Cell) (rec : Recorded) : Type 0 where
   pub recorded : c.recorded ≡ Some rec
   pub possible : IsPossibleRecord c rec
   pub out : rec.row.out ≡ None
@@ -659,7 +684,7 @@ exchanges c rec k n calm d room =
     calm.possible.parts.holds calm.idle)
 
 -- so near by a table
-nears : (near : State → Held → Type 0) (n : ℕ) (c : Cell) (rec : Recorded) (k : Kind) (s : State) → IsCalm c rec
+pub nears : (near : State → Held → Type 0) (n : ℕ) (c : Cell) (rec : Recorded) (k : Kind) (s : State) → IsCalm c rec
     → rec.row.state ≡ s → due s ≡ Some k → rec.attempt + (n + 1) ≤ 18446744073709551615
     → After_now near c.order s k (held_as c.order c.held.row None c.held.tombstone c.held.waiting)
     → IsNear near n (exchanged c)
@@ -667,7 +692,7 @@ nears near n c rec k s calm e d room is =
     near_exchanged near n c (exchanged c) rec k s (exchanges c rec k n calm (ap due e ∙ d) room) e room
     (after_of near c.order s k c.held c.resource calm.possible.parts.kept calm.idle is)
 
-rests : (near : State → Held → Type 0) (n : ℕ) (c : Cell) (rec : Recorded) → IsCalm c rec
+pub rests : (near : State → Held → Type 0) (n : ℕ) (c : Cell) (rec : Recorded) → IsCalm c rec
     → due rec.row.state ≡ None → near rec.row.state (exchanged c).held
     → rec.attempt + (n + 1) ≤ 18446744073709551615 → IsNear near n (exchanged c)
 rests near n c rec calm d is room =
@@ -678,6 +703,27 @@ holds_in : (c : Cell) (rec : Recorded) (s : State) → IsCalm c rec → rec.row.
 holds_in c rec s calm e =
     subst (λ (s : State). HeldByState c.order s c.held c.resource) e calm.possible.parts.holds
 
+-- a Deprovision is done
+pub deprovisioned : (c : Cell) (rec : Recorded) → IsCalm c rec
+    → After_now IsEnding c.order Cleaning Deprovision (held_as c.order c.held.row None c.held.tombstone c.held.waiting)
+deprovisioned c rec calm =
+    cleaned c.order c.held.row c.held.tombstone c.held.waiting c.resource (kept_idle c rec calm) calm.quiet
+
+-- a deletion is polled
+pub polled_on : (c : Cell) (rec : Recorded) → IsCalm c rec → rec.row.state ≡ CleaningPolling
+    → After_now IsEndingInTwo c.order CleaningPolling Poll
+    (held_as c.order c.held.row None c.held.tombstone c.held.waiting)
+polled_on c rec calm e =
+    polled_end c.order c.held.row c.held.tombstone c.held.waiting c.resource (kept_idle c rec calm) calm.quiet
+    (holds_in c rec CleaningPolling calm e)
+
+-- a deletion is polled that has ended
+pub polled_gone : (near : State → Held → Type 0) (c : Cell) (rec : Recorded) → IsCalm c rec
+    → ((h : Held) → near Gone h) → c.held.row ≡ None
+    → After_now near c.order CleaningPolling Poll (held_as c.order c.held.row None c.held.tombstone c.held.waiting)
+polled_gone near c rec calm is none =
+    gone near c.order c.held.row c.held.tombstone c.held.waiting c.resource (kept_idle c rec calm) is none
+
 first : (c : Cell) (rec : Recorded) (n : ℕ) (s : State) → rec.row.state ≡ s → IsCalm c rec
     → rec.attempt + (n + 1) ≤ 18446744073709551615 → IsNear IsInTwo n (exchanged c)
 first c rec n Wanted e calm room = (let f = calm.possible.sound.wanted e in let g = calm.out in cc)
@@ -687,12 +733,10 @@ first c rec n Polling e calm room =
     (holds_in c rec Polling calm e).1.1)
 first c rec n Cleaning e calm room =
     nears IsInTwo n c rec Deprovision Cleaning calm e refl room
-    (in_two_too _ _ (cleaned c.order c.held.row c.held.tombstone c.held.waiting c.resource (kept_idle c rec calm)
-    calm.quiet))
+    (in_two_too _ _ (ending_too _ _ (deprovisioned c rec calm)))
 first c rec n CleaningPolling e calm room =
     nears IsInTwo n c rec Poll CleaningPolling calm e refl room
-    (polled_end c.order c.held.row c.held.tombstone c.held.waiting c.resource (kept_idle c rec calm) calm.quiet
-    (holds_in c rec CleaningPolling calm e))
+    (ending_in_two_too _ _ (polled_on c rec calm e))
 first c rec n s e calm room =
     rests IsInTwo n c rec calm (ap due e) (subst (λ s. IsInTwo s (exchanged c).held) (sym e) tt) room
 
@@ -704,12 +748,9 @@ second c rec n Polling e calm ends ready room =
     nears IsInOne n c rec Poll Polling calm e refl room
     (made c.order c.held.row c.held.tombstone c.held.waiting c.resource (kept_idle c rec calm) (ready refl))
 second c rec n Cleaning e calm ends ready room =
-    nears IsInOne n c rec Deprovision Cleaning calm e refl room
-    (cleaned c.order c.held.row c.held.tombstone c.held.waiting c.resource (kept_idle c rec calm) calm.quiet)
+    nears IsInOne n c rec Deprovision Cleaning calm e refl room (ending_too _ _ (deprovisioned c rec calm))
 second c rec n CleaningPolling e calm ends ready room =
-    nears IsInOne n c rec Poll CleaningPolling calm e refl room
-    (gone IsInOne c.order c.held.row c.held.tombstone c.held.waiting c.resource (kept_idle c rec calm) (λ h. tt)
-    (ends refl))
+    nears IsInOne n c rec Poll CleaningPolling calm e refl room (polled_gone IsInOne c rec calm (λ h. tt) (ends refl))
 second c rec n s e calm ends ready room =
     rests IsInOne n c rec calm (ap due e) (subst (λ s. IsInOne s (exchanged c).held) (sym e) tt) room
 
@@ -724,9 +765,7 @@ third c rec n Wanted e calm ends not_polling not_cleaning room =
 third c rec n Polling e calm ends not_polling not_cleaning room = absurd (not_polling refl)
 third c rec n Cleaning e calm ends not_polling not_cleaning room = absurd (not_cleaning refl)
 third c rec n CleaningPolling e calm ends not_polling not_cleaning room =
-    nears Settles n c rec Poll CleaningPolling calm e refl room
-    (gone Settles c.order c.held.row c.held.tombstone c.held.waiting c.resource (kept_idle c rec calm) (λ h. tt)
-    (ends refl))
+    nears Settles n c rec Poll CleaningPolling calm e refl room (polled_gone Settles c rec calm (λ h. tt) (ends refl))
 third c rec n s e calm ends not_polling not_cleaning room =
     rests Settles n c rec calm (ap due e) (subst (λ s. Settles s (exchanged c).held) (sym e) tt) room
 
@@ -738,32 +777,36 @@ kept_worked c h = kept_step (with_good c) (Event.End Done) (kept_step c (Event.W
 kept_operated : (c : Cell) → IsPossible c → IsPossible (operated_well c)
 kept_operated c h = kept_step (with_good c) (Event.Finish true) (kept_step c (Event.Work _) h)
 
-abbrev calmed : Cell → Cell
-calmed c = operated_well (worked_well (cell_step c Event.Timeout))
+-- what nothing is out of, once pending work and operation have ended
+abbrev pub calmed : Cell → Cell
+calmed c = operated_well (worked_well c)
 
-calm_after : (c : Cell) (rec : Recorded) → c.recorded ≡ Some rec → IsPossible c
-    → IsCalm (calmed c) (resting rec (after_timeout rec.row.state))
-calm_after c rec e h =
-    let one : Cell = cell_step c Event.Timeout in
+pub calm_after : (one : Cell) (rest : Recorded) → one.recorded ≡ Some rest → rest.row.out ≡ None → IsPossible one
+    → IsCalm (calmed one) rest
+calm_after one rest here out possible =
     let two : Cell = worked_well one in
-    let rest : Recorded = resting rec (after_timeout rec.row.state) in
-    let here : one.recorded ≡ Some rest = given_up c rec e (with_rec c c.recorded rec h e) in
-    let possible : IsPossible one = kept_step c Event.Timeout h in
     let idle : two.held.work ≡ None =
     no_work_after one one.held.work refl
     (work_kinds one.order one.held.row one.held.work one.held.tombstone one.held.waiting one.resource
     (with_rec one one.recorded rest possible here).parts.kept.0) in
     let last : IsOperated two two.held.row two.held.waiting = operated two idle in
-    let recorded : (calmed c).recorded ≡ Some rest = operated_recorded two ∙ worked_recorded one ∙ here in
+    let recorded : (calmed one).recorded ≡ Some rest = operated_recorded two ∙ worked_recorded one ∙ here in
     record {
       recorded = recorded;
-      possible = with_rec (calmed c) (calmed c).recorded rest (kept_operated two (kept_worked one possible)) recorded;
-      out = refl;
+      possible = with_rec (calmed one) (calmed one).recorded rest (kept_operated two (kept_worked one possible)) recorded;
+      out = out;
       idle = last.work;
-      quiet = subst (λ (b : Option BrokerRow). IsQuiet b (calmed c).held.waiting) (sym last.row)
+      quiet = subst (λ (b : Option BrokerRow). IsQuiet b (calmed one).held.waiting) (sym last.row)
           (subst (IsQuiet (operated_row two.held.waiting two.held.row)) (sym last.waiting)
           (quiet_after two.held.row two.held.waiting));
     }
+
+-- once what is out was given up
+given_up_calm : (c : Cell) (rec : Recorded) → c.recorded ≡ Some rec → IsPossible c
+    → IsCalm (calmed (cell_step c Event.Timeout)) (resting rec (after_timeout rec.row.state))
+given_up_calm c rec e h =
+    calm_after (cell_step c Event.Timeout) (resting rec (after_timeout rec.row.state))
+    (given_up c rec e (with_rec c c.recorded rec h e)) refl (kept_step c Event.Timeout h)
 
 -- ---- a round, from any cell that can come about
 
@@ -771,67 +814,76 @@ never_taken : (d : Cell) (g : Option Given) → d.recorded ≡ None → (take_gi
 never_taken d None e = e
 never_taken d (Some g) e = (λ i. (take d (e i) g.attempt g.answer).recorded) ∙ e
 
-timeout_held : (c : Cell) (r : Option Recorded) → (give_up c r).held ≡ c.held
+pub timeout_held : (c : Cell) (r : Option Recorded) → (give_up c r).held ≡ c.held
 timeout_held c None = refl
 timeout_held c (Some rec) = of_either (λ (z : Cell). z.held) (is_some rec.row.out) (with_state c rec _) c refl
 
-unrecorded : (c : Cell) → c.recorded ≡ None → (after_round c).recorded ≡ None
-unrecorded c e =
-    let one : Cell = cell_step c Event.Timeout in
-    let calm : (calmed c).recorded ≡ None =
-    operated_recorded (worked_well one) ∙ worked_recorded one ∙ (λ i. (give_up c (e i)).recorded) ∙ e in
-    let sent : Cell = cell_step (calmed c) Event.Send in
+pub unrecorded : (one : Cell) → one.recorded ≡ None → (after_free one).recorded ≡ None
+unrecorded one e =
+    let calm : (calmed one).recorded ≡ None = operated_recorded (worked_well one) ∙ worked_recorded one ∙ e in
+    let sent : Cell = cell_step (calmed one) Event.Send in
     let last : Cell = worked_well (with_arrival sent) in
     let here : last.recorded ≡ None =
     worked_recorded (with_arrival sent) ∙ arrive_keeps sent (number_out sent.recorded)
-    ∙ (λ i. (send (calmed c) (calm i)).recorded) ∙ calm in
+    ∙ (λ i. (send (calmed one) (calm i)).recorded) ∙ calm in
     never_taken last (slice_get last.given (length last.given - 1)) here
 
-abbrev HasRoom : ℕ → Option Recorded → Type 0
+abbrev pub HasRoom : ℕ → Option Recorded → Type 0
 HasRoom n r = IfSome r (λ rec. rec.attempt + n ≤ 18446744073709551615)
 
-none_near : (near : State → Held → Type 0) (n : ℕ) (c : Cell) → c.recorded ≡ None → IsNear near n c
+pub none_near : (near : State → Held → Type 0) (n : ℕ) (c : Cell) → c.recorded ≡ None → IsNear near n c
 none_near near n c e =
     subst (λ (r : Option Recorded). IfSome r (λ rec. near rec.row.state c.held
     × (rec.attempt + n ≤ 18446744073709551615))) (sym e) tt
 
+-- what was never recorded stays so
+pub timeout_none : (c : Cell) → c.recorded ≡ None → (cell_step c Event.Timeout).recorded ≡ None
+timeout_none c e = (λ i. (give_up c (e i)).recorded) ∙ e
+
+never_recorded : (c : Cell) → c.recorded ≡ None → (after_round c).recorded ≡ None
+never_recorded c e = unrecorded (cell_step c Event.Timeout) (timeout_none c e)
+
 first_round : (c : Cell) (r : Option Recorded) → c.recorded ≡ r → IsPossible c → HasRoom 3 r
     → IsNear IsInTwo 2 (after_round c)
-first_round c None e h room = none_near IsInTwo 2 (after_round c) (unrecorded c e)
+first_round c None e h room = none_near IsInTwo 2 (after_round c) (never_recorded c e)
 first_round c (Some rec) e h room =
-    first (calmed c) (resting rec (after_timeout rec.row.state)) 2 _ refl (calm_after c rec e h) room
+    first (calmed (cell_step c Event.Timeout)) (resting rec (after_timeout rec.row.state)) 2 _ refl
+    (given_up_calm c rec e h) room
 
 -- what runs has ended by the second half
-operated_after : (c : Cell) → c.held.work ≡ None → c.held.waiting ≡ false
-    → (calmed c).held.row ≡ finished c.held.row true
-operated_after c idle off =
-    let one : Cell = cell_step c Event.Timeout in
-    let same : one.held ≡ c.held = timeout_held c c.recorded in
+operated_after : (c one : Cell) → one.held ≡ c.held → c.held.work ≡ None → c.held.waiting ≡ false
+    → (calmed one).held.row ≡ finished c.held.row true
+operated_after c one same idle off =
     let free : one.held.work ≡ None = ap (λ (h : Held). h.work) same ∙ idle in
     let two : (worked_well one).held ≡ c.held =
     ap (λ (d : Cell). d.held) (idle_worked one free) ∙ good_keeps (λ (d : Cell). d.held) one (λ t. refl) ∙ same in
     (operated (worked_well one) (ap (λ (h : Held). h.work) two ∙ idle)).row
     ∙ ap (λ (h : Held). operated_row h.waiting h.row) two ∙ ap (λ (v : Bool). operated_row v c.held.row) off
 
-deleted : (c : Cell) → c.held.work ≡ None → c.held.waiting ≡ false
-    → IfSome c.held.row (λ row. row.phase ≡ Phase.Deleting) → (calmed c).held.row ≡ None
-deleted c idle off deleting = operated_after c idle off ∙ deleted_after c.held.row deleting
+pub deleted : (c one : Cell) → one.held ≡ c.held → c.held.work ≡ None → c.held.waiting ≡ false
+    → IfSome c.held.row (λ row. row.phase ≡ Phase.Deleting) → (calmed one).held.row ≡ None
+deleted c one same idle off deleting = operated_after c one same idle off ∙ deleted_after c.held.row deleting
 
-ends_in : (c : Cell) (s : State) → IsInTwo s c.held → after_timeout s ≡ CleaningPolling → (calmed c).held.row ≡ None
+ends_in : (c : Cell) (s : State) → IsInTwo s c.held → after_timeout s ≡ CleaningPolling
+    → (calmed (cell_step c Event.Timeout)).held.row ≡ None
 ends_in c Wanted near e = cc
 ends_in c Cleaning near e = cc
-ends_in c CleaningPolling near e = deleted c near.0 near.1 near.2
+ends_in c CleaningPolling near e =
+    deleted c (cell_step c Event.Timeout) (timeout_held c c.recorded) near.0 near.1 near.2
 ends_in c Polling near e = cc
 ends_in c Ready near e = cc
 ends_in c Gone near e = cc
 ends_in c Unsettled near e = cc
 
-ready_in : (c : Cell) (s : State) → IsInTwo s c.held → after_timeout s ≡ Polling → IsReadyRow (calmed c).held.row
+ready_in : (c : Cell) (s : State) → IsInTwo s c.held → after_timeout s ≡ Polling
+    → IsReadyRow (calmed (cell_step c Event.Timeout)).held.row
 ready_in c Wanted near e = cc
 ready_in c Cleaning near e = cc
 ready_in c CleaningPolling near e = cc
 ready_in c Polling near e =
-    subst IsReadyRow (sym (operated_after c near.0 near.1)) (made_after c.held.row near.2)
+    subst IsReadyRow
+    (sym (operated_after c (cell_step c Event.Timeout) (timeout_held c c.recorded) near.0 near.1))
+    (made_after c.held.row near.2)
 ready_in c Ready near e = cc
 ready_in c Gone near e = cc
 ready_in c Unsettled near e = cc
@@ -846,22 +898,24 @@ cleans_no_more Cleaning h near = absurd near
 cleans_no_more Wanted h near = absurd near
 cleans_no_more s h near = λ e. cc
 
-abbrev NearBy : (State → Held → Type 0) → ℕ → Held → Option Recorded → Type 0
+abbrev pub NearBy : (State → Held → Type 0) → ℕ → Held → Option Recorded → Type 0
 NearBy near n h r = IfSome r (λ rec. near rec.row.state h × (rec.attempt + n ≤ 18446744073709551615))
 
 second_round : (c : Cell) (r : Option Recorded) → c.recorded ≡ r → IsPossible c → NearBy IsInTwo 2 c.held r
     → IsNear IsInOne 1 (after_round c)
-second_round c None e h near = none_near IsInOne 1 (after_round c) (unrecorded c e)
+second_round c None e h near = none_near IsInOne 1 (after_round c) (never_recorded c e)
 second_round c (Some rec) e h near =
-    second (calmed c) (resting rec (after_timeout rec.row.state)) 1 _ refl (calm_after c rec e h)
+    second (calmed (cell_step c Event.Timeout)) (resting rec (after_timeout rec.row.state)) 1 _ refl
+    (given_up_calm c rec e h)
     (ends_in c rec.row.state near.0) (ready_in c rec.row.state near.0) near.1
 
 third_round : (c : Cell) (r : Option Recorded) → c.recorded ≡ r → IsPossible c → NearBy IsInOne 1 c.held r
     → IsNear Settles 0 (after_round c)
-third_round c None e h near = none_near Settles 0 (after_round c) (unrecorded c e)
+third_round c None e h near = none_near Settles 0 (after_round c) (never_recorded c e)
 third_round c (Some rec) e h near =
     let two : IsInTwo rec.row.state c.held = in_two_too rec.row.state c.held near.0 in
-    third (calmed c) (resting rec (after_timeout rec.row.state)) 0 _ refl (calm_after c rec e h)
+    third (calmed (cell_step c Event.Timeout)) (resting rec (after_timeout rec.row.state)) 0 _ refl
+    (given_up_calm c rec e h)
     (ends_in c rec.row.state two) (polls_no_more rec.row.state c.held near.0)
     (cleans_no_more rec.row.state c.held near.0) near.1
 
@@ -869,16 +923,17 @@ settled_by : (h : Held) (r : Option Recorded) → NearBy Settles 0 h r → IfSom
 settled_by h None near = tt
 settled_by h (Some rec) near = near.0
 
-kept_round : (c : Cell) → IsPossible c → IsPossible (after_round c)
-kept_round c h =
-    let one : Cell = cell_step c Event.Timeout in
-    let sent : Cell = cell_step (calmed c) Event.Send in
+pub kept_free : (one : Cell) → IsPossible one → IsPossible (after_free one)
+kept_free one h =
+    let sent : Cell = cell_step (calmed one) Event.Send in
     let last : Cell = worked_well (with_arrival sent) in
-    let calm : IsPossible (calmed c) =
-    kept_operated (worked_well one) (kept_worked one (kept_step c Event.Timeout h)) in
+    let calm : IsPossible (calmed one) = kept_operated (worked_well one) (kept_worked one h) in
     let arrived : IsPossible (with_arrival sent) =
-    kept_step sent (Event.Arrive (number_out sent.recorded)) (kept_step (calmed c) Event.Send calm) in
+    kept_step sent (Event.Arrive (number_out sent.recorded)) (kept_step (calmed one) Event.Send calm) in
     kept_step last (Event.Take (length last.given - 1)) (kept_worked (with_arrival sent) arrived)
+
+kept_round : (c : Cell) → IsPossible c → IsPossible (after_round c)
+kept_round c h = kept_free (cell_step c Event.Timeout) (kept_step c Event.Timeout h)
 
 -- three of them settle the instance
 pub three_rounds_settle : ThreeRoundsSettle
@@ -895,5 +950,6 @@ pub settled_if : {T E : Type 0} (r : Result T E) (c n : Cell) → OnOk r (n ≡ 
 settled_if (Ok x) c n ok h room = subst IsSettled (sym ok) (three_rounds_settle c h room)
 settled_if (Err x) c n ok h room = tt
 
-pub three_cells : (a b c d : Cell) → b ≡ after_round a → c ≡ after_round b → d ≡ after_round c → d ≡ settled_cell a
-three_cells a b c d one two three = three ∙ ap after_round two ∙ ap (λ (x : Cell). after_round (after_round x)) one
+pub three_cells : (round : Cell → Cell) (a b c d : Cell) → b ≡ round a → c ≡ round b → d ≡ round c
+    → d ≡ round (round (round a))
+three_cells round a b c d one two three = three ∙ ap round two ∙ ap (λ (x : Cell). round (round x)) one

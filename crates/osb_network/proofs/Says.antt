@@ -1,7 +1,6 @@
 -- What the broker's tables say of a row when no work is due, and when work is due.
-use Rattle.std.proofs.Common.{◌≡◌, ◌≢◌, ℕ, Bool, true, false, arith, refl, sym, ◌∙◌, ap, subst, ◌⊎◌, inl, inr, ⊎_elim, ◌≤◌}
-use Rattle.std.specs.Prelude.{Option, Some, None, IsSome, ◌&&◌, ◌==◌, if◌then◌else◌}
-use Rattle.std.proofs.lemmas.Bool.Decides.{nat_tests}
+use Rattle.std.proofs.Common.{◌≡◌, ◌≢◌, ℕ, Bool, true, false, arith, refl, sym, ◌∙◌, ap, ◌⊎◌, ⊎_elim, ◌≤◌}
+use Rattle.std.specs.Prelude.{Option, Some, None, if◌then◌else◌}
 use Rattle.osb_message.specs.declared.catalogue.Mode.{Mode}
 use Rattle.osb_message.specs.declared.catalogue.Mode.TheVariants.{Sync, Async}
 use Rattle.osb_message.specs.declared.messages.Answer.{Answer}
@@ -10,13 +9,13 @@ use Rattle.osb_message.specs.declared.messages.ErrorCode.TheVariants.{AsyncRequi
 use Rattle.osb_message.specs.declared.messages.LastState.TheVariants.{Succeeded}
 use Rattle.osb_message.specs.declared.messages.Request.{Request}
 use Rattle.osb_broker.specs.declared.outcome.Outcome.{Outcome}
-use Rattle.osb_broker.specs.declared.outcome.Outcome.TheVariants.{Done, Before, After}
+use Rattle.osb_broker.specs.declared.outcome.Outcome.TheVariants.{Done, Before}
 use Rattle.osb_broker.specs.declared.row.BrokerRow.{BrokerRow}
 use Rattle.osb_broker.specs.declared.row.Phase.{Phase}
 use Rattle.osb_broker.specs.Answers.{Handled, error, row_and_answer, same_plan}
 use Rattle.osb_broker.specs.Provision.{accepted_provision, provision_at, repeated_provision}
 use Rattle.osb_broker.specs.Deprovision.{accepted_deprovision, deprovision_at, first_deprovision, own_deprovision}
-use Rattle.osb_broker.specs.Poll.{own_poll, polled, last_state}
+use Rattle.osb_broker.specs.Poll.{own_poll, polled}
 use Rattle.osb_network.specs.Possible.{CanDelete}
 
 -- a table that tells by the outcome

@@ -4,6 +4,7 @@ pub mod Cell
 pub mod Each
 pub mod Many
 pub mod Possible
+pub mod Removing
 pub mod Settling
 pub mod Steps
 pub mod Truth

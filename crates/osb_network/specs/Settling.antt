@@ -63,10 +63,14 @@ operation_events = good_work ∷ (λ cell. Event.Finish true) ∷ []
 abbrev pub exchange_events : List (Cell → Event)
 exchange_events = (λ cell. Event.Send) ∷ arrival ∷ (work_events ++ latest_answer ∷ [])
 
--- the request that is out is given up, the pending work ends well, the operation that runs ends well, and the
--- request that is due is sent, done and answered
+-- the pending work ends well, the operation that runs ends well, and the request that is due is sent, done and
+-- answered
+abbrev pub free_events : List (Cell → Event)
+free_events = work_events ++ (operation_events ++ exchange_events)
+
+-- the request that is out is given up before that
 abbrev pub round_events : List (Cell → Event)
-round_events = (λ cell. Event.Timeout) ∷ (work_events ++ (operation_events ++ exchange_events))
+round_events = (λ cell. Event.Timeout) ∷ free_events
 
 -- three rounds
 abbrev pub settling_events : List (Cell → Event)
@@ -108,10 +112,14 @@ with_answer cell = cell_step cell (latest_answer cell)
 abbrev pub exchanged : Cell → Cell
 exchanged cell = with_answer (worked_well (with_arrival (cell_step cell Event.Send)))
 
--- the cell after a fault-free round: the request that is out is given up, the pending work ends well, the
--- operation that runs ends well, and the request that is due is sent, done and answered
+-- the pending work ends well, the operation that runs ends well, and the request that is due is sent, done and
+-- answered
+abbrev pub after_free : Cell → Cell
+after_free cell = exchanged (operated_well (worked_well cell))
+
+-- the cell after a fault-free round: the request that is out is given up before that
 abbrev pub after_round : Cell → Cell
-after_round cell = exchanged (operated_well (worked_well (cell_step cell Event.Timeout)))
+after_round cell = after_free (cell_step cell Event.Timeout)
 
 -- the cell after three of them
 abbrev pub settled_cell : Cell → Cell

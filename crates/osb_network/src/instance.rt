@@ -2,10 +2,13 @@
 ghost use Rattle.std.specs.Prelude.{◌≡◌, ℕ, ◌+◌, false, Ok, Some, IfOk, IsOk, OnOk, OnErr, slice_get};
 ghost use Rattle.osb_network.specs.Agreement.{Agrees};
 ghost use Rattle.osb_network.specs.Cell.{IsPossible, empty_cell};
-ghost use Rattle.osb_network.specs.Settling.{after_round, settled_cell, HasNumbers, IsSettled, ThreeRoundsSettle};
+ghost use Rattle.osb_network.specs.Removing.{after_removing_round, removed_cell, removing_events, removing_round_events};
+ghost use Rattle.osb_network.specs.Removing.{IsRemoved, RemovesByEvents, ThreeRoundsRemove, TwoRoundsRemove};
+ghost use Rattle.osb_network.specs.Settling.{after_free, after_round, settled_cell};
+ghost use Rattle.osb_network.specs.Settling.{HasNumbers, IsSettled, ThreeRoundsSettle};
 ghost use Rattle.osb_network.specs.Settling.{arrival, good_work, latest_answer, number_out};
 ghost use Rattle.osb_network.specs.Settling.{operated_well, with_answer, with_arrival, with_good, worked_well};
-ghost use Rattle.osb_network.specs.Settling.{operation_events, round_events, settling_events, work_events};
+ghost use Rattle.osb_network.specs.Settling.{free_events, operation_events, round_events, settling_events, work_events};
 ghost use Rattle.osb_network.specs.Settling.{IsPartWay, SettlesByEvents};
 ghost use Rattle.osb_network.specs.Steps.{applies, cell_step, cell_steps, step_of, takes_memory};
 ghost use Rattle.osb_instance.specs.declared.record.Sent.{Sent};
@@ -213,18 +216,36 @@ impl Instance {
         Ok(())
     }
 
-    // A fault-free round.
-    fn round(&mut self, alloc: Global) -> Result<(), Memory>
-        ensures cell { OnOk result (self.new ≡ after_round self.old) }
-        ensures err { OnErr result (IsPartWay round_events self.old self.new) }
+    // What is under way ends well, and the request that is due is sent, done and answered.
+    fn go_free(&mut self, alloc: Global) -> Result<(), Memory>
+        ensures cell { OnOk result (self.new ≡ after_free self.old) }
+        ensures err { OnErr result (IsPartWay free_events self.old self.new) }
     {
-        self.step(alloc, Event::Timeout)?;
         self.work_well(alloc)?;
         self.operate_well(alloc)?;
         self.step(alloc, Event::Send)?;
         self.arrive_out(alloc)?;
         self.work_well(alloc)?;
         self.take_latest(alloc)
+    }
+
+    // A fault-free round.
+    fn round(&mut self, alloc: Global) -> Result<(), Memory>
+        ensures cell { OnOk result (self.new ≡ after_round self.old) }
+        ensures err { OnErr result (IsPartWay round_events self.old self.new) }
+    {
+        self.step(alloc, Event::Timeout)?;
+        self.go_free(alloc)
+    }
+
+    // A fault-free round in which the instance is removed if it may be.
+    fn removing_round(&mut self, alloc: Global) -> Result<(), Memory>
+        ensures cell { OnOk result (self.new ≡ after_removing_round self.old) }
+        ensures err { OnErr result (IsPartWay removing_round_events self.old self.new) }
+    {
+        self.step(alloc, Event::Timeout)?;
+        self.step(alloc, Event::Remove)?;
+        self.go_free(alloc)
     }
 
     // Three fault-free rounds.
@@ -265,6 +286,46 @@ impl Instance {
         let settled = self.rounds(alloc);
         self.agreement();
         settled
+    }
+
+    // Three removing rounds.
+    fn removing_rounds(&mut self, alloc: Global) -> Result<(), Memory>
+        ensures cell { OnOk result (self.new ≡ removed_cell self.old) }
+        ensures err { OnErr result (IsPartWay removing_events self.old self.new) }
+    {
+        self.removing_round(alloc)?;
+        self.removing_round(alloc)?;
+        self.removing_round(alloc)?;
+        Ok(())
+    }
+
+    /// Ends the instance, as it ends where an operator wants it deleted and nothing goes wrong any more: three rounds as at
+    /// [`Instance::settle`], in each of which the instance is removed once the request that is out was given up, if it may
+    /// be (this project's choice).
+    ///
+    /// The platform records `gone` then, or nothing as before. That needs three numbers for requests. If the instance was
+    /// settled, it is so after two of the three rounds (`TwoRoundsRemove`), and that needs two numbers.
+    ///
+    /// `alloc` is for nothing that is written here: requests and answers go to the instance's own allocator.
+    ///
+    /// # Errors
+    ///
+    /// [`Memory`] if an allocation failed. The first few of these events have happened then, and none after them. Both
+    /// sides and the backend agree. Remove the instance again to go on from there.
+    pub fn remove(&mut self, alloc: Global) -> Result<(), Memory>
+        ensures cell { OnOk result (self.new ≡ removed_cell self.old) }
+        ensures err { OnErr result (IsPartWay removing_events self.old self.new) }
+        ensures removed { HasNumbers 3 self.old → OnOk result (IsRemoved self.new) }
+        ensures agrees { Agrees self.new }
+        // So it is from every cell that can come about.
+        ensures always { ThreeRoundsRemove }
+        ensures settled { TwoRoundsRemove }
+        ensures by_events { RemovesByEvents }
+    {
+        self.agreement();
+        let removed = self.removing_rounds(alloc);
+        self.agreement();
+        removed
     }
 }
 

@@ -200,6 +200,7 @@ enum Call {
     StepThird,
     Steps,
     Settle,
+    Remove,
     Run,
 }
 
@@ -251,6 +252,11 @@ impl NetworkCase {
         done(self.instance.settle(self.alloc))
     }
 
+    // So does a removal.
+    fn remove(&mut self) -> Returned {
+        done(self.instance.remove(self.alloc))
+    }
+
     fn run(&mut self) -> Returned {
         match run(self.alloc, order(first()), &[CREATE, ARRIVE]) {
             Ok(instance) => {
@@ -277,6 +283,7 @@ impl Case for NetworkCase {
             Call::StepThird => self.step(third()),
             Call::Steps => self.steps(),
             Call::Settle => self.settle(),
+            Call::Remove => self.remove(),
             Call::Run => self.run(),
         }
     }
@@ -307,6 +314,8 @@ pub fn calls(rt: &impl Print, alloc: Global) -> Result<()> {
         (Call::Steps, "Network::steps"),
         (Call::Run, "osb_network::run"),
         (Call::Settle, "Instance::settle"),
+        (Call::Run, "osb_network::run again"),
+        (Call::Remove, "Instance::remove"),
     ];
     for &(call, name) in &calls {
         case.call = call;

@@ -1,52 +1,18 @@
 -- Where a step finds no memory, those before it have happened.
-use Rattle.osb_network.proofs.PartWay.{left, in_exchange, in_operation, in_work}
-use Rattle.osb_network.proofs.PartWay.{not_arrived, not_begun, not_sent, not_taken, not_worked}
+use Rattle.osb_network.proofs.PartWay.{left, not_begun, round_done, timed_out}
 use Rattle.std.proofs.lemmas.Result.{on_err_weaker}
 use Rattle.osb_network.proofs.instance.Instance.round.Goals as goal
 
 pub returns-in_err-step-clause-err : goal.returns-in_err-step-clause-err
 returns-in_err-step-clause-err c = left _ (not_begun c.args.self.now c.step.new.self c.in_err-step.ensures.err)
 
-pub returns-in_err-work_well-clause-err : goal.returns-in_err-work_well-clause-err
-returns-in_err-work_well-clause-err c =
-    left _
-    (in_work c.args.self.now c.step.new.self c.work_well.new.self c.in_ok-step.ensures.cell
-    c.in_err-work_well.ensures.err)
-
-pub returns-in_err-operate_well-clause-err : goal.returns-in_err-operate_well-clause-err
-returns-in_err-operate_well-clause-err c =
-    left _
-    (in_operation c.args.self.now c.step.new.self c.work_well.new.self c.operate_well.new.self
-    c.in_ok-step.ensures.cell c.in_ok-work_well.ensures.cell c.in_err-operate_well.ensures.err)
-
-pub returns-in_err-step-2-clause-err : goal.returns-in_err-step-2-clause-err
-returns-in_err-step-2-clause-err c =
-    left _
-    (in_exchange c.args.self.now c.step.new.self c.work_well.new.self c.operate_well.new.self c.step-2.new.self
-    c.in_ok-step.ensures.cell c.in_ok-work_well.ensures.cell c.in_ok-operate_well.ensures.cell
-    (not_sent c.operate_well.new.self c.step-2.new.self c.in_err-step-2.ensures.err))
-
-pub returns-in_err-arrive_out-clause-err : goal.returns-in_err-arrive_out-clause-err
-returns-in_err-arrive_out-clause-err c =
-    left _
-    (in_exchange c.args.self.now c.step.new.self c.work_well.new.self c.operate_well.new.self c.arrive_out.new.self
-    c.in_ok-step.ensures.cell c.in_ok-work_well.ensures.cell c.in_ok-operate_well.ensures.cell
-    (not_arrived c.operate_well.new.self c.step-2.new.self c.arrive_out.new.self c.in_ok-step-2.ensures.cell
-    c.in_err-arrive_out.ensures.err))
-
-pub returns-in_err-work_well-2-clause-err : goal.returns-in_err-work_well-2-clause-err
-returns-in_err-work_well-2-clause-err c =
-    left _
-    (in_exchange c.args.self.now c.step.new.self c.work_well.new.self c.operate_well.new.self c.work_well-2.new.self
-    c.in_ok-step.ensures.cell c.in_ok-work_well.ensures.cell c.in_ok-operate_well.ensures.cell
-    (not_worked c.operate_well.new.self c.step-2.new.self c.arrive_out.new.self c.work_well-2.new.self
-    c.in_ok-step-2.ensures.cell c.in_ok-arrive_out.ensures.cell c.in_err-work_well-2.ensures.err))
-
 pub returns-clause-err : goal.returns-clause-err
 returns-clause-err c =
-    on_err_weaker c.take_latest.result
-    (λ same. in_exchange c.args.self.now c.step.new.self c.work_well.new.self c.operate_well.new.self c.take_latest.new.self
-    c.in_ok-step.ensures.cell c.in_ok-work_well.ensures.cell c.in_ok-operate_well.ensures.cell
-    (not_taken c.operate_well.new.self c.step-2.new.self c.arrive_out.new.self c.work_well-2.new.self
-    c.take_latest.new.self c.in_ok-step-2.ensures.cell c.in_ok-arrive_out.ensures.cell
-    c.in_ok-work_well-2.ensures.cell same)) c.take_latest.ensures.err
+    on_err_weaker c.go_free.result
+    (λ part. timed_out c.args.self.now c.step.new.self c.go_free.new.self c.in_ok-step.ensures.cell part)
+    c.go_free.ensures.err
+
+pub returns-clause-cell : goal.returns-clause-cell
+returns-clause-cell c =
+    round_done c.go_free.result c.args.self.now c.step.new.self c.go_free.new.self c.in_ok-step.ensures.cell
+    c.go_free.ensures.cell
