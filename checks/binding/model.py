@@ -96,6 +96,9 @@ class Rules(NamedTuple):
     without: frozenset[str] = frozenset()
     # The answer to a Bind that is put off.
     refusal: Answer = BUSY["provision"]
+    # Whether a round without a fault gives a resource new credentials. Otherwise the resource has those that it had,
+    # and 0 if it had none.
+    renews: bool = True
 
     def has(self, part: str) -> bool:
         if part.startswith("rule ") and not (self.platform if part.startswith("rule c") else self.broker):
@@ -343,6 +346,7 @@ class Binding(Life):
     tied: ClassVar[str] = "provision"
     retrievable: bool = True
     refusal: Answer = BUSY["provision"]
+    renews: bool = True
     # Whether the broker has deleted the tombstone.
     forgotten: bool = False
     # The credentials that the platform records, of the row, and of the resource; and the highest ever chosen.
@@ -449,7 +453,7 @@ class Binding(Life):
             self.recorded = 0
 
     def work_well(self, made: bool) -> str:
-        return f"work whole {self.chosen + 1}" if made else "work absent"
+        return f"work whole {self.chosen + 1 if self.renews else self.credentials}" if made else "work absent"
 
     def take_latest(self) -> None:
         place = len(self.given) - 1
@@ -467,8 +471,10 @@ class Binding(Life):
 
     def words(self) -> str:
         record, held, resource = super().words().split("; ")
-        numbers = (str(it or "-") for it in (self.recorded, self.credentials))
-        return "; ".join([record, "- - -" if self.forgotten else held, resource, f"credentials {' '.join(numbers)}"])
+        recorded = self.recorded if self.state == "ready" else "-"
+        credentials = self.credentials if resource == "whole" else "-"
+        held = "- - -" if self.forgotten else held
+        return "; ".join([record, held, resource, f"credentials {recorded} {credentials}"])
 
     def more_words(self, given: int) -> list[str]:
         found = super().more_words(given)
@@ -499,7 +505,7 @@ def new_instance(rules: Rules, order: Order) -> Life:
 
 def new_binding(rules: Rules, order: Order) -> Binding:
     binding = Binding(*order[:3], without=rules.without, truthful=rules.truthful, refusal=rules.refusal)
-    binding.retrievable = order.retrievable
+    binding.retrievable, binding.renews = order.retrievable, rules.renews
     return binding
 
 

@@ -25,9 +25,10 @@ def test_same_seed() -> None:
 @pytest.mark.slow
 def test_walks() -> None:
     seen: Counter[tuple[str, str, str]] = Counter()
-    for at, step in islice(services(random.Random(2), Rules()), 8_000):
+    for at, step in islice(services(random.Random(2), Rules()), 12_000):
         assert not at.tied.broken(), step
         assert step.line != "settle" or at.tied.settles(0)
+        assert step.line != "remove" or at.tied.settles(0, removing=True)
         whose, _, event = step.line.replace("binding 1 ", "binding ").replace("binding 2 ", "binding ").partition(" ")
         seen[whose, event.partition(" ")[0], step.wanted.partition(":")[0]] += 1
     wanted = {("instance", it, "applied") for it in OF_ALL} | {("binding", it, "applied") for it in EVENTS}

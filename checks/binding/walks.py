@@ -6,14 +6,19 @@ The same seed gives the same lines. Each line is an event, two spaces, and what 
 
     EVENT  WHAT: LIFE | LIFE .. # MORE
 
+The program of the crate service_cases reads all events but `drop`, and writes such lines, without MORE of a binding.
+
 EVENT is one of these:
 
-- `service SIDES: ORDER; ORDER ..` begins anew. SIDES are those that keep their rules: `platform`, `broker`, or both.
-  The first ORDER is the instance's, the others are of bindings that nothing has happened to. An ORDER is the mode of
-  the plan (`sync`, `async` or `-`), whether the Provision or the Bind `accepts` or `refuses` an asynchronous operation,
-  and `first-poll` or `-`. For a binding that can't be fetched, `no-fetch` follows.
+- `service SIDES: ORDER; ORDER ..` begins anew. SIDES are those that keep their rules: `platform`, `broker`, both, or
+  `-`. The first ORDER is the instance's, the others are of bindings that nothing has happened to. An ORDER is the mode
+  of the plan (`sync`, `async` or `-`), whether the Provision or the Bind `accepts` or `refuses` an asynchronous
+  operation, and `first-poll` or `-`. For a binding that can't be fetched, `no-fetch` follows.
 - `instance E` or `binding NUMBER E`: an event of one life. The bindings are numbered from 1.
-- `settle`: three rounds without a fault, each of the instance and then of each binding.
+- `settle`: three rounds without a fault, each of the instance and then of each binding. If the platform doesn't keep
+  its rules, nothing happens.
+- `remove`: three such rounds of the instance, three of each binding, in which it is removed, and then three of the
+  instance, in which it is removed. If the platform doesn't keep its rules, nothing happens.
 
 E is an event of checks/network, with Bind for Provision and Unbind for Deprovision, or one of a binding's own:
 
@@ -32,8 +37,9 @@ E is an event of checks/network, with Bind for Provision and Unbind for Deprovis
 
 An OUTCOME is `done`, `before`, `after`, `refused 400` or `refused 422`.
 
-WHAT is `new` after `service`, `settled` after `settle`, and else `applied` or `skipped`. A request that a rule puts off
-is `applied`, and so is an answer that the platform gives up. LIFE has parts, with a semicolon between them:
+WHAT is `new` after `service`, `settled` after `settle` and `removed` after `remove` if that happens, and else
+`applied` or `skipped`. A request that a rule puts off is `applied`, and so is an answer that the platform gives up.
+LIFE has parts, with a semicolon between them:
 
 - what the platform records: `-`, or the state, the kind of the request that is out or `-`, and its number;
 - what the broker holds: the phase, the kind of the pending work, and `tombstone`, or `-` for each that there isn't;
@@ -57,8 +63,8 @@ from binding.cells import ORDERS
 from binding.model import Binding, Life, Order, Rules, Tied
 from network.walks import Step, any_event, likely
 
-# `osb_binding_network` deletes no records.
-RULES = Rules(without=frozenset(["deletion of records"]))
+# `osb_binding_network` deletes no records, and a round without a fault leaves the credentials.
+RULES = Rules(without=frozenset(["deletion of records"]), renews=False)
 # How an instance becomes ready, by the mode of its plan and the rule of the first Poll.
 POLLED = ("take 0", "send", "arrive 2", "work whole", "finish ok", "arrive 2", "take 2")
 MADE = {
@@ -67,6 +73,22 @@ MADE = {
     ("async", True): ("create", "arrive 1", *POLLED),
 }
 
+
+def settle(tied: Tied) -> None:
+    for _ in range(3):
+        tied.round()
+
+
+def remove(tied: Tied) -> None:
+    """Five rounds are enough, as the last assertion says; a sixth changes nothing."""
+    for life, removing in ((tied.instance, False), *((it, True) for it in tied.bindings), (tied.instance, True)):
+        for number in range(3):
+            tied.allow()
+            life.round(removing)
+            assert life is not tied.instance or not removing or number == 0 or life.state in (None, "gone")
+
+
+ROUNDS = {"settle": settle, "remove": remove}
 
 DISTURBING = {"put-off", "crash-broker", "crash-platform", "timeout", "gateway", "garbled"}
 
@@ -89,10 +111,11 @@ class Walk:
         self.begun = Step(line, f"new: {self.tied.words()}")
 
     def happen(self, line: str) -> Step:
-        if line == "settle":
-            for _ in range(3):
-                self.tied.round()
-            return Step(line, f"settled: {self.tied.words()}")
+        if line in ROUNDS:
+            happens = self.tied.rules.platform
+            if happens:
+                ROUNDS[line](self.tied)
+            return Step(line, f"{line.rstrip('e') + 'ed' if happens else 'skipped'}: {self.tied.words()}")
         life, _ = self.tied.named(line)
         given = len(life.given)
         what = "applied" if self.tied.happen(line) else "skipped"
@@ -107,7 +130,7 @@ class Walk:
     def next(self) -> str:
         """An event, which is likely to apply."""
         if self.draw.random() < 0.01:
-            return "settle"
+            return "remove" if self.draw.random() < 0.1 else "settle"
         self.tied.allow()
         some = self.draw.random() < 0.1
         found = []
@@ -134,7 +157,8 @@ class Walk:
             return found
         places = range(len(life.given) + 1)
         fetched = [f"take-fetched {it} {self.draw.randint(0, len(life.fetched))}" for it in places]
-        return [self.of_binding(life, it) for it in found] + fetched + ["fetch", "forget", "drop"]
+        drop = ["drop"] if self.tied.rules.has("deletion of records") else []
+        return [self.of_binding(life, it) for it in found] + fetched + ["fetch", "forget", *drop]
 
     def of_binding(self, life: Binding, line: str) -> str:
         """The event with what only a binding has. The credentials are mostly new."""

@@ -1,3 +1,4 @@
 pub mod Answers
 pub mod Begun
 pub mod Requests
+pub mod Texts

@@ -1,6 +1,6 @@
 //! What a broker holds of one binding.
-ghost use Rattle.std.specs.Prelude.{◌≡◌, ◌↔◌, true, false, Option, None, Ok, Err};
-ghost use Rattle.std.specs.Prelude.{IsTrue, IsSome, IsOk, IfOk, IfSome, IsSomeAnd};
+ghost use Rattle.std.specs.Prelude.{◌≡◌, ◌↔◌, ◌⊎◌, true, false, Option, None, Ok, Err};
+ghost use Rattle.std.specs.Prelude.{IsTrue, IsSome, IsOk, IfOk, IfErr, IfSome, IsSomeAnd, string_bytes};
 ghost use Rattle.osb_message.specs.declared.catalogue.Mode.{Mode};
 ghost use Rattle.osb_instance.specs.Begin.{busy, can_end, finished_held, given_up, is_held, is_operating};
 ghost use Rattle.osb_instance.specs.Begin.{begins, worked, IsWork};
@@ -10,14 +10,20 @@ ghost use Rattle.osb_instance.specs.HoldingText.{possible};
 ghost use Rattle.osb_instance.specs.Rows.{held_of_parts, held_row};
 ghost use Rattle.osb_binding.specs.Begun.{binding_begun, fetched, forgotten_answer, may_begin};
 ghost use Rattle.osb_binding.specs.Requests.{life_request};
+ghost use Rattle.osb_binding.specs.Texts.{binding_holding_in, binding_holding_text};
 
 use crate::BindingRequest;
 use osb_broker::{NothingRunning, Outcome, decide};
 use osb_instance::{
-    Begun, Digest, EndRefused, Holding, HoldingPhase, HoldingRow, NotWaiting, WorkOutcome, busy,
+    Begun, Digest, EndRefused, Holding, HoldingPhase, HoldingRow, NotWaiting, TextFault,
+    WorkOutcome, busy,
 };
-use osb_message::{Answer, Body, ErrorCode, Kind, Mode, Request};
+use osb_message::{Answer, Body, ErrorCode, Kind, Memory, Mode, Request};
+use std::alloc::Global;
 use std::marker::Model;
+
+// The number of the format of the text.
+const VERSION: u64 = 1;
 
 /// What a broker holds of one binding: as a [`Holding`] has it of an instance. The pending request is that of
 /// [`BindingRequest::as_request`]. The mode of its calls is that of binding at the plan, and none if the plan isn't
@@ -254,5 +260,37 @@ impl BindingHolding {
                 body: Body::Error(ErrorCode::Other),
             },
         }
+    }
+
+    /// The text of the holding, for a column of a database: with the members of [`Holding::to_text`], and a `version`
+    /// of its own, the number 1. The `id` of pending work is the binding's. All of this is this project's choice.
+    ///
+    /// # Errors
+    ///
+    /// [`Memory`] if an allocation failed.
+    pub fn to_text(self, alloc: Global) -> Result<String, Memory>
+        ensures text { IfOk result (λ text. string_bytes text ≡ binding_holding_text self) }
+        ensures back { IfOk result (λ text. binding_holding_in (string_bytes text) ≡ Ok self) }
+    {
+        self.life.to_text_with_version(alloc, VERSION)
+    }
+
+    /// The holding that a text names, as [`BindingHolding::to_text`] writes it and [`Holding::from_text`] reads one; no
+    /// other version is read (this project's choice).
+    ///
+    /// # Errors
+    ///
+    /// As at [`Holding::from_text`], [`TextFault::Memory`] in place of any other if an allocation failed.
+    pub fn from_text(alloc: Global, text: &str) -> Result<BindingHolding, TextFault>
+        ensures ok { IfOk result (λ holding. binding_holding_in text.now ≡ Ok holding) }
+        ensures err { IfErr result (λ fault.
+            (fault ≡ TextFault.Memory) ⊎ (binding_holding_in text.now ≡ Err fault)) }
+        ensures back { (written : Held) → binding_holding_in text.now ≡ Ok written
+            → IfOk result (λ holding. holding ≡ written) }
+        ensures back_err { (written : Held) → binding_holding_in text.now ≡ Ok written
+            → IfErr result (λ fault. fault ≡ TextFault.Memory) }
+    {
+        let life = Holding::from_text_with_version(alloc, VERSION, text)?;
+        Ok(BindingHolding { life })
     }
 }

@@ -1,6 +1,6 @@
 //! What a platform records of one binding.
-ghost use Rattle.std.specs.Prelude.{◌≡◌, ◌≢◌, ◌↔◌, ◌&&◌, not, true, false, Some, Ok, Err};
-ghost use Rattle.std.specs.Prelude.{IsTrue, IsSome, IsOk, IfOk};
+ghost use Rattle.std.specs.Prelude.{◌≡◌, ◌≢◌, ◌↔◌, ◌⊎◌, ◌&&◌, not, true, false, Some, Ok, Err};
+ghost use Rattle.std.specs.Prelude.{IsTrue, IsSome, IsOk, IfOk, IfErr, string_bytes};
 ghost use Rattle.osb_message.specs.declared.messages.Request.{Request};
 ghost use Rattle.osb_platform.specs.PlatformRow.{wanted_row, first_request};
 ghost use Rattle.osb_platform.specs.PlatformRow.{can_send, can_expire, can_remove, is_idle};
@@ -9,12 +9,19 @@ ghost use Rattle.osb_instance.specs.Recorded.{Recorded, IsRecordedSound, IsSentA
 ghost use Rattle.osb_instance.specs.Recorded.{IsGivenUpAfter, IsCleanedUpAfter, can_retry, is_gone_in, is_ready_in};
 ghost use Rattle.osb_binding.specs.Answers.{is_useless};
 ghost use Rattle.osb_binding.specs.Requests.{binding_request};
+ghost use Rattle.osb_binding.specs.Texts.{binding_record_in, binding_record_text};
 
 use crate::{BindingId, BindingRequest, BindingSent, NotReady};
-use osb_instance::{ExpireRefused, NotOut, Record, RemoveRefused, RetryRefused, SendRefused, Sent};
-use osb_message::{Answer, InstanceId, Kind};
+use osb_instance::{
+    ExpireRefused, NotOut, Record, RemoveRefused, RetryRefused, SendRefused, Sent, TextFault,
+};
+use osb_message::{Answer, InstanceId, Kind, Memory};
 use osb_platform::PlatformRow;
+use std::alloc::Global;
 use std::marker::Model;
+
+// The number of the format of the text.
+const VERSION: u64 = 1;
 
 /// What a platform records of one binding: as a [`Record`] has it of an instance (this project's choice; the standard
 /// leaves the record to the platform).
@@ -255,6 +262,38 @@ impl BindingRecord {
             ↔ IsTrue (is_idle (Some self.row) && not (can_remove (Some self.row))) }
     {
         let life = self.life.remove()?;
+        Ok(BindingRecord { life })
+    }
+
+    /// The text of the record, for a column of a database: with the members of [`Record::to_text`], and a `version` of
+    /// its own, the number 1 (this project's choice).
+    ///
+    /// # Errors
+    ///
+    /// [`Memory`] if an allocation failed.
+    pub fn to_text(self, alloc: Global) -> Result<String, Memory>
+        ensures text { IfOk result (λ text. string_bytes text ≡ binding_record_text self) }
+        ensures back { IfOk result (λ text. binding_record_in (string_bytes text) ≡ Ok self) }
+    {
+        self.life.to_text_with_version(alloc, VERSION)
+    }
+
+    /// The record that a text names, as [`BindingRecord::to_text`] writes it and [`Record::from_text`] reads one (this
+    /// project's choice).
+    ///
+    /// # Errors
+    ///
+    /// As at [`Record::from_text`], [`TextFault::Memory`] in place of any other if an allocation failed.
+    pub fn from_text(alloc: Global, text: &str) -> Result<BindingRecord, TextFault>
+        ensures ok { IfOk result (λ r. binding_record_in text.now ≡ Ok r) }
+        ensures err { IfErr result (λ fault.
+            (fault ≡ TextFault.Memory) ⊎ (binding_record_in text.now ≡ Err fault)) }
+        ensures back { (written : Recorded) → binding_record_in text.now ≡ Ok written
+            → IfOk result (λ r. r ≡ written) }
+        ensures back_err { (written : Recorded) → binding_record_in text.now ≡ Ok written
+            → IfErr result (λ fault. fault ≡ TextFault.Memory) }
+    {
+        let life = Record::from_text_with_version(alloc, VERSION, text)?;
         Ok(BindingRecord { life })
     }
 }

@@ -1,7 +1,7 @@
 -- An instance with many bindings: what goes together with each.
 use Rattle.std.proofs.Common.{◌≡◌, ◌≢◌, ℕ, zero, suc, Bool, true, false, cond, List, [], ◌∷◌, refl, sym, ◌∙◌, ap, subst, ⊎_elim}
 use Rattle.std.specs.Prelude.{Option, Some, None, IsSome, IfSome, Result, Ok, Err, OnOk, OnErr, option_map, ◌&&◌}
-use Rattle.std.specs.Prelude.{if◌then◌else◌, length, slice_get}
+use Rattle.std.specs.Prelude.{⊤, if◌then◌else◌, length, slice_get}
 use Rattle.std.specs.BTreeMap as tree
 use Rattle.std.specs.BTreeMap.{BTreeMap}
 use Rattle.std.specs.Cmp.{nat_cmp_total}
@@ -15,19 +15,22 @@ use Rattle.osb_instance.specs.Held.{nothing_held}
 use Rattle.osb_network.specs.declared.event.Event.{Event}
 use Rattle.osb_network.specs.declared.order.Order.{Order}
 use Rattle.osb_network.specs.Cell.{Cell, IsPossible, empty_cell}
+use Rattle.osb_network.specs.Removing.{removed_cell, removing_events}
 use Rattle.osb_network.specs.Settling.{after_first, settled_cell, settling_events, IsPartWay}
 use Rattle.osb_network.specs.Steps.{cell_step}
 use Rattle.osb_network.proofs.Agreements.{agrees}
 use Rattle.osb_network.proofs.Kept.{kept_step}
-use Rattle.osb_network.proofs.PartWay.{settles_by_events}
+use Rattle.osb_network.proofs.PartWay.{removes_by_events, settles_by_events}
 use Rattle.osb_binding_network.specs.declared.rules.Rules.{Rules}
 use Rattle.osb_binding_network.specs.declared.event.BindingEvent.{BindingEvent}
+use Rattle.osb_binding_network.specs.declared.event.ServiceEvent.{ServiceEvent}
 use Rattle.osb_binding_network.specs.Agreement.{BindingAgrees, ServiceAgrees}
-use Rattle.osb_binding_network.specs.Allowed.{may_bind, may_create, may_remove, may_work, needs_fetch, of_binding, of_instance}
-use Rattle.osb_binding_network.specs.Binding.{BindingCell, binding_step, empty_binding, is_fetchable, lived_if, taken_with}
+use Rattle.osb_binding_network.specs.Allowed.{may_bind, may_create, may_remove, may_work, of_binding, of_instance}
+use Rattle.osb_binding_network.specs.Binding.{BindingCell, binding_step, empty_binding, is_fetchable, lived_if}
+use Rattle.osb_binding_network.specs.Happening.{service_takes_memory, some_takes_memory}
 use Rattle.osb_binding_network.specs.Possible.{IsOf, IsService}
-use Rattle.osb_binding_network.specs.Service.{every, each_of}
-use Rattle.osb_binding_network.specs.Settled.{SettlesAt}
+use Rattle.osb_binding_network.specs.Service.{binding_after, every, each_of}
+use Rattle.osb_binding_network.specs.Settled.{RemovesAt, SettlesAt}
 use Rattle.osb_binding_network.specs.Well.{IsWell}
 use Rattle.osb_binding_network.proofs.Bindings.{kept_step_binding}
 use Rattle.osb_binding_network.proofs.Credentials.{credentials_agree, well_empty, well_step}
@@ -35,7 +38,9 @@ use Rattle.osb_binding_network.proofs.Ended.{ended_by, tombstone_stays}
 use Rattle.osb_binding_network.proofs.Fetches.{same_forgotten, taken_forgotten}
 use Rattle.osb_binding_network.proofs.Kept.{instance_after, kept_instance, related_empty}
 use Rattle.osb_binding_network.proofs.PutOff.{puts_off_rightly}
-use Rattle.osb_binding_network.proofs.Rounds.{binding_settled, instance_settled}
+use Rattle.osb_binding_network.proofs.Rounds.{All, IsByEvents, KeepsBinding, KeepsInstance}
+use Rattle.osb_binding_network.proofs.Rounds.{binding_removes, binding_rounds, binding_settles}
+use Rattle.osb_binding_network.proofs.Rounds.{instance_removes, instance_rounds, instance_settles}
 use Rattle.osb_binding_network.proofs.Together.{together}
 
 first_of_both : (a b : Bool) → (a && b) ≡ true → a ≡ true
@@ -160,6 +165,27 @@ each_after x r i old new id create work ended e comes works ends ok err others h
       (cases_eq q id);
 }
 
+-- the binding after its event, among all that there is
+pub here_found : {T E : Type 0} (x : Result T E) (r : Rules) (i : Cell) (old new : BTreeMap ℕ BindingCell) (id : ℕ)
+    (create work ended : Bool) (e : BindingEvent) → create ≡ may_create r i → work ≡ may_bind r i
+    → ended ≡ i.held.tombstone
+    → OnOk x (tree.get nat_cmp new id ≡ option_map (λ b. binding_step create work ended b e) (tree.get nat_cmp old id))
+    → OnOk x (map.get (map.from_entries {R = nat_cmp} new.entries) id ≡ binding_after
+    (record { rules = r; instance = i; bindings = map.from_entries {R = nat_cmp} old.entries }) e
+    (map.get (map.from_entries {R = nat_cmp} old.entries) id))
+here_found (Ok v) r i old new id create work ended e comes works ends h =
+    get-tree nat_cmp_total new id ∙ h
+    ∙ (λ j. option_map (λ b. binding_step (comes j) (works j) (ends j) b e) (sym (get-tree nat_cmp_total old id) j))
+here_found (Err v) r i old new id create work ended e comes works ends h = tt
+
+pub same_memory : (r : Rules) (i : Cell) (m : BTreeMap ℕ BindingCell) (id : ℕ) (create work : Bool) (e : BindingEvent)
+    → create ≡ may_create r i → work ≡ may_bind r i
+    → some_takes_memory create work (tree.get nat_cmp m id) e
+    ≡ service_takes_memory (record { rules = r; instance = i; bindings = map.from_entries {R = nat_cmp} m.entries })
+    (ServiceEvent.Binding id e)
+same_memory r i m id create work e comes works =
+    λ j. some_takes_memory (comes j) (works j) (sym (get-tree nat_cmp_total m id) j) e
+
 -- ---- a binding more
 
 taken_in : {T E : Type 0} (x : Result T E) (r : Rules) (i : Cell) (o n : Option BindingCell) (b : BindingCell)
@@ -231,56 +257,113 @@ some_ended zero fs i h = h
 some_ended (suc n) [] i h = h
 some_ended (suc n) (f ∷ fs) i h = some_ended n fs (cell_step i (f i)) (tombstone_stays i (f i) h)
 
-settled_ended : {T E : Type 0} (x : Result T E) (i n : Cell) → OnOk x (n ≡ settled_cell i)
-    → OnErr x (IsPartWay settling_events i n) → i.held.tombstone ≡ true → n.held.tombstone ≡ true
-settled_ended (Ok v) i n ok err h =
-    ap (λ (c : Cell). c.held.tombstone) (ok ∙ settles_by_events i)
-    ∙ some_ended (length settling_events) settling_events i h
-settled_ended (Err v) i n ok err h =
-    ap (λ (c : Cell). c.held.tombstone) err.2 ∙ some_ended err.0 settling_events i h
+rounds_ended : {T E : Type 0} (x : Result T E) (fs : List (Cell → Event)) (rounds : Cell → Cell) (i n : Cell)
+    → IsByEvents fs rounds → OnOk x (n ≡ rounds i) → OnErr x (IsPartWay fs i n) → i.held.tombstone ≡ true
+    → n.held.tombstone ≡ true
+rounds_ended (Ok v) fs rounds i n by ok err h =
+    ap (λ (c : Cell). c.held.tombstone) (ok ∙ by i) ∙ some_ended (length fs) fs i h
+rounds_ended (Err v) fs rounds i n by ok err h =
+    ap (λ (c : Cell). c.held.tombstone) err.2 ∙ some_ended err.0 fs i h
 
-one_settled : {T E : Type 0} (x : Result T E) (r : Rules) (i n : Cell) (o : Option BindingCell) → r.platform ≡ true
-    → OnOk x (n ≡ settled_cell i) → OnErr x (IsPartWay settling_events i n) → IsPossible i → IfSome o (IsOf r i)
-    → IfSome o (IsOf r n)
-one_settled x r i n None p ok err possible of = tt
-one_settled x r i n (Some b) p ok err possible of = record {
+-- the instance goes through rounds
+one_rounds : {T E : Type 0} (x : Result T E) (go : Bool) (fs : List (Cell → Event)) (rounds : Cell → Cell) (r : Rules)
+    (i n : Cell) (o : Option BindingCell) → IsByEvents fs rounds → All (KeepsInstance go) fs → r.platform ≡ true
+    → (go ≡ true → IfSome o (λ b. may_remove r b.life ≡ true)) → OnOk x (n ≡ rounds i)
+    → OnErr x (IsPartWay fs i n) → IsPossible i → IfSome o (IsOf r i) → IfSome o (IsOf r n)
+one_rounds x go fs rounds r i n None by all p may ok err possible of = tt
+one_rounds x go fs rounds r i n (Some b) by all p may ok err possible of = record {
   well = of.well;
-  related = instance_settled x r i n b.life p ok err
+  related = instance_rounds x go fs rounds r i n b.life by all p may ok err
       (record { instance = possible; binding = of.well.credited.possible; related = of.related });
-  ended = λ gone. settled_ended x i n ok err (of.ended gone);
+  ended = λ gone. rounds_ended x fs rounds i n by ok err (of.ended gone);
+}
+
+service_rounds : {T E : Type 0} (x : Result T E) (go : Bool) (fs : List (Cell → Event)) (rounds : Cell → Cell)
+    (r : Rules) (i n : Cell) (old : ℕ → Option BindingCell) → IsByEvents fs rounds → All (KeepsInstance go) fs
+    → r.platform ≡ true → ((id : ℕ) → go ≡ true → IfSome (old id) (λ b. may_remove r b.life ≡ true))
+    → OnOk x (n ≡ rounds i) → OnErr x (IsPartWay fs i n) → IsPossible n → IsService r i old → IsService r n old
+service_rounds x go fs rounds r i n old by all p may ok err possible h = record {
+  possible = possible;
+  each = λ id. one_rounds x go fs rounds r i n (old id) by all p (may id) ok err h.possible (h.each id);
 }
 
 pub service_settled : {T E : Type 0} (x : Result T E) (r : Rules) (i n : Cell) (old : ℕ → Option BindingCell)
     → r.platform ≡ true → OnOk x (n ≡ settled_cell i) → OnErr x (IsPartWay settling_events i n) → IsPossible n
     → IsService r i old → IsService r n old
-service_settled x r i n old p ok err possible h = record {
-  possible = possible;
-  each = λ id. one_settled x r i n (old id) p ok err h.possible (h.each id);
+service_settled x r i n old p ok err possible h =
+    service_rounds x false settling_events settled_cell r i n old settles_by_events instance_settles p (λ id e. cc) ok err
+    possible h
+
+-- if each binding lets the instance be removed
+pub service_removed : {T E : Type 0} (x : Result T E) (r : Rules) (i n : Cell) (m : BTreeMap ℕ BindingCell)
+    → r.platform ≡ true → every (λ b. may_remove r b) (tree.values m) ≡ true → OnOk x (n ≡ removed_cell i)
+    → OnErr x (IsPartWay removing_events i n) → IsPossible n → IsService r i (tree.get nat_cmp m)
+    → IsService r n (tree.get nat_cmp m)
+service_removed x r i n m p may ok err possible h =
+    service_rounds x true removing_events removed_cell r i n (tree.get nat_cmp m) removes_by_events instance_removes p
+    (λ id e. every_found (λ b. may_remove r b) _ m.entries may) ok err possible h
+
+-- a binding goes through rounds, if there is one
+abbrev GoesAt : {T E : Type 0} → Result T E → List (Cell → Event) → (Cell → Cell) → Option BindingCell
+    → Option BindingCell → Type 0
+GoesAt x fs rounds None None = ⊤
+GoesAt x fs rounds (Some old) (Some new) =
+    OnOk x (new.life ≡ rounds old.life) × OnErr x (IsPartWay fs old.life new.life) × (new.forgotten ≡ old.forgotten)
+GoesAt x fs rounds old new = ⊥
+
+here_rounds : {T E : Type 0} (x : Result T E) (fs : List (Cell → Event)) (rounds : Cell → Cell) (r : Rules) (i : Cell)
+    (o n : Option BindingCell) → IsByEvents fs rounds → All KeepsBinding fs → r.platform ≡ true
+    → GoesAt x fs rounds o n → IfSome n IsWell → IsPossible i → IfSome o (IsOf r i) → IfSome n (IsOf r i)
+here_rounds x fs rounds r i None None by all p here well possible of = tt
+here_rounds x fs rounds r i (Some b) (Some d) by all p here well possible of = record {
+  well = well;
+  related = binding_rounds x fs rounds r i b.life d.life by all p here.0 here.1
+      (record { instance = possible; binding = of.well.credited.possible; related = of.related });
+  ended = λ gone. of.ended (sym here.2 ∙ gone);
+}
+here_rounds x fs rounds r i None (Some d) by all p here well possible of = absurd here
+here_rounds x fs rounds r i (Some b) None by all p here well possible of = absurd here
+
+each_rounds : {T E : Type 0} (x : Result T E) (fs : List (Cell → Event)) (rounds : Cell → Cell) (r : Rules) (i : Cell)
+    (old new : ℕ → Option BindingCell) (id : ℕ) → IsByEvents fs rounds → All KeepsBinding fs → r.platform ≡ true
+    → GoesAt x fs rounds (old id) (new id) → IfSome (new id) IsWell
+    → ((other : ℕ) → other ≢ id → new other ≡ old other) → IsService r i old → IsService r i new
+each_rounds x fs rounds r i old new id by all p here well others h = record {
+  possible = h.possible;
+  each = λ q. ⊎_elim
+      (λ same. subst (λ (k : ℕ). IfSome (new k) (IsOf r i)) (sym same)
+      (here_rounds x fs rounds r i (old id) (new id) by all p here well h.possible (h.each id)))
+      (λ apart. subst (λ y. IfSome y (IsOf r i)) (sym (others q apart)) (h.each q))
+      (cases_eq q id);
 }
 
-here_settled : {T E : Type 0} (x : Result T E) (r : Rules) (i : Cell) (o n : Option BindingCell) → r.platform ≡ true
-    → SettlesAt x o n → IfSome n IsWell → IsPossible i → IfSome o (IsOf r i) → IfSome n (IsOf r i)
-here_settled x r i None None p here well possible of = tt
-here_settled x r i (Some b) (Some d) p here well possible of = record {
-  well = well;
-  related = binding_settled x r i b.life d.life p here.life here.err
-      (record { instance = possible; binding = of.well.credited.possible; related = of.related });
-  ended = λ gone. of.ended (sym here.forgotten ∙ gone);
-}
-here_settled x r i None (Some d) p here well possible of = absurd here
-here_settled x r i (Some b) None p here well possible of = absurd here
+settles_at : {T E : Type 0} (x : Result T E) (o n : Option BindingCell) → SettlesAt x o n
+    → GoesAt x settling_events settled_cell o n
+settles_at x None None h = tt
+settles_at x (Some old) (Some new) h = (h.life, h.err, h.forgotten)
+settles_at x None (Some new) h = absurd h
+settles_at x (Some old) None h = absurd h
+
+removes_at : {T E : Type 0} (x : Result T E) (o n : Option BindingCell) → RemovesAt x o n
+    → GoesAt x removing_events removed_cell o n
+removes_at x None None h = tt
+removes_at x (Some old) (Some new) h = (h.life, h.err, h.forgotten)
+removes_at x None (Some new) h = absurd h
+removes_at x (Some old) None h = absurd h
 
 pub each_settled : {T E : Type 0} (x : Result T E) (r : Rules) (i : Cell) (old new : ℕ → Option BindingCell) (id : ℕ)
     → r.platform ≡ true → SettlesAt x (old id) (new id) → IfSome (new id) IsWell
     → ((other : ℕ) → other ≢ id → new other ≡ old other) → IsService r i old → IsService r i new
-each_settled x r i old new id p here well others h = record {
-  possible = h.possible;
-  each = λ q. ⊎_elim
-      (λ same. subst (λ (k : ℕ). IfSome (new k) (IsOf r i)) (sym same)
-      (here_settled x r i (old id) (new id) p here well h.possible (h.each id)))
-      (λ apart. subst (λ y. IfSome y (IsOf r i)) (sym (others q apart)) (h.each q))
-      (cases_eq q id);
-}
+each_settled x r i old new id p here well others h =
+    each_rounds x settling_events settled_cell r i old new id settles_by_events binding_settles p
+    (settles_at x (old id) (new id) here) well others h
+
+pub each_removed : {T E : Type 0} (x : Result T E) (r : Rules) (i : Cell) (old new : ℕ → Option BindingCell) (id : ℕ)
+    → r.platform ≡ true → RemovesAt x (old id) (new id) → IfSome (new id) IsWell
+    → ((other : ℕ) → other ≢ id → new other ≡ old other) → IsService r i old → IsService r i new
+each_removed x r i old new id p here well others h =
+    each_rounds x removing_events removed_cell r i old new id removes_by_events binding_removes p
+    (removes_at x (old id) (new id) here) well others h
 
 -- what holds of what is found
 pub at_found : (P : BindingCell → Type 0) (o : Option BindingCell) (b : BindingCell) → Some b ≡ o → IfSome o P → P b

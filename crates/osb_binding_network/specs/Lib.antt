@@ -1,6 +1,7 @@
 pub mod Agreement
 pub mod Allowed
 pub mod Binding
+pub mod Happening
 pub mod Possible
 pub mod PutOff
 pub mod Related

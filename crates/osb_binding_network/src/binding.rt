@@ -1,10 +1,13 @@
 //! A binding with its credentials.
-ghost use Rattle.std.specs.Prelude.{◌≡◌, OnOk, OnErr};
+ghost use Rattle.std.specs.Prelude.{◌≡◌, false, IfOk, IsOk, OnOk, OnErr};
 ghost use Rattle.osb_network.specs.Agreement.{Agrees};
 ghost use Rattle.osb_network.specs.Cell.{IsPossible};
+ghost use Rattle.osb_network.specs.Removing.{removed_cell, removing_events, IsRemoved};
 ghost use Rattle.osb_network.specs.Settling.{settled_cell, settling_events, HasNumbers, IsPartWay, IsSettled};
+ghost use Rattle.osb_network.specs.Steps.{step_of};
 ghost use Rattle.osb_binding_network.specs.Binding as spec;
 ghost use Rattle.osb_binding_network.specs.Binding.{CredentialsAgree};
+ghost use Rattle.osb_binding_network.specs.Happening.{binding_applies, binding_takes_memory};
 ghost use Rattle.osb_binding_network.specs.Well.{IsWell};
 
 use crate::BindingEvent;
@@ -57,7 +60,10 @@ impl ServiceBinding {
     ) -> Result<Step, Memory>
         ensures cell { OnOk result (self.new
             ≡ spec.binding_step allowed.create allowed.work allowed.ended self.old event) }
+        ensures applied { IfOk result (λ s. s ≡ step_of (binding_applies
+            allowed.create allowed.work allowed.ended self.old event)) }
         ensures err { OnErr result (self.new ≡ self.old) }
+        ensures no_memory { binding_takes_memory allowed.create allowed.work self.old event ≡ false → IsOk result }
         ensures well { IsWell self.new }
     {
         self.parts.step(alloc, allowed, event)
@@ -73,6 +79,18 @@ impl ServiceBinding {
     {
         self.agreement();
         self.parts.rounds(alloc)
+    }
+
+    // Three removing rounds.
+    pub(crate) fn remove(&mut self, alloc: Global) -> Result<(), Memory>
+        ensures life { OnOk result (self.new.life ≡ removed_cell self.old.life) }
+        ensures err { OnErr result (IsPartWay removing_events self.old.life self.new.life) }
+        ensures well { IsWell self.new }
+        ensures forgotten { self.new.forgotten ≡ self.old.forgotten }
+        ensures removed { HasNumbers 3 self.old.life → OnOk result (IsRemoved self.new.life) }
+    {
+        self.agreement();
+        self.parts.removing_rounds(alloc)
     }
 
     // Its life.

@@ -1,12 +1,15 @@
 //! What there is of a binding, and one step of it.
-ghost use Rattle.std.specs.Prelude.{◌≡◌, ◌-◌, OnOk, OnErr, length, slice_get, true};
+ghost use Rattle.std.specs.Prelude.{◌≡◌, ◌-◌, ◌&&◌, IfOk, IsOk, OnOk, OnErr, None, length, slice_get, false, true};
 ghost use Rattle.osb_network.specs.declared.event.Event.{Event};
-ghost use Rattle.osb_network.specs.Settling.{after_round, operated_well, operation_events, round_events, settled_cell};
-ghost use Rattle.osb_network.specs.Settling.{settling_events, with_answer, with_arrival, with_good, work_events};
+ghost use Rattle.osb_network.specs.Removing.{after_removing_round, removed_cell, removing_events, removing_round_events};
+ghost use Rattle.osb_network.specs.Settling.{after_free, after_round, free_events, operated_well, operation_events};
+ghost use Rattle.osb_network.specs.Settling.{round_events, settled_cell, settling_events, with_answer, with_arrival};
+ghost use Rattle.osb_network.specs.Settling.{with_good, work_events};
 ghost use Rattle.osb_network.specs.Settling.{worked_well, IsPartWay};
-ghost use Rattle.osb_network.specs.Steps.{cell_step};
+ghost use Rattle.osb_network.specs.Steps.{applies, cell_step, step_of};
 ghost use Rattle.osb_network.specs.Truth as truth;
-ghost use Rattle.osb_binding_network.specs.Allowed.{needs_fetch};
+ghost use Rattle.osb_binding_network.specs.Allowed.{needs_fetch, of_binding};
+ghost use Rattle.osb_binding_network.specs.Happening as happening;
 ghost use Rattle.osb_binding_network.specs.Well.{IsWell};
 ghost use Rattle.osb_binding_network.specs.Binding as spec;
 ghost use Rattle.osb_binding_network.specs.declared.event.BindingEvent.{BindingEvent};
@@ -124,6 +127,7 @@ impl BindingParts {
     // An event of the life.
     fn live(&mut self, alloc: Global, event: Event, chosen: u64) -> Result<Step, Memory>
         ensures cell { OnOk result (self.new ≡ spec.lived self.old event chosen) }
+        ensures applied { IfOk result (λ s. s ≡ step_of (applies self.old.life event)) }
         ensures err { OnErr result (self.new ≡ self.old) }
     {
         let holding = self.life.holding();
@@ -157,7 +161,11 @@ impl BindingParts {
     ) -> Result<Step, Memory>
         ensures cell { OnOk result (self.new
             ≡ spec.binding_step allowed.create allowed.work allowed.ended self.old (BindingEvent.Life event chosen)) }
+        ensures applied { IfOk result (λ s. s ≡ step_of (happening.binding_applies
+            allowed.create allowed.work allowed.ended self.old (BindingEvent.Life event chosen))) }
         ensures err { OnErr result (self.new ≡ self.old) }
+        ensures no_memory { of_binding allowed.create allowed.work self.old.forgotten self.old.retrievable
+            self.old.life event ≡ None → IsOk result }
     {
         let let_happen = of_binding(allowed, self.forgotten, self.retrievable, &self.life, event);
         let Some(event) = let_happen else {
@@ -169,7 +177,9 @@ impl BindingParts {
     // A Fetch arrives at the broker.
     fn fetch(&mut self) -> Result<Step, Memory>
         ensures cell { OnOk result (self.new ≡ spec.fetch_arrived self.old) }
+        ensures applied { IfOk result (λ s. s ≡ step_of (spec.is_fetchable self.old.life.held)) }
         ensures err { OnErr result (self.new ≡ self.old) }
+        ensures no_memory { spec.is_fetchable self.old.life.held ≡ false → IsOk result }
     {
         if !is_fetchable(self.life.holding()) {
             return Ok(Step::Skipped);
@@ -183,7 +193,10 @@ impl BindingParts {
     // The platform takes the answer to a Poll together with that to a Fetch.
     fn take_fetched(&mut self, alloc: Global, at: usize, fetched: usize) -> Result<Step, Memory>
         ensures cell { OnOk result (self.new ≡ spec.taken_with self.old at (slice_get self.old.fetched fetched)) }
+        ensures applied { IfOk result (λ s. s ≡ step_of (happening.takes_fetched self.old at fetched
+            && applies self.old.life (Event.Take at))) }
         ensures err { OnErr result (self.new ≡ self.old) }
+        ensures no_memory { happening.takes_fetched self.old at fetched ≡ false → IsOk result }
     {
         let Some(credentials) = self.fetched.get(fetched).copied() else {
             return Ok(Step::Skipped);
@@ -199,6 +212,7 @@ impl BindingParts {
     // The broker deletes the tombstone.
     fn forget(&mut self, ended: bool) -> Step
         ensures cell { self.new ≡ spec.forgot ended self.old }
+        ensures applied { result ≡ step_of (ended && self.old.life.held.tombstone) }
     {
         if !ended || !self.life.holding().has_tombstone() {
             return Step::Skipped;
@@ -215,7 +229,11 @@ impl BindingParts {
     ) -> Result<Step, Memory>
         ensures cell { OnOk result (self.new
             ≡ spec.binding_step allowed.create allowed.work allowed.ended self.old event) }
+        ensures applied { IfOk result (λ s. s ≡ step_of (happening.binding_applies
+            allowed.create allowed.work allowed.ended self.old event)) }
         ensures err { OnErr result (self.new ≡ self.old) }
+        ensures no_memory { happening.binding_takes_memory allowed.create allowed.work self.old event ≡ false
+            → IsOk result }
     {
         match event {
             BindingEvent::Life { event, credentials } => {
@@ -321,6 +339,21 @@ impl BindingParts {
         self.lives(alloc, Event::Take { at }, 0)
     }
 
+    // What is under way ends well, and the request that is due is sent, done and answered.
+    fn go_free(&mut self, alloc: Global) -> Result<(), Memory>
+        ensures life { OnOk result (self.new.life ≡ after_free self.old.life) }
+        ensures err { OnErr result (IsPartWay free_events self.old.life self.new.life) }
+        ensures well { IsWell self.old → IsWell self.new }
+        ensures forgotten { self.new.forgotten ≡ self.old.forgotten }
+    {
+        self.work_well(alloc)?;
+        self.operate_well(alloc)?;
+        self.lives(alloc, Event::Send, 0)?;
+        self.arrive_out(alloc)?;
+        self.work_well(alloc)?;
+        self.take_latest(alloc)
+    }
+
     // A fault-free round.
     fn round(&mut self, alloc: Global) -> Result<(), Memory>
         ensures life { OnOk result (self.new.life ≡ after_round self.old.life) }
@@ -329,12 +362,19 @@ impl BindingParts {
         ensures forgotten { self.new.forgotten ≡ self.old.forgotten }
     {
         self.lives(alloc, Event::Timeout, 0)?;
-        self.work_well(alloc)?;
-        self.operate_well(alloc)?;
-        self.lives(alloc, Event::Send, 0)?;
-        self.arrive_out(alloc)?;
-        self.work_well(alloc)?;
-        self.take_latest(alloc)
+        self.go_free(alloc)
+    }
+
+    // A fault-free round in which the binding is removed if it may be.
+    fn removing_round(&mut self, alloc: Global) -> Result<(), Memory>
+        ensures life { OnOk result (self.new.life ≡ after_removing_round self.old.life) }
+        ensures err { OnErr result (IsPartWay removing_round_events self.old.life self.new.life) }
+        ensures well { IsWell self.old → IsWell self.new }
+        ensures forgotten { self.new.forgotten ≡ self.old.forgotten }
+    {
+        self.lives(alloc, Event::Timeout, 0)?;
+        self.lives(alloc, Event::Remove, 0)?;
+        self.go_free(alloc)
     }
 
     // Three fault-free rounds.
@@ -347,6 +387,19 @@ impl BindingParts {
         self.round(alloc)?;
         self.round(alloc)?;
         self.round(alloc)?;
+        Ok(())
+    }
+
+    // Three removing rounds.
+    pub(crate) fn removing_rounds(&mut self, alloc: Global) -> Result<(), Memory>
+        ensures life { OnOk result (self.new.life ≡ removed_cell self.old.life) }
+        ensures err { OnErr result (IsPartWay removing_events self.old.life self.new.life) }
+        ensures well { IsWell self.old → IsWell self.new }
+        ensures forgotten { self.new.forgotten ≡ self.old.forgotten }
+    {
+        self.removing_round(alloc)?;
+        self.removing_round(alloc)?;
+        self.removing_round(alloc)?;
         Ok(())
     }
 }

@@ -1,16 +1,21 @@
 //! An instance and its bindings.
-ghost use Rattle.std.specs.Prelude.{◌≡◌, ◌≢◌, ℕ, true, false, None, Some, Ok, IfOk, IfSome, IsSome, OnOk, OnErr, option_copied, option_map};
+ghost use Rattle.std.specs.Prelude.{◌≡◌, ◌≢◌, ℕ, true, false, None, Some, Ok, IfOk, IfSome, IsOk, IsSome, OnOk, OnErr};
+ghost use Rattle.std.specs.Prelude.{is_none, option_copied, option_map};
 ghost use Rattle.std.specs.BTreeMap as tree;
 ghost use Rattle.std.specs.FinMap as finite;
 ghost use Rattle.std.specs.Ordering.{nat_cmp};
 ghost use Rattle.osb_network.specs.Cell.{IsPossible, empty_cell};
+ghost use Rattle.osb_network.specs.Removing.{removed_cell, removing_events, twice_removed_cell, IsRemoved};
 ghost use Rattle.osb_network.specs.Settling.{settled_cell, settling_events, HasNumbers, IsPartWay, IsSettled};
+ghost use Rattle.osb_network.specs.Steps.{step_of};
 ghost use Rattle.osb_network.specs.declared.step.Step.{Step};
-ghost use Rattle.osb_binding_network.specs.Settled.{SettlesAt};
+ghost use Rattle.osb_binding_network.specs.declared.event.ServiceEvent.{ServiceEvent};
+ghost use Rattle.osb_binding_network.specs.Settled.{RemovesAt, SettlesAt};
 ghost use Rattle.osb_binding_network.specs.Agreement.{BindingAgrees, ServiceAgrees};
 ghost use Rattle.osb_binding_network.specs.Allowed as allowed;
 ghost use Rattle.osb_binding_network.specs.Binding.{binding_step, empty_binding};
-ghost use Rattle.osb_binding_network.specs.Service.{binding_after, binding_by, every, instance_after, instance_by};
+ghost use Rattle.osb_binding_network.specs.Happening as happening;
+ghost use Rattle.osb_binding_network.specs.Service.{binding_after, binding_by, each_of, every, instance_after, instance_by};
 ghost use Rattle.osb_binding_network.specs.Service.{life_order};
 ghost use Rattle.osb_binding_network.specs.Well.{IsWell};
 
@@ -88,6 +93,10 @@ fn step_at(
     ensures here { OnOk result (tree.get nat_cmp bindings.new id
         ≡ option_map (λ b. binding_step allowed.create allowed.work allowed.ended b event)
         (tree.get nat_cmp bindings.old id)) }
+    ensures applied { IfOk result (λ s. s ≡ step_of (happening.some_applies
+        allowed.create allowed.work allowed.ended (tree.get nat_cmp bindings.old id) event)) }
+    ensures no_memory { happening.some_takes_memory allowed.create allowed.work
+        (tree.get nat_cmp bindings.old id) event ≡ false → IsOk result }
     ensures others { (other : ℕ) → other ≢ id
         → tree.get nat_cmp bindings.new other ≡ tree.get nat_cmp bindings.old other }
     ensures err { OnErr result (tree.get nat_cmp bindings.new id ≡ tree.get nat_cmp bindings.old id) }
@@ -114,6 +123,23 @@ fn settle_life(instance: &mut Instance, alloc: Global) -> Result<Step, Memory>
     }
 }
 
+// Removes the instance by itself.
+fn remove_life(instance: &mut Instance, alloc: Global) -> Result<Step, Memory>
+    ensures instance { OnOk result (instance.new ≡ removed_cell instance.old) }
+    ensures err { OnErr result (IsPartWay removing_events instance.old instance.new) }
+    ensures removed { HasNumbers 3 instance.old → OnOk result (IsRemoved instance.new) }
+    ensures settled { IsSettled instance.old → HasNumbers 2 instance.old → IsRemoved (twice_removed_cell instance.old) }
+    ensures possible { IsPossible instance.new }
+{
+    instance.agreement();
+    let removed = instance.remove(alloc);
+    instance.agreement();
+    match removed {
+        Ok(()) => Ok(Step::Applied),
+        Err(fault) => Err(fault),
+    }
+}
+
 // Settles the binding at a key, if there is one.
 fn settle_at(
     bindings: &mut BTreeMap<BindingId, ServiceBinding>,
@@ -129,6 +155,24 @@ fn settle_at(
         return Ok(Step::Skipped);
     };
     binding.settle(alloc)?;
+    Ok(Step::Applied)
+}
+
+// Removes the binding at a key, if there is one.
+fn remove_at(
+    bindings: &mut BTreeMap<BindingId, ServiceBinding>,
+    alloc: Global,
+    id: BindingId,
+) -> Result<Step, Memory>
+    ensures here { RemovesAt result (tree.get nat_cmp bindings.old id) (tree.get nat_cmp bindings.new id) }
+    ensures others { (other : ℕ) → other ≢ id
+        → tree.get nat_cmp bindings.new other ≡ tree.get nat_cmp bindings.old other }
+    ensures well { IfSome (tree.get nat_cmp bindings.new id) IsWell }
+{
+    let Some(binding) = bindings.get_mut(&id) else {
+        return Ok(Step::Skipped);
+    };
+    binding.remove(alloc)?;
     Ok(Step::Applied)
 }
 
@@ -173,16 +217,20 @@ impl ServiceInstance {
         let _ = &self.instance;
     }
 
-    /// Lets an event happen, as the rules let it.
+    /// Lets an event happen, as the rules let it: [`Step::Applied`] exactly if it applies, and else [`Step::Skipped`].
     ///
     /// # Errors
     ///
-    /// [`Memory`] if an allocation failed. The instance and all bindings are then as before.
+    /// [`Memory`] if an allocation failed. Only these ask for memory: what [`Instance::step`] asks for at an event of the
+    /// instance, an order that applies, an event of a binding's life that the rules let happen, and a Fetch and a taken
+    /// Fetch that apply. The instance and all bindings are then as before.
     pub fn step(&mut self, alloc: Global, event: ServiceEvent) -> Result<Step, Memory>
         ensures rules { self.new.rules ≡ self.old.rules }
         ensures instance { OnOk result (self.new.instance ≡ instance_by self.old event) }
         ensures bindings { OnOk result ((id : ℕ) →
             finite.get self.new.bindings id ≡ binding_by self.old event id) }
+        ensures applied { IfOk result (λ s. s ≡ step_of (happening.service_applies self.old event)) }
+        ensures no_memory { happening.service_takes_memory self.old event ≡ false → IsOk result }
         ensures err { OnErr result ((self.new.instance ≡ self.old.instance)
             × ((id : ℕ) → finite.get self.new.bindings id ≡ finite.get self.old.bindings id)) }
         ensures agrees { ServiceAgrees self.new }
@@ -255,6 +303,75 @@ impl ServiceInstance {
         settled
     }
 
+    /// Ends the instance, as it ends where an operator wants it deleted and nothing goes wrong any more: three rounds, in
+    /// each of which it is removed if it may be, as at [`Instance::remove`]. If a binding is recorded and isn't `gone`, or
+    /// the platform doesn't keep its rules, nothing happens: [`Step::Skipped`].
+    ///
+    /// The platform records the instance `gone` then, or nothing as before. That needs three numbers for requests; an
+    /// instance that was settled is `gone` after two of the rounds. So five rounds end an instance with its bindings,
+    /// whatever state they are in: three in which the instance is settled and each binding removed, and two of these.
+    ///
+    /// # Errors
+    ///
+    /// [`Memory`] if an allocation failed. The first few of the events of three rounds have happened then. Remove the
+    /// instance again to go on from there.
+    pub fn remove(&mut self, alloc: Global) -> Result<Step, Memory>
+        ensures rules { self.new.rules ≡ self.old.rules }
+        ensures bindings { self.new.bindings ≡ self.old.bindings }
+        ensures skipped { self.old.rules.platform ≡ false
+            → (result ≡ Ok Step.Skipped) × (self.new.instance ≡ self.old.instance) }
+        ensures bound { each_of (λ b. allowed.may_remove self.old.rules b) self.old.bindings ≡ false
+            → (result ≡ Ok Step.Skipped) × (self.new.instance ≡ self.old.instance) }
+        ensures instance { self.old.rules.platform ≡ true
+            → each_of (λ b. allowed.may_remove self.old.rules b) self.old.bindings ≡ true
+            → OnOk result (self.new.instance ≡ removed_cell self.old.instance) }
+        ensures err { OnErr result (IsPartWay removing_events self.old.instance self.new.instance) }
+        ensures removed { self.old.rules.platform ≡ true
+            → each_of (λ b. allowed.may_remove self.old.rules b) self.old.bindings ≡ true
+            → HasNumbers 3 self.old.instance → OnOk result (IsRemoved self.new.instance) }
+        ensures agrees { ServiceAgrees self.new }
+    {
+        if !self.rules.platform {
+            self.agreement();
+            return Ok(Step::Skipped);
+        }
+        let may_remove = all_may_remove(self.rules, &self.bindings);
+        if !may_remove {
+            self.agreement();
+            return Ok(Step::Skipped);
+        }
+        let removed = remove_life(&mut self.instance, alloc);
+        self.agreement();
+        removed
+    }
+
+    /// Ends the binding with the id: three rounds of the binding, in each of which it is removed if it may be, as at
+    /// [`ServiceInstance::remove`]. If there is no binding with the id, or the platform doesn't keep its rules, nothing
+    /// happens: [`Step::Skipped`].
+    ///
+    /// # Errors
+    ///
+    /// As at [`ServiceInstance::remove`].
+    pub fn remove_binding(&mut self, alloc: Global, id: BindingId) -> Result<Step, Memory>
+        ensures rules { self.new.rules ≡ self.old.rules }
+        ensures instance { self.new.instance ≡ self.old.instance }
+        ensures others { (other : ℕ) → other ≢ id
+            → finite.get self.new.bindings other ≡ finite.get self.old.bindings other }
+        ensures skipped { self.old.rules.platform ≡ false → (result ≡ Ok Step.Skipped)
+            × (finite.get self.new.bindings id ≡ finite.get self.old.bindings id) }
+        ensures here { self.old.rules.platform ≡ true → RemovesAt result
+            (finite.get self.old.bindings id) (finite.get self.new.bindings id) }
+        ensures agrees { ServiceAgrees self.new }
+    {
+        if !self.rules.platform {
+            self.agreement();
+            return Ok(Step::Skipped);
+        }
+        let removed = remove_at(&mut self.bindings, alloc, id);
+        self.agreement();
+        removed
+    }
+
     // Takes a binding in to which nothing has happened yet. If there is one with the id, nothing changes.
     fn order(&mut self, alloc: Global, order: BindingOrder) -> Result<Step, Memory>
         ensures rules { self.new.rules ≡ self.old.rules }
@@ -266,6 +383,8 @@ impl ServiceInstance {
             → finite.get self.new.bindings order.id ≡ finite.get self.old.bindings order.id }
         ensures others { (other : ℕ) → other ≢ order.id
             → finite.get self.new.bindings other ≡ finite.get self.old.bindings other }
+        ensures applied { IfOk result (λ s. s ≡ step_of (is_none (finite.get self.old.bindings order.id))) }
+        ensures no_memory { is_none (finite.get self.old.bindings order.id) ≡ false → IsOk result }
         ensures err { OnErr result (finite.get self.new.bindings order.id ≡ finite.get self.old.bindings order.id) }
     {
         if self.bindings.get(&order.id).is_some() {
@@ -287,6 +406,10 @@ impl ServiceInstance {
         ensures instance { OnOk result (self.new.instance ≡ instance_after self.old event) }
         ensures rules { self.new.rules ≡ self.old.rules }
         ensures bindings { self.new.bindings ≡ self.old.bindings }
+        ensures applied { IfOk result (λ s. s ≡ step_of (happening.applies_if self.old.instance
+            (happening.let_instance self.old event))) }
+        ensures no_memory { happening.takes_memory_if self.old.instance (happening.let_instance self.old event) ≡ false
+            → IsOk result }
         ensures err { OnErr result (self.new.instance ≡ self.old.instance) }
     {
         self.instance.agreement();
@@ -311,6 +434,10 @@ impl ServiceInstance {
             → finite.get self.new.bindings other ≡ finite.get self.old.bindings other }
         ensures rules { self.new.rules ≡ self.old.rules }
         ensures instance { self.new.instance ≡ self.old.instance }
+        ensures applied { IfOk result (λ s. s ≡ step_of (happening.service_applies self.old
+            (ServiceEvent.Binding id event))) }
+        ensures no_memory { happening.service_takes_memory self.old (ServiceEvent.Binding id event) ≡ false
+            → IsOk result }
         ensures err { OnErr result (finite.get self.new.bindings id ≡ finite.get self.old.bindings id) }
     {
         let allowed = Allowed {

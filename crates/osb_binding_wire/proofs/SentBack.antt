@@ -20,7 +20,7 @@ use Rattle.osb_wire.proofs.Paths.{segment_back}
 use Rattle.osb_wire.proofs.RequestsBack.{parameters, asked, within, same_request}
 use Rattle.osb_wire.proofs.TargetsBack.{path_back, query_back, parameters_back, operation_back}
 use Rattle.osb_binding_wire.specs.Asking.{binding_request, request_of, asked_of, fetch_of}
-use Rattle.osb_binding_wire.specs.Binds.{bind_in}
+use Rattle.osb_binding_wire.specs.Binds.{Names}
 use Rattle.osb_binding_wire.specs.Names.{Texts, life_texts, AreTextsOf}
 use Rattle.osb_binding_wire.specs.Places.{wanted_at, place_by, place_in, instance_text, binding_text}
 use Rattle.osb_binding_wire.specs.Refusals.{as_refused}
@@ -30,10 +30,6 @@ use Rattle.osb_binding_wire.specs.declared.asked.BindingAsked.{BindingAsked}
 use Rattle.osb_binding_wire.specs.declared.place.Place.{Place}
 use Rattle.osb_binding_wire.specs.declared.place.Wanted.{Wanted}
 use Rattle.osb_binding_wire.proofs.PathsBack.{no_mark_in_path, instance_back, binding_back, place_back}
-
--- a body names this service and this plan, where it is a Bind's
-abbrev pub Names : Kind → List ℕ → ℕ → ℕ → Type 0
-Names kind body service plan = kind ≡ Provision → bind_in body ≡ Ok (service, plan)
 
 life : (kind : Kind) (id s p : ℕ) (service plan : List ℕ) (flag : Bool) (operation : Option (List ℕ)) (body : List ℕ)
     → number_of service ≡ Some s → number_of plan ≡ Some p → Names kind body s p

@@ -1,5 +1,5 @@
 -- The body of a Bind (section Binding).
-use Rattle.std.specs.Prelude.{◌≢◌, ◌≤◌, ℕ, List, codes, Option, Some, None, Result, Ok, Err}
+use Rattle.std.specs.Prelude.{◌≡◌, ◌≢◌, ◌≤◌, ℕ, List, codes, Option, Some, None, Result, Ok, Err}
 use Rattle.serde_json.specs.Data.{Data, string, object, Members, put, depth}
 use Rattle.serde_json.specs.Read.{max_depth}
 use Rattle.osb_message.specs.declared.messages.Kind.{Kind}
@@ -23,6 +23,10 @@ named_if (Some d) = named_in d
 -- what the body of a Bind names, or its first fault
 abbrev pub bind_in : List ℕ → Result (ℕ × ℕ) Refusal
 bind_in body = named_if (object_in body)
+
+-- a body names this service and this plan, where it is a Bind's
+abbrev pub Names : Kind → List ℕ → ℕ → ℕ → Type 0
+Names kind body service plan = kind ≡ Provision → bind_in body ≡ Ok (service, plan)
 
 -- the members of a body: those of the caller, and ours in place of any of the same names
 abbrev pub members_with : List ℕ → List ℕ → Members → Members

@@ -64,8 +64,8 @@ pub fn requires_app(alloc: Global, needs_app: bool, body: &[u8]) -> Result<bool,
 }
 
 /// The body of the answer to a Bind that lacks the application that its plan needs: an object with the error
-/// `RequiresApp` and a description (section Service Broker Errors). A platform takes it for a rejection of the Bind. It
-/// takes no memory.
+/// `RequiresApp` and a description (section Service Broker Errors). This project's platform records `unsettled`, as of
+/// every other 422 to a Bind. It takes no memory.
 pub fn requires_app_body() -> &'static str
     ensures text { result.now ≡ compact_text apps.requires_app_value }
     ensures reads { object_in result.now ≡ Some apps.requires_app_value }

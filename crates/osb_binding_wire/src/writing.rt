@@ -5,7 +5,9 @@ ghost use Rattle.serde_json.specs.Data.{object, depth};
 ghost use Rattle.serde_json.specs.Find.{get, get_member};
 ghost use Rattle.serde_json.specs.Read.{read, max_depth};
 ghost use Rattle.serde_json.specs.View.{members_view};
+ghost use Rattle.osb_json.specs.Members.{text_at};
 ghost use Rattle.osb_message.specs.declared.messages.Kind.TheVariants as Kind;
+ghost use Rattle.osb_wire.specs.Bodies.{object_in};
 ghost use Rattle.osb_wire.specs.IdTexts.{number_of};
 ghost use Rattle.osb_wire.specs.Paths as paths;
 ghost use Rattle.osb_wire.specs.Targets as targets;
@@ -109,8 +111,65 @@ fn is_poll(kind: Kind) -> bool
     }
 }
 
-// The body of a request.
-fn write_binding_body(
+/// The target of a Bind, an Unbind or a Poll of a binding's last operation: the path, and the query where it has one.
+///
+/// The prefix, the texts and the operation are as those of [`write_request`](osb_wire::write_request).
+/// [`read_binding_request`](crate::read_binding_request) gives the request and the texts back from it and from
+/// [`method_of`](osb_wire::method_of) its kind, whatever the body of a Bind is that names its service and its plan, as
+/// [`write_binding_body`] writes one. [`asked_operation`](osb_wire::asked_operation) gives the operation back. Sections
+/// Binding, Unbinding and Polling Last Operation for Service Bindings.
+///
+/// # Errors
+///
+/// Those of [`write_binding_request`]. The same call may be made again.
+pub fn write_binding_target(
+    alloc: Global,
+    prefix: &str,
+    request: &BindingRequest,
+    names: &BindingNames,
+    operation: Option<&str>,
+) -> Result<String, BindingNameFault>
+    ensures target { IfOk result (λ text. string_bytes text ≡ written.target_with prefix.now request.now
+        (naming.texts_of names.now) (option_map (λ text. text.now) operation.entry)) }
+    ensures named { OnOk result (naming.AreTextsOf request.now (naming.texts_of names.now)) }
+    ensures back { (longest : ℕ) (body : List ℕ) → All (λ b. b ≢ 63) prefix.now → length body ≤ longest
+        → binds.Names request.now.kind body request.now.service request.now.plan
+        → IfOk result (λ text. requests.request_in prefix.now longest (targets.method_of request.now.kind)
+        (string_bytes text) body ≡ Ok (asking.asked_of request.now)) }
+    ensures instance { All (λ b. b ≢ 63) prefix.now → IfOk result (λ text.
+        requests.instance_text_in prefix.now (string_bytes text) ≡ Some names.now.instance.now) }
+    ensures binding { All (λ b. b ≢ 63) prefix.now → IfOk result (λ text.
+        requests.binding_text_in prefix.now (string_bytes text) ≡ Some names.now.binding.now) }
+    ensures operation { All (λ b. b ≢ 63) prefix.now → IfOk result (λ text.
+        targets.operation_asked (string_bytes text)
+        ≡ Ok (option_map (λ text. text.now) operation.entry)) }
+
+    ensures rejected { (fault : BindingNameFault)
+        → naming.names_judged request.now (naming.texts_of names.now) ≡ Err fault → result ≡ Err fault }
+    ensures err { IfErr result (λ fault. (fault ≡ BindingNameFault.Memory)
+        ⊎ (naming.names_judged request.now (naming.texts_of names.now) ≡ Err fault)) }
+{
+    match judge_names(request, names) {
+        Ok(()) => {}
+        Err(fault) => return Err(fault),
+    }
+    let life = request.as_request();
+    let of_last_operation = is_poll(request.kind);
+    match target_of(alloc, prefix, &life, of_last_operation, names, operation) {
+        Ok(target) => Ok(target),
+        Err(Memory) => Err(BindingNameFault::Memory),
+    }
+}
+
+/// The body of a request of the kind. It is, of a Bind, an object of `service_id`, `plan_id` and the further members,
+/// as `bind_resource`, `parameters`, `context` or `predecessor_binding_id`, of which none stands in the place of those
+/// two; else it is empty, and the further members are passed over. The texts of the instance and of the binding count
+/// for nothing. [`write_binding_target`] says whether the others are the request's (section Binding).
+///
+/// # Errors
+///
+/// [`Memory`] where an allocation failed. The further members are gone then too.
+pub fn write_binding_body(
     alloc: Global,
     kind: Kind,
     names: &BindingNames,
@@ -121,6 +180,10 @@ fn write_binding_body(
         → number_of names.now.plan.now ≡ Some p
         → depth (object (members_view further.entries)) ≤ max_depth
         → IfOk result (λ text. binds.bind_in (string_bytes text) ≡ Ok (s, p)) }
+    ensures texts { kind ≡ Kind.Provision
+        → depth (object (members_view further.entries)) ≤ max_depth → IfOk result (λ text.
+        (option_and_then (text_at (codes "service_id")) (object_in (string_bytes text)) ≡ Some names.now.service.now)
+        × (option_and_then (text_at (codes "plan_id")) (object_in (string_bytes text)) ≡ Some names.now.plan.now)) }
     ensures object { kind ≡ Kind.Provision
         → depth (object (members_view further.entries)) ≤ max_depth
         → IfOk result (λ text. read (string_bytes text) ≡ Some (object (binds.members_with
@@ -138,20 +201,20 @@ fn write_binding_body(
 
 /// The method, the target and the body of a Bind, an Unbind or a Poll of a binding's last operation.
 ///
-/// The prefix, the texts and the operation are as those of [`write_request`](osb_wire::write_request). A Bind has a body:
-/// an object of `service_id`, `plan_id` and the further members, as `bind_resource`, `parameters`, `context` or
-/// `predecessor_binding_id`, of which none stands in the place of those two. In the other two kinds the body is empty, and
-/// the further members are passed over.
+/// The prefix, the texts and the operation are as those of [`write_request`](osb_wire::write_request). A Bind has a
+/// body: an object of `service_id`, `plan_id` and the further members, as `bind_resource`, `parameters`, `context` or
+/// `predecessor_binding_id`, of which none stands in the place of those two. In the other two kinds the body is empty,
+/// and the further members are passed over.
 ///
 /// [`read_binding_request`](crate::read_binding_request) with the same prefix gives this request and these texts back,
-/// where the further members as an object nest at most 127 deep. Deeper ones are written, and rejected by the broker that
-/// reads them. Sections Binding, Unbinding and Polling Last Operation for Service Bindings.
+/// where the further members as an object nest at most 127 deep. Deeper ones are written, and rejected by the broker
+/// that reads them. Sections Binding, Unbinding and Polling Last Operation for Service Bindings.
 ///
 /// # Errors
 ///
 /// [`BindingNameFault::BadInstance`], [`BindingNameFault::BadBinding`], [`BindingNameFault::BadService`] or
-/// [`BindingNameFault::BadPlan`], the first that fits, for a text that isn't the request's, whatever memory there is; else
-/// [`BindingNameFault::Memory`] where an allocation failed. The further members are gone then too.
+/// [`BindingNameFault::BadPlan`], the first that fits, for a text that isn't the request's, whatever memory there is;
+/// else [`BindingNameFault::Memory`] where an allocation failed. The further members are gone then too.
 pub fn write_binding_request(
     alloc: Global,
     prefix: &str,
@@ -193,14 +256,9 @@ pub fn write_binding_request(
     ensures err { IfErr result (λ fault. (fault ≡ BindingNameFault.Memory)
         ⊎ (naming.names_judged request.now (naming.texts_of names.now) ≡ Err fault)) }
 {
-    match judge_names(request, names) {
-        Ok(()) => {}
+    let target = match write_binding_target(alloc, prefix, request, names, operation) {
+        Ok(target) => target,
         Err(fault) => return Err(fault),
-    }
-    let life = request.as_request();
-    let of_last_operation = is_poll(request.kind);
-    let Ok(target) = target_of(alloc, prefix, &life, of_last_operation, names, operation) else {
-        return Err(BindingNameFault::Memory);
     };
     let Ok(body) = write_binding_body(alloc, request.kind, names, further) else {
         return Err(BindingNameFault::Memory);
@@ -213,9 +271,9 @@ pub fn write_binding_request(
 }
 
 /// The method, the target and the body of a Fetch of a request's binding, with its service and its plan in the query
-/// (section Fetching a Service Binding). The kind of the request and `accepts_incomplete` are passed over. The prefix and
-/// the texts are as those of [`write_binding_request`], and [`read_binding_request`](crate::read_binding_request) with
-/// the same prefix gives the ids back.
+/// (section Fetching a Service Binding). The kind of the request and `accepts_incomplete` are passed over. The prefix
+/// and the texts are as those of [`write_binding_request`], and [`read_binding_request`](crate::read_binding_request)
+/// with the same prefix gives the ids back.
 ///
 /// # Errors
 ///
@@ -234,6 +292,10 @@ pub fn write_fetch(
     ensures back { (longest : ℕ) → All (λ b. b ≢ 63) prefix.now
         → IfOk result (λ sent. requests.request_in prefix.now longest sent.method.now (string_bytes sent.target)
         (string_bytes sent.body) ≡ Ok (asking.fetch_of request.now)) }
+    ensures instance { All (λ b. b ≢ 63) prefix.now → IfOk result (λ sent.
+        requests.instance_text_in prefix.now (string_bytes sent.target) ≡ Some names.now.instance.now) }
+    ensures binding { All (λ b. b ≢ 63) prefix.now → IfOk result (λ sent.
+        requests.binding_text_in prefix.now (string_bytes sent.target) ≡ Some names.now.binding.now) }
     ensures rejected { (fault : BindingNameFault)
         → naming.names_judged request.now (naming.texts_of names.now) ≡ Err fault → result ≡ Err fault }
     ensures err { IfErr result (λ fault. (fault ≡ BindingNameFault.Memory)
