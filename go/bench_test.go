@@ -9,7 +9,8 @@ import (
 // How long each call takes from Go: go test -bench . -run none.
 func Benchmark(b *testing.B) {
 	s := newSteps(b)
-	for _, step := range append(append(s.ofRecords(), s.ofHoldings()...), s.ofTheWire()...) {
+	steps := append(append(s.ofRecords(), s.ofHoldings()...), append(s.ofTheWire(), s.ofBindings()...)...)
+	for _, step := range steps {
 		b.Run(step.name, func(b *testing.B) { repeat(b, step.call) })
 	}
 }
@@ -144,6 +145,30 @@ func (s steps) ofTheWire() []step {
 		{"AsksForCatalogue", func() error { osb.AsksForCatalogue("", "/v2/catalog"); return nil }},
 		{"PlanVersion", func() error { return second(osb.PlanVersion([]byte(sold), hashed("a0"), hashed("b1"))) }},
 		{"MaintenanceConflict", func() error { return osb.MaintenanceConflict(&version, []byte(provisionBody)) }},
+	}
+}
+
+func (s steps) ofBindings() []step {
+	of, asked, object := hashed(boundNames.Instance), namedBind(osb.KindProvision), []byte(`{"credentials":{}}`)
+	return []step{
+		{"WriteBindingTarget", func() error { return second(osb.WriteBindingTarget("", asked, of, boundNames, nil)) }},
+		{"WriteFetchTarget", func() error { return second(osb.WriteFetchTarget("", asked, of, boundNames)) }},
+		{"WriteBindingBody", func() error {
+			return second(osb.WriteBindingBody(osb.KindProvision, boundNames, []byte("{}")))
+		}},
+		{"ReadBindingRequest", func() error {
+			return second(osb.ReadBindingRequest("", 1000, "PUT", boundPath, []byte(bindBody)))
+		}},
+		{"ReceiveBindingRequest", func() error {
+			return second(osb.ReceiveBindingRequest("", 1000, "PUT", boundPath, []byte(bindBody)))
+		}},
+		{"BindingRefusalBody", func() error { return second(osb.BindingRefusalBody(osb.ErrRefusedBinding)) }},
+		{"RequiresApp", func() error { return osb.RequiresApp(true, []byte(bindBody)) }},
+		{"CheckBinding", func() error { return osb.CheckBinding(object) }},
+		{"ReadBinding", func() error { return second(osb.ReadBinding(osb.KindProvision, 201, object)) }},
+		{"ReadFetched", func() error { return second(osb.ReadFetched(200, object)) }},
+		{"BindingModes", func() error { return second(osb.BindingModes([]byte(sold))) }},
+		{"BindingsRetrievable", func() error { return second(osb.BindingsRetrievable([]byte(sold), hashed("a0"))) }},
 	}
 }
 

@@ -6,7 +6,8 @@ import "C"
 // A platform keeps a Record of each binding, and a broker keeps a Holding, beside those of the instance. A Bind is a
 // KindProvision, an Unbind a KindDeprovision, and the Poll of a binding's last operation a KindPoll. The ID of a request
 // is the binding's, and the mode is that of binding at the plan. Every call serves for bindings too, but Create, Answer
-// and Begin have CreateBinding, AnswerBinding and BeginBinding in their place.
+// and Begin have CreateBinding, AnswerBinding and BeginBinding in their place. A binding's text is BindingText's:
+// MarshalJSON, UnmarshalJSON, Value and Scan write and read an instance's.
 
 // CreateBinding is a new binding of the instance that r is the record of: wanted, with the instance's service and plan,
 // and its Bind, which is then in flight with the number 1. Read r, locked, in the transaction that writes the binding's
@@ -30,7 +31,8 @@ func (r Record) CreateBinding(binding ID, acceptsIncomplete bool) (Record, Sent,
 // (retrievable is false), a 202 to a Bind is cleaned up: its credentials could never be had.
 //
 // If a Poll says succeeded in polling, send a Fetch first. Call AnswerBinding once the Fetch was answered 200 with an
-// object, and otherwise Timeout for the Poll.
+// object, and otherwise Timeout for the Poll. A platform writes the credentials in the transaction in which the record
+// becomes ready, and forgets them once it leaves ready.
 //
 // Errors: ErrBadRecord, ErrNotInFlight.
 func (r Record) AnswerBinding(attempt uint64, answer Answer, retrievable bool) (Record, error) {
@@ -45,6 +47,9 @@ func (r Record) AnswerBinding(attempt uint64, answer Answer, retrievable bool) (
 //     nothing changes.
 //   - If the instance has a tombstone, and nothing is kept of the binding, nothing changes: every Bind is answered with
 //     503, and an Unbind with 410. So the tombstones of bindings may be deleted once their instance has one.
+//
+// If the holding changed, write it to the database before the work begins or the answer is sent. A broker stores the
+// credentials beside the holding, in the transaction in which the row becomes ready, and never again.
 //
 // Errors: ErrBadHolding, ErrBadMode, ErrBadKind.
 func (h Holding) BeginBinding(instance Holding, mode Mode, request Request, rules Rules) (Holding, Begun, error) {
@@ -65,4 +70,48 @@ func (h Holding) Fetch() (Answer, error) {
 		return Answer{}, err
 	}
 	return answerOf(answer), nil
+}
+
+// BindingText is the text of a binding's record, an object of JSON, for a column of a database: that of MarshalJSON,
+// with a version of its own.
+//
+// Errors: ErrBadRecord, ErrMemory.
+func (r Record) BindingText() ([]byte, error) {
+	record := r.c()
+	return written(func(buffer *C.uint8_t, bytes C.size_t, needed *C.size_t) C.uint32_t {
+		return C.osb_binding_record_to_text(&record, buffer, bytes, needed)
+	})
+}
+
+// BindingRecordFromText reads the text of a binding's record.
+//
+// Errors: those of Record.UnmarshalJSON.
+func BindingRecordFromText(text []byte) (Record, error) {
+	var record C.struct_osb_record
+	if err := done(C.osb_binding_record_from_text(pointer(text), size(text), &record)); err != nil {
+		return Record{}, err
+	}
+	return recordOf(record), nil
+}
+
+// BindingText is the text of a binding's holding, an object of JSON, for a column of a database: that of MarshalJSON,
+// with a version of its own.
+//
+// Errors: ErrBadHolding, ErrMemory.
+func (h Holding) BindingText() ([]byte, error) {
+	holding := h.c()
+	return written(func(buffer *C.uint8_t, bytes C.size_t, needed *C.size_t) C.uint32_t {
+		return C.osb_binding_holding_to_text(&holding, buffer, bytes, needed)
+	})
+}
+
+// BindingHoldingFromText reads the text of a binding's holding.
+//
+// Errors: those of Holding.UnmarshalJSON.
+func BindingHoldingFromText(text []byte) (Holding, error) {
+	var holding C.struct_osb_holding
+	if err := done(C.osb_binding_holding_from_text(pointer(text), size(text), &holding)); err != nil {
+		return Holding{}, err
+	}
+	return holdingOf(holding), nil
 }

@@ -178,3 +178,34 @@ func TestBindingIsHeld(t *testing.T) {
 		t.Error(found, err)
 	}
 }
+
+// The text of a binding's holding of which nothing is kept, from docs/binding.md.
+const emptyBindingText = `{"attributes":"0000000000000000000000000000000000000000000000000000000000000000",` +
+	`"row":null,"tombstone":false,"version":1,"work":null}`
+
+// A binding's record and holding come back from their texts, whose versions are their own.
+func TestBindingTexts(t *testing.T) {
+	record, _, err := readyRecord(t).CreateBinding(boundID, true)
+	if err != nil {
+		t.Fatal(err)
+	}
+	text, err := record.BindingText()
+	if back, fault := osb.BindingRecordFromText(text); err != nil || fault != nil || back != record {
+		t.Errorf("%s: %v, %v, %v", text, back, err, fault)
+	}
+	text, err = osb.Holding{}.BindingText()
+	if back, fault := osb.BindingHoldingFromText(text); err != nil || string(text) != emptyBindingText || fault != nil || back != (osb.Holding{}) {
+		t.Errorf("%s: %v, %v, %v", text, back, err, fault)
+	}
+	of, err := osb.Holding{}.MarshalJSON()
+	if _, fault := osb.BindingHoldingFromText(of); err != nil || !errors.Is(fault, osb.ErrBadVersion) {
+		t.Error(err, fault)
+	}
+	var held osb.Holding
+	if fault := held.UnmarshalJSON(text); !errors.Is(fault, osb.ErrBadOuter) {
+		t.Error(fault)
+	}
+	if _, err := (osb.Record{}).BindingText(); !errors.Is(err, osb.ErrBadRecord) {
+		t.Error(err)
+	}
+}

@@ -16,15 +16,19 @@ type Plan struct {
 // Errors: ErrNotJSON, ErrNoServices, the first of ErrBadService, ErrNoPlans, ErrBadPlan, ErrBadPlanMode and
 // ErrPlanTwice in the document's order, and ErrMemory.
 func CataloguePlans(document []byte) ([]Plan, error) {
+	return plansRead(func(places *C.struct_osb_plan, count C.size_t, needed *C.size_t) C.uint32_t {
+		return C.osb_catalogue_plans(pointer(document), size(document), places, count, needed)
+	})
+}
+
+// plansRead gives the plans that a call reads: it calls again with more places where there were too few.
+func plansRead(read func(places *C.struct_osb_plan, count C.size_t, needed *C.size_t) C.uint32_t) ([]Plan, error) {
 	places := make([]C.struct_osb_plan, 32)
 	var needed C.size_t
-	read := func() C.uint32_t {
-		return C.osb_catalogue_plans(pointer(document), size(document), &places[0], C.size_t(len(places)), &needed)
-	}
-	status := read()
+	status := read(&places[0], C.size_t(len(places)), &needed)
 	if status == C.OSB_TOO_SMALL {
 		places = make([]C.struct_osb_plan, needed)
-		status = read()
+		status = read(&places[0], C.size_t(len(places)), &needed)
 	}
 	if err := done(status); err != nil {
 		return nil, err

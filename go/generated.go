@@ -148,6 +148,16 @@ const (
 	ErrNotReady Status = C.OSB_NOT_READY
 	// A binding of the instance isn't gone, so the instance isn't removed.
 	ErrBound Status = C.OSB_BOUND
+	// Refused with 400: the binding's id isn't UTF-8 of 1 to 255 bytes, or no path can carry it.
+	ErrRefusedBinding Status = C.OSB_REFUSED_BINDING
+	// Refused with 422: the Bind names no application, and its plan needs one.
+	ErrRefusedApp Status = C.OSB_REFUSED_APP
+	// The text isn't that of the request's binding, or no path can carry it.
+	ErrNotBindingText Status = C.OSB_NOT_BINDING_TEXT
+	// The response has no object of the binding.
+	ErrNoBinding Status = C.OSB_NO_BINDING
+	// A plan binds asynchronously, and its service isn't bindings_retrievable.
+	ErrNotRetrievable Status = C.OSB_NOT_RETRIEVABLE
 )
 
 var meanings = map[Status]string{
@@ -221,6 +231,11 @@ var meanings = map[Status]string{
 	ErrSameNumber:               "two ids of the document have one number",
 	ErrNotReady:                 "the instance isn't recorded ready, so no binding of it is created",
 	ErrBound:                    "a binding of the instance isn't gone, so the instance isn't removed",
+	ErrRefusedBinding:           "refused with 400: the binding's id isn't UTF-8 of 1 to 255 bytes, or no path can carry it",
+	ErrRefusedApp:               "refused with 422: the Bind names no application, and its plan needs one",
+	ErrNotBindingText:           "the text isn't that of the request's binding, or no path can carry it",
+	ErrNoBinding:                "the response has no object of the binding",
+	ErrNotRetrievable:           "a plan binds asynchronously, and its service isn't bindings_retrievable",
 }
 
 // A Kind is what a request asks for.
@@ -494,5 +509,12 @@ func askedOf(from C.struct_osb_asked) (it Asked) {
 	it.ID = idOf(from.id)
 	it.Service = idOf(from.service)
 	it.Plan = idOf(from.plan)
+	return it
+}
+
+func bindingAskedOf(from C.struct_osb_binding_asked) (it BindingAsked) {
+	it.IsFetch = bool(from.is_fetch)
+	it.Instance = idOf(from.instance)
+	it.Asked = askedOf(from.asked)
 	return it
 }

@@ -51,7 +51,7 @@ uint32_t osb_version(void);
  *      If several of them fit, the call returns the first. But if an allocation failed, OSB_MEMORY may come in place of
  *      every status that the text or the list itself decides: OSB_PLAN_TWICE, OSB_TOO_SMALL, OSB_NOT_JSON to
  *      OSB_BAD_MEMBER, OSB_IMPOSSIBLE, OSB_NO_ANSWER, OSB_NO_OPERATION, OSB_UNAUTHORIZED, OSB_REFUSED_REPEATED to
- *      OSB_BAD_PLAN_MODE, OSB_NO_MEMBER to OSB_SAME_NUMBER. */
+ *      OSB_BAD_PLAN_MODE, OSB_NO_MEMBER to OSB_SAME_NUMBER, OSB_REFUSED_APP, OSB_NO_BINDING and OSB_NOT_RETRIEVABLE. */
 
 enum osb_status {
     OSB_DONE = 0,                        /* it was done */
@@ -124,7 +124,12 @@ enum osb_status {
     OSB_BINDINGS_UNSERVED = 74,          /* fetching a binding isn't served, and bindings_retrievable is true */
     OSB_SAME_NUMBER = 75,                /* two ids of the document have one number */
     OSB_NOT_READY = 76,                  /* the instance isn't recorded ready, so no binding of it is created */
-    OSB_BOUND = 77                       /* a binding of the instance isn't gone, so the instance isn't removed */
+    OSB_BOUND = 77,                      /* a binding of the instance isn't gone, so the instance isn't removed */
+    OSB_REFUSED_BINDING = 78,            /* refused with 400: the binding's id isn't UTF-8 of 1 to 255 bytes, or no path can carry it */
+    OSB_REFUSED_APP = 79,                /* refused with 422: the Bind names no application, and its plan needs one */
+    OSB_NOT_BINDING_TEXT = 80,           /* the text isn't that of the request's binding, or no path can carry it */
+    OSB_NO_BINDING = 81,                 /* the response has no object of the binding */
+    OSB_NOT_RETRIEVABLE = 82             /* a plan binds asynchronously, and its service isn't bindings_retrievable */
 };
 
 /* ---- Ids. The id of an instance, a service or a plan is any text of 1 to 255 bytes of UTF-8, and the calls know it by
@@ -432,8 +437,8 @@ uint32_t osb_holding_from_text(const uint8_t *text, size_t length, struct osb_ho
  *      binding's, which is used once and never again. A Bind is an OSB_KIND_PROVISION, an Unbind an
  *      OSB_KIND_DEPROVISION, and the Poll of a binding's last operation an OSB_KIND_POLL. The id of a request is the
  *      binding's, and the mode is that of binding at the plan: OSB_MODE_NONE if the plan isn't bindable. Every call on
- *      a record or a holding serves for a binding too, but osb_record_create, osb_record_answer and osb_holding_begin
- *      have those below in their place.
+ *      a record or a holding serves for a binding too, but osb_record_create, osb_record_answer, osb_holding_begin and
+ *      the four calls with texts have those below in their place.
  *
  *      Credentials stand in a column of their own. Write them in the transaction in which the row or the record becomes
  *      ready, and never again.
@@ -456,9 +461,30 @@ uint32_t osb_binding_create(const struct osb_record *instance, struct osb_id bin
  * (retrievable is false), a 202 to a Bind is cleaned up: its credentials could never be had.
  *
  * If a Poll says succeeded in polling, send a Fetch first. Call this once the Fetch was answered 200 with an object,
- * and otherwise osb_record_timeout for the Poll.
+ * and otherwise osb_record_timeout for the Poll. A platform writes the credentials in the transaction in which the
+ * record becomes ready, and forgets them once it leaves ready.
  * OSB_DONE, OSB_BAD_RECORD, OSB_NOT_IN_FLIGHT. */
 uint32_t osb_binding_answer(struct osb_record *record, uint64_t attempt, struct osb_answer answer, bool retrievable);
+
+/* Writes the text of a binding's record, for a column of a database: that of osb_record_to_text, with a version of its
+ * own (docs/binding.md).
+ * OSB_DONE, OSB_BAD_RECORD, OSB_TOO_SMALL, OSB_MEMORY. */
+uint32_t osb_binding_record_to_text(const struct osb_record *record, uint8_t *buffer, size_t bytes, size_t *needed);
+
+/* Reads the text of a binding's record. What osb_binding_record_to_text wrote gives OSB_DONE or OSB_MEMORY.
+ * OSB_DONE, OSB_NOT_UTF8, OSB_NOT_JSON, OSB_NOT_AN_OBJECT, OSB_BAD_VERSION, OSB_BAD_OUTER, OSB_BAD_MEMBER,
+ * OSB_IMPOSSIBLE, OSB_MEMORY. */
+uint32_t osb_binding_record_from_text(const uint8_t *text, size_t length, struct osb_record *record);
+
+/* Writes the text of a binding's holding, for a column of a database: that of osb_holding_to_text, with a version of
+ * its own (docs/binding.md).
+ * OSB_DONE, OSB_BAD_HOLDING, OSB_TOO_SMALL, OSB_MEMORY. */
+uint32_t osb_binding_holding_to_text(const struct osb_holding *holding, uint8_t *buffer, size_t bytes, size_t *needed);
+
+/* Reads the text of a binding's holding. What osb_binding_holding_to_text wrote gives OSB_DONE or OSB_MEMORY.
+ * OSB_DONE, OSB_NOT_UTF8, OSB_NOT_JSON, OSB_NOT_AN_OBJECT, OSB_BAD_VERSION, OSB_BAD_OUTER, OSB_BAD_MEMBER,
+ * OSB_IMPOSSIBLE, OSB_MEMORY. */
+uint32_t osb_binding_holding_from_text(const uint8_t *text, size_t length, struct osb_holding *holding);
 
 /* Begins with a request to this binding, as osb_holding_begin does for an instance, with two differences. `instance` is
  * the holding of the binding's instance, read and locked in the transaction that writes this one.
@@ -468,7 +494,8 @@ uint32_t osb_binding_answer(struct osb_record *record, uint64_t attempt, struct 
  *   - If the instance has a tombstone, and nothing is kept of the binding, nothing changes: every Bind is answered with
  *     503, and an Unbind with 410. So the tombstones of bindings may be deleted once their instance has one.
  *
- * If the holding changed, it is written to the database before the work begins or the answer is sent.
+ * If the holding changed, it is written to the database before the work begins or the answer is sent. A broker stores
+ * the credentials beside the holding, in the transaction in which the row becomes ready, and never again.
  * OSB_DONE, OSB_BAD_HOLDING (holding or instance), OSB_BAD_MODE, OSB_BAD_KIND. */
 uint32_t osb_binding_begin(struct osb_holding *holding, const struct osb_holding *instance, uint8_t mode,
                            bool first_poll, const struct osb_request *request, const uint8_t attributes[32],
@@ -715,6 +742,115 @@ uint32_t osb_plan_version(const uint8_t *document, size_t length, struct osb_id 
  * OSB_DONE, OSB_NOT_UTF8 (a version that counts), OSB_REFUSED_MAINTENANCE, OSB_MEMORY. */
 uint32_t osb_maintenance_conflict(bool has_version, const uint8_t *version, size_t version_length, const uint8_t *body,
                                   size_t body_length);
+
+/* ---- Requests and answers of service bindings as HTTP and JSON have them (docs/binding.md). These calls serve for
+ *      bindings too: osb_write_method (a Fetch has the method of a Poll), osb_read_answer for a Bind, an Unbind and a
+ *      Poll, osb_read_operation, osb_asked_request, osb_asked_operation, osb_write_answer and osb_member_text. */
+
+/* What a request asks of a binding. A Bind is an OSB_KIND_PROVISION, an Unbind an OSB_KIND_DEPROVISION. A Fetch has the
+ * kind OSB_KIND_POLL, and may lack its service and its plan as a Poll may. Unless is_fetch is true, osb_asked_request
+ * makes of `asked` the request for osb_binding_begin. */
+struct osb_binding_asked {
+    bool is_fetch;          /* whether it is a Fetch, which asks for the binding itself */
+    struct osb_id instance;
+    struct osb_asked asked; /* the request, under the binding's id */
+};
+
+/* Reads what a request asks of a binding, as osb_read_request does of an instance: a Bind, an Unbind, a Poll of a
+ * binding's last operation, or a Fetch.
+ * OSB_DONE, OSB_NOT_UTF8 (prefix or method), OSB_REFUSED_TARGET, OSB_REFUSED_METHOD, OSB_REFUSED_INSTANCE,
+ * OSB_REFUSED_BINDING, OSB_REFUSED_LENGTH, and the first of OSB_REFUSED_REPEATED to OSB_REFUSED_BODY in the order of
+ * docs/binding.md, OSB_MEMORY. */
+uint32_t osb_read_binding_request(const uint8_t *prefix, size_t prefix_length, size_t longest_body,
+                                  const uint8_t *method, size_t method_length, const uint8_t *target,
+                                  size_t target_length, const uint8_t *body, size_t body_length,
+                                  struct osb_binding_asked *asked);
+
+/* The texts of a request of a binding, which stand in a buffer one after the other: those of the ids and of the parts
+ * of a Bind's body, in this order. A text that isn't there has the length 0. */
+struct osb_binding_received {
+    bool has_service, has_plan;                          /* only a Poll and a Fetch may lack them */
+    bool has_bind_resource, has_parameters, has_context; /* whether the body of a Bind has them */
+    bool has_predecessor_binding_id;                     /* whether the body of a Bind has it */
+    size_t instance, binding, service, plan;             /* the length of the text of each id */
+    size_t bind_resource, parameters, context;           /* the length of each part */
+    size_t predecessor_binding_id;                       /* the length of this part, with its quotes */
+};
+
+/* Reads what a request asks of a binding as osb_read_binding_request does, with the texts of its ids and the parts of a
+ * Bind's body: bind_resource, parameters, context and predecessor_binding_id. A part is JSON with no spaces, numbers as
+ * they are written, and members in their order. The texts go to the buffer one after the other, in the order of struct
+ * osb_binding_received, and the length of all to *needed.
+ * OSB_DONE, OSB_NOT_UTF8 (prefix or method), OSB_REFUSED_TARGET, OSB_REFUSED_METHOD, OSB_REFUSED_INSTANCE,
+ * OSB_REFUSED_BINDING, OSB_REFUSED_LENGTH, and the first of OSB_REFUSED_REPEATED to OSB_REFUSED_BODY in the order of
+ * docs/binding.md, OSB_TOO_SMALL, OSB_MEMORY. */
+uint32_t osb_receive_binding_request(const uint8_t *prefix, size_t prefix_length, size_t longest_body,
+                                     const uint8_t *method, size_t method_length, const uint8_t *target,
+                                     size_t target_length, const uint8_t *body, size_t body_length,
+                                     struct osb_binding_asked *asked, struct osb_binding_received *received,
+                                     uint8_t *buffer, size_t bytes, size_t *needed);
+
+/* The HTTP status of a refusal of a request of a binding, OSB_REFUSED_TARGET to OSB_REFUSED_SPACE, OSB_REFUSED_BINDING
+ * and OSB_REFUSED_APP, and 503 of OSB_MEMORY; 0 of every other number. */
+uint16_t osb_binding_refusal_status(uint32_t refusal);
+
+/* Writes the body of a refusal of a request of a binding. It takes no memory, so that want of it can be told.
+ * OSB_DONE, OSB_NOT_REFUSED, OSB_TOO_SMALL. */
+uint32_t osb_binding_refusal_body(uint32_t refusal, uint8_t *buffer, size_t bytes, size_t *needed);
+
+/* Judges whether the body of a Bind lacks the application that its plan needs: a string app_guid that isn't empty, of
+ * bind_resource or of the body itself. If so, osb_binding_refusal_status and osb_binding_refusal_body give the answer
+ * (sections Binding and Service Broker Errors).
+ * OSB_DONE, OSB_REFUSED_APP, OSB_MEMORY. */
+uint32_t osb_requires_app(bool needs_app, const uint8_t *body, size_t length);
+
+/* Writes the target of a request of a binding with the texts of its ids, escaped as a path and a query need it. The
+ * request's id is the binding's. Each text must be that of the request's id, or of instance_id, so no other binding is
+ * asked for. With is_fetch it is the target of a Fetch of the request's binding, whose kind, accepts_incomplete and
+ * operation count for nothing. The rest is as in osb_write_target.
+ * OSB_DONE, OSB_NOT_UTF8 (prefix, any text, or an operation that counts), OSB_BAD_KIND, OSB_NOT_INSTANCE_TEXT,
+ * OSB_NOT_BINDING_TEXT, OSB_NOT_SERVICE_TEXT, OSB_NOT_PLAN_TEXT, OSB_TOO_SMALL, OSB_MEMORY. */
+uint32_t osb_write_binding_target(const uint8_t *prefix, size_t prefix_length, const struct osb_request *request,
+                                  struct osb_id instance_id, const uint8_t *instance, size_t instance_length,
+                                  const uint8_t *binding, size_t binding_length, const uint8_t *service,
+                                  size_t service_length, const uint8_t *plan, size_t plan_length, bool is_fetch,
+                                  bool has_operation, const uint8_t *operation, size_t operation_length,
+                                  uint8_t *buffer, size_t bytes, size_t *needed);
+
+/* Writes the body of a request of a binding: of a Bind an object of the texts of the service and the plan, and the
+ * members of `further`, the text of an object ({} for none), as bind_resource, parameters, context or
+ * predecessor_binding_id; else an empty text. osb_write_binding_target says whether the texts are the request's.
+ * OSB_DONE, OSB_NOT_UTF8 (any text), OSB_BAD_KIND, OSB_NOT_JSON (further), OSB_NOT_AN_OBJECT (further), OSB_TOO_SMALL,
+ * OSB_MEMORY. */
+uint32_t osb_write_binding_body(uint8_t kind, const uint8_t *service, size_t service_length, const uint8_t *plan,
+                                size_t plan_length, const uint8_t *further, size_t further_length, uint8_t *buffer,
+                                size_t bytes, size_t *needed);
+
+/* Judges the object of a binding, with its credentials, that a broker has stored. If it is done, the text as it stands
+ * is the body of a 200 or a 201 to a Bind, and of a 200 to a Fetch.
+ * OSB_DONE, OSB_NOT_AN_OBJECT, OSB_MEMORY. */
+uint32_t osb_write_binding(const uint8_t *object, size_t length);
+
+/* Judges whether a response has the object of the binding. If it is done, that is the whole body as it stands: of a 200
+ * or a 201 to a Bind, or of a 200 to a Fetch. The kind is that of the request, and counts if is_fetch is false. What
+ * stands in the object isn't judged.
+ * OSB_DONE, OSB_BAD_KIND (unless is_fetch), OSB_NO_BINDING, OSB_MEMORY. */
+uint32_t osb_read_binding(bool is_fetch, uint8_t kind, uint16_t status, const uint8_t *body, size_t length);
+
+/* Reads how the plans that a catalogue's document names bind, as osb_catalogue_plans reads how they work. A plan that
+ * isn't bindable is left out. A plan binds asynchronously if its own `x-osb-asynchronous-bindings` is true, or else
+ * that of its service; the service must then be bindings_retrievable. A plan's own `bindable` counts before that of its
+ * service.
+ * OSB_DONE, OSB_NOT_JSON, OSB_NO_SERVICES, and the first of OSB_BAD_SERVICE, OSB_NO_PLANS, OSB_BAD_PLAN,
+ * OSB_PLAN_TWICE, OSB_NOT_A_BOOLEAN and OSB_NOT_RETRIEVABLE in the document's order, OSB_TOO_SMALL (*needed is then
+ * written, and the places are as before), OSB_MEMORY. */
+uint32_t osb_binding_modes(const uint8_t *document, size_t length, struct osb_plan *plans, size_t places,
+                           size_t *needed);
+
+/* Writes to *retrievable whether a catalogue's document says by bindings_retrievable of a service that its bindings can
+ * be fetched: false if the service isn't in it, or doesn't say so. osb_binding_answer asks for it.
+ * OSB_DONE, OSB_MEMORY; *retrievable is then as before. */
+uint32_t osb_bindings_retrievable(const uint8_t *document, size_t length, struct osb_id service, bool *retrievable);
 
 #ifdef __cplusplus
 }

@@ -30,8 +30,8 @@ crates_of() {
     case $1 in
         replay) echo osb_replay ;;
         # Each is a static library of its own, so that they are proved side by side. osb_c_binding stands on
-        # osb_c_instance, which is then a library too.
-        library) echo osb_c,osb_c_instance,osb_c_binding,osb_c_wire ;;
+        # osb_c_instance, and osb_c_binding_wire on osb_c_wire, which are then libraries too.
+        library) echo osb_c,osb_c_instance,osb_c_binding,osb_c_wire,osb_c_binding_wire ;;
     esac
 }
 

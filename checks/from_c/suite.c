@@ -72,6 +72,9 @@ static struct out {
     struct osb_asked asked;
     struct osb_details details;
     struct osb_received received;
+    struct osb_binding_asked binding_asked;
+    struct osb_binding_received binding_received;
+    bool retrievable;
     struct osb_plan plans[3];
 } out, before;
 
@@ -153,6 +156,12 @@ static const struct osb_request deprovision = {OSB_KIND_DEPROVISION, true, {0, 1
 /* A Poll of "a database", a "small" one of "postgres". The numbers are the first 128 bits that sha256sum prints. */
 static const struct osb_request named = {OSB_KIND_POLL, true,
     {UINT64_C(0xe152d5ae22936201), UINT64_C(0xab8402b3f72750be)},
+    {UINT64_C(0xa942b37ccfaf5a81), UINT64_C(0x3b1432caa209a43b)},
+    {UINT64_C(0x81db8ebbbbc69c6c), UINT64_C(0x6ad4a6aa92b76e0c)}};
+
+/* A Poll of "a binding" of it. */
+static const struct osb_request named_binding = {OSB_KIND_POLL, true,
+    {UINT64_C(0x743583a8842e5e6b), UINT64_C(0xdec013275fbcafd3)},
     {UINT64_C(0xa942b37ccfaf5a81), UINT64_C(0x3b1432caa209a43b)},
     {UINT64_C(0x81db8ebbbbc69c6c), UINT64_C(0x6ad4a6aa92b76e0c)}};
 
@@ -365,6 +374,29 @@ static void call_binding_records(void)
     CALL(OSB_BAD_RECORD, osb_binding_create(&instance, binding, true, &out.record, &out.request));
 }
 
+static void call_binding_texts(void)
+{
+    /* The longest text of a record, and the text of a holding of nothing. */
+    static const char recorded[] = "{\"attempt\":18446744073709551615,\"out\":\"deprovision\",\"plan\":\"" PLAN
+                                   "\",\"service\":\"" SERVICE "\",\"state\":\"cleaning\",\"version\":1}";
+    static const char held[] = "{\"attributes\":\"0000000000000000000000000000000000000000000000000000000000000000\","
+                               "\"row\":null,\"tombstone\":false,\"version\":1,\"work\":null}";
+    static const struct osb_holding nothing;
+    struct osb_record record = {{0, 0xa0}, {0, 0xb1}, UINT64_MAX, OSB_STATE_CLEANING, OSB_KIND_DEPROVISION};
+    CALL(OSB_DONE, osb_binding_record_to_text(&record, INTO));
+    THEN(is_text(recorded));
+    CALL(OSB_TOO_SMALL, osb_binding_record_to_text(&record, out.text, 100, &out.needed));
+    THEN(out.needed == strlen(recorded));
+    CALL(OSB_DONE, osb_binding_record_from_text(TEXT(recorded), &out.record));
+    THEN(is_recorded(UINT64_MAX, OSB_STATE_CLEANING, OSB_KIND_DEPROVISION));
+    CALL(OSB_DONE, osb_binding_holding_to_text(&nothing, INTO));
+    THEN(is_text(held));
+    CALL(OSB_DONE, osb_binding_holding_from_text(TEXT(held), &out.holding));
+    THEN(!out.holding.has_row && !out.holding.has_work && !out.holding.has_tombstone);
+    CALL(OSB_DONE, osb_holding_to_text(&nothing, INTO));
+    CALL(OSB_BAD_VERSION, osb_binding_holding_from_text(out.text, out.needed, &out.holding));
+}
+
 static void call_binding_holdings(void)
 {
     static const struct osb_holding nothing;
@@ -449,6 +481,94 @@ static void call_named(void)
     THEN(is_text(body));
     CALL(OSB_NOT_AN_OBJECT, osb_write_named_body(OSB_KIND_PROVISION, TEXT("postgres"), TEXT("small"), TEXT("o"),
                                                  TEXT("s"), TEXT("[]"), INTO));
+}
+
+/* ---- The wire of bindings (docs/binding.md). */
+
+#define OF_THE_BINDING "/v2/service_instances/a%20database/service_bindings/a%20binding"
+#define OF_POSTGRES "?service_id=postgres&plan_id=small"
+
+/* The texts of its requests. */
+#define NAMED TEXT("a database"), TEXT("a binding"), TEXT("postgres"), TEXT("small")
+
+static void call_binding_requests(void)
+{
+    static const char body[] = "{\"bind_resource\":{},\"plan_id\":\"small\",\"service_id\":\"postgres\"}";
+    CALL(OSB_DONE, osb_write_binding_target(TEXT("/a"), &named_binding, named.id, NAMED, false, true, TEXT("making 1"),
+                                            INTO));
+    THEN(is_text("/a" OF_THE_BINDING "/last_operation" OF_POSTGRES "&accepts_incomplete=true&operation=making+1"));
+    CALL(OSB_DONE, osb_write_binding_target(TEXT(""), &named_binding, named.id, NAMED, true, false, TEXT(""), INTO));
+    THEN(is_text(OF_THE_BINDING OF_POSTGRES));
+    CALL(OSB_NOT_INSTANCE_TEXT, osb_write_binding_target(TEXT(""), &named_binding, named_binding.id, NAMED, false,
+                                                         false, TEXT(""), INTO));
+    CALL(OSB_NOT_BINDING_TEXT, osb_write_binding_target(TEXT(""), &named, named.id, NAMED, true, false, TEXT(""),
+                                                        INTO));
+    CALL(OSB_DONE, osb_write_binding_body(OSB_KIND_PROVISION, TEXT("postgres"), TEXT("small"),
+                                          TEXT("{\"bind_resource\":{}}"), INTO));
+    THEN(is_text(body));
+    CALL(OSB_NOT_JSON, osb_write_binding_body(OSB_KIND_PROVISION, TEXT("postgres"), TEXT("small"), TEXT(""), INTO));
+    CALL(OSB_BAD_KIND, osb_write_binding_body(3, TEXT("postgres"), TEXT("small"), TEXT("{}"), INTO));
+
+    CALL(OSB_DONE, osb_read_binding_request(TEXT(""), 500, TEXT("GET"), TEXT(OF_THE_BINDING OF_POSTGRES), TEXT(""),
+                                            &out.binding_asked));
+    THEN(out.binding_asked.is_fetch && is_same_id(out.binding_asked.instance, named.id));
+    THEN(out.binding_asked.asked.kind == OSB_KIND_POLL && is_same_id(out.binding_asked.asked.id, named_binding.id));
+    THEN(out.binding_asked.asked.has_plan && is_same_id(out.binding_asked.asked.plan, named.plan));
+    CALL(OSB_REFUSED_BINDING, osb_read_binding_request(TEXT(""), 500, TEXT("GET"),
+                                                       TEXT("/v2/service_instances/i/service_bindings/%2E%2E"),
+                                                       TEXT(""), &out.binding_asked));
+    CALL(OSB_DONE, osb_receive_binding_request(TEXT(""), 500, TEXT("PUT"), TEXT(OF_THE_BINDING), TEXT(body),
+                                               &out.binding_asked, &out.binding_received, INTO));
+    THEN(is_text("a databasea bindingpostgressmall{}") && !out.binding_asked.is_fetch);
+    THEN(out.binding_asked.asked.kind == OSB_KIND_PROVISION && !out.binding_asked.asked.accepts_incomplete);
+    THEN(out.binding_received.instance == 10 && out.binding_received.binding == 9);
+    THEN(out.binding_received.has_service && out.binding_received.service == 8);
+    THEN(out.binding_received.has_plan && out.binding_received.plan == 5);
+    THEN(out.binding_received.has_bind_resource && out.binding_received.bind_resource == 2);
+    THEN(!out.binding_received.has_parameters && out.binding_received.parameters == 0);
+    CALL(OSB_TOO_SMALL, osb_receive_binding_request(TEXT(""), 500, TEXT("PUT"), TEXT(OF_THE_BINDING), TEXT(body),
+                                                    &out.binding_asked, &out.binding_received, out.text, 33,
+                                                    &out.needed));
+    THEN(out.needed == 34);
+    CALL(OSB_REFUSED_LENGTH, osb_receive_binding_request(TEXT(""), 5, TEXT("PUT"), TEXT(OF_THE_BINDING), TEXT(body),
+                                                         &out.binding_asked, &out.binding_received, INTO));
+}
+
+static void call_binding_answers(void)
+{
+    static const char object[] = "{\"credentials\": {\"password\": \"secret\"}}";
+    CALL(OSB_DONE, osb_write_binding(TEXT(object)));
+    CALL(OSB_NOT_AN_OBJECT, osb_write_binding(TEXT("[]")));
+    CALL(OSB_DONE, osb_read_binding(false, OSB_KIND_PROVISION, 201, TEXT(object)));
+    CALL(OSB_DONE, osb_read_binding(true, OSB_KIND_NONE, 200, TEXT(object)));
+    CALL(OSB_NO_BINDING, osb_read_binding(true, OSB_KIND_NONE, 201, TEXT(object)));
+    CALL(OSB_NO_BINDING, osb_read_binding(false, OSB_KIND_PROVISION, 202, TEXT(object)));
+    CALL(OSB_BAD_KIND, osb_read_binding(false, OSB_KIND_NONE, 200, TEXT(object)));
+    CALL(400, osb_binding_refusal_status(OSB_REFUSED_BINDING));
+    CALL(422, osb_binding_refusal_status(OSB_REFUSED_APP));
+    CALL(0, osb_binding_refusal_status(OSB_REFUSED_MAINTENANCE));
+    CALL(OSB_DONE, osb_binding_refusal_body(OSB_REFUSED_APP, INTO));
+    THEN(ends_with("\"error\":\"RequiresApp\"}"));
+    CALL(OSB_NOT_REFUSED, osb_binding_refusal_body(OSB_BUSY, INTO));
+    CALL(OSB_DONE, osb_requires_app(true, TEXT("{\"bind_resource\":{\"app_guid\":\"an app\"}}")));
+    CALL(OSB_REFUSED_APP, osb_requires_app(true, TEXT("{\"bind_resource\":{\"app_guid\":\"\"}}")));
+    CALL(OSB_DONE, osb_requires_app(false, TEXT("{}")));
+}
+
+static void call_binding_catalogue(void)
+{
+    static const char catalogue[] =
+        "{\"services\":[{\"id\":\"postgres\",\"bindable\":true,\"bindings_retrievable\":true,\"plans\":["
+        "{\"id\":\"small\"},{\"id\":\"large\",\"bindable\":false}]}]}";
+    CALL(OSB_DONE, osb_binding_modes(TEXT(catalogue), out.plans, 3, &out.needed));
+    THEN(out.needed == 1 && is_same_id(out.plans[0].plan, named.plan) && !out.plans[0].is_asynchronous);
+    CALL(OSB_TOO_SMALL, osb_binding_modes(TEXT(catalogue), out.plans, 0, &out.needed));
+    THEN(out.needed == 1);
+    CALL(OSB_NO_SERVICES, osb_binding_modes(TEXT("{}"), out.plans, 3, &out.needed));
+    CALL(OSB_DONE, osb_bindings_retrievable(TEXT(catalogue), named.service, &out.retrievable));
+    THEN(out.retrievable);
+    CALL(OSB_DONE, osb_bindings_retrievable(TEXT(catalogue), named.plan, &out.retrievable));
+    THEN(!out.retrievable);
 }
 
 static void call_details(void)
@@ -628,8 +748,12 @@ int main(void)
     call_holding_texts();
     call_binding_records();
     call_binding_holdings();
+    call_binding_texts();
     call_platform_wire();
     call_named();
+    call_binding_requests();
+    call_binding_answers();
+    call_binding_catalogue();
     call_details();
     call_requests();
     call_received();

@@ -5,7 +5,7 @@ import re
 from pathlib import Path
 
 TOP = Path(__file__).resolve().parents[2]
-CRATES = ("osb_c_types", "osb_c", "osb_c_instance", "osb_c_binding", "osb_c_wire")
+CRATES = ("osb_c_types", "osb_c", "osb_c_instance", "osb_c_binding", "osb_c_wire", "osb_c_binding_wire")
 
 # How the names of an enum's numbers begin in C, if not with the name of the enum.
 FRONTS = {

@@ -107,6 +107,18 @@ class Holdings(unittest.TestCase):
         self.assertEqual(put_off, (INSTANCE, Answer(422, Body.CONCURRENCY_ERROR)))
         self.assertEqual(INSTANCE.begin_if(Mode.SYNC, asked, may_begin=True), INSTANCE.begin(Mode.SYNC, asked))
 
+    def test_texts(self) -> None:
+        """A binding's record and holding come back from their texts, whose versions are their own."""
+        made, _ = READY.create_binding(TWO, True)
+        self.assertEqual(Record.from_binding_text(made.to_binding_text()), made)
+        text = Holding.NONE.to_binding_text()
+        # As docs/binding.md has it.
+        none = f'{{"attributes":"{"0" * 64}","row":null,"tombstone":false,"version":1,"work":null}}'
+        self.assertEqual(text, none)
+        self.assertEqual(Holding.from_binding_text(none), Holding.NONE)
+        self.assertEqual(status_of(lambda: Holding.from_binding_text(Holding.NONE.to_text())), Status.BAD_VERSION)
+        self.assertEqual(status_of(lambda: Holding.from_text(none)), Status.BAD_OUTER)
+
     def test_is_held(self) -> None:
         """A holding that no call gives counts as held, and isn't there."""
         begun, _ = Holding.NONE.begin_binding(INSTANCE, Mode.SYNC, bind())

@@ -22,3 +22,4 @@ mod works;
 pub use broker_rows::OsbBrokerRow;
 pub use holdings::{OsbBegun, OsbHolding, begun_out, held_from, held_out};
 pub use records::{OsbRecord, recorded_from, recorded_out};
+pub use texts::fault_status;

@@ -17,8 +17,8 @@ use osb_c_types::{Status, write_text};
 use osb_instance::{Holding, Record, TextFault};
 use std::alloc::Global;
 
-// Why a text names no record, or no holding.
-fn fault_status(fault: TextFault) -> Status
+/// Why a text names no record, or no holding, as a status.
+pub fn fault_status(fault: TextFault) -> Status
     ensures status { result ≡ text_status fault }
 {
     match fault {
@@ -144,8 +144,8 @@ pub extern "C" fn osb_holding_to_text(
 /// Reads the text of a holding, in any spacing. What [`osb_holding_to_text`] wrote gives `Done` or `Memory`.
 ///
 /// It returns `Done`, or the first of these that fits: `NotUtf8` where the bytes aren't UTF-8, `NotJson` where the text
-/// has no reading as JSON, `NotAnObject` where the value isn't an object, `BadVersion` where `version` isn't 1 written
-/// as an integer, `BadOuter` where the members aren't those of a holding, `BadMember` where one of them isn't as it is
+/// has no reading as JSON, `NotAnObject` where the value isn't an object, `BadVersion` where `version` is neither 1 nor 2
+/// written as an integer, `BadOuter` where the members aren't those of a holding, `BadMember` where one of them isn't as it is
 /// written, `Impossible` where together they can't come about; or, in place of `Done` or of any of these but
 /// `NotUtf8`, `Memory` where an allocation failed. Where it isn't `Done`, the holding is as before.
 #[unsafe(no_mangle)]

@@ -20,6 +20,8 @@ use Rattle.osb_c_types.specs.declared.status.Status.TheVariants.{NoPlanVersion, 
 use Rattle.osb_c_types.specs.declared.status.Status.TheVariants.{NoDescription, NotABoolean, NoBindable, NoPlan}
 use Rattle.osb_c_types.specs.declared.status.Status.TheVariants.{BindableUnserved, UpdateUnserved, InstancesUnserved}
 use Rattle.osb_c_types.specs.declared.status.Status.TheVariants.{BindingsUnserved, SameNumber, NotReady, Bound}
+use Rattle.osb_c_types.specs.declared.status.Status.TheVariants.{RefusedBinding, RefusedApp, NotBindingText, NoBinding}
+use Rattle.osb_c_types.specs.declared.status.Status.TheVariants.{NotRetrievable}
 
 abbrev pub code : Status → ℕ
 code Done = 0
@@ -93,6 +95,11 @@ code BindingsUnserved = 74
 code SameNumber = 75
 code NotReady = 76
 code Bound = 77
+code RefusedBinding = 78
+code RefusedApp = 79
+code NotBindingText = 80
+code NoBinding = 81
+code NotRetrievable = 82
 
 -- whether a number is one of those of the statuses
 abbrev pub is_one_of : List Status → ℕ → Bool

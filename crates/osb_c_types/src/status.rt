@@ -149,6 +149,16 @@ pub enum Status {
     NotReady,
     /// A binding of the instance isn't `gone`, so the instance isn't removed.
     Bound,
+    /// Refused with 400: the id of the binding isn't UTF-8 of 1 to 255 bytes, or is `.` or `..`.
+    RefusedBinding,
+    /// Refused with 422: the Bind names no application, and its plan needs one.
+    RefusedApp,
+    /// The text isn't that of the request's binding, or no path can carry it.
+    NotBindingText,
+    /// The response doesn't have the binding's object.
+    NoBinding,
+    /// A plan binds asynchronously, and its service isn't `bindings_retrievable`.
+    NotRetrievable,
 }
 
 impl Status {
@@ -228,6 +238,11 @@ impl Status {
             Status::SameNumber => 75,
             Status::NotReady => 76,
             Status::Bound => 77,
+            Status::RefusedBinding => 78,
+            Status::RefusedApp => 79,
+            Status::NotBindingText => 80,
+            Status::NoBinding => 81,
+            Status::NotRetrievable => 82,
         }
     }
 }

@@ -10,11 +10,11 @@ use Rattle.osb_wire.specs.Provisions.{Names, IsFurther}
 use Rattle.osb_wire.specs.Requests.{request_in}
 use Rattle.osb_wire.specs.Targets.{method_of}
 
-pub as_crossed : (Is : List ℕ → List ℕ → Request → Type 0) (text given made written : List ℕ) (r : Request)
-    (crossed : Option Request) → text ≡ given → written ≡ made → Some r ≡ crossed → Is text made r
+pub as_crossed : {R : Type 0} (Is : List ℕ → List ℕ → R → Type 0) (text given made written : List ℕ) (r : R)
+    (crossed : Option R) → text ≡ given → written ≡ made → Some r ≡ crossed → Is text made r
     → IsSomeAnd crossed (Is given written)
 as_crossed Is text given made written r crossed same done is known =
-    subst (λ (o : Option Request). IsSomeAnd o (Is given written)) is
+    subst (λ o. IsSomeAnd o (Is given written)) is
     (subst (λ (t : List ℕ). Is t written r) same (subst (λ (t : List ℕ). Is text t r) (sym done) known))
 
 -- a target is read as the request, after a prefix
@@ -30,12 +30,12 @@ IsKept further body r =
     → option_and_then (get name) (read body) ≡ option_and_then (get name) (read further)
 
 -- and where the kind alone crosses
-pub kept_in : (kind : Kind) (crossed : Option Kind) (text given made written : List ℕ) → text ≡ given → written ≡ made
-    → Some kind ≡ crossed
-    → (kind ≡ Provision → (name : List ℕ) → IsFurther name
+pub kept_in : (Is : List ℕ → Type 0) (kind : Kind) (crossed : Option Kind) (text given made written : List ℕ)
+    → text ≡ given → written ≡ made → Some kind ≡ crossed
+    → (kind ≡ Provision → (name : List ℕ) → Is name
     → option_and_then (get name) (read made) ≡ option_and_then (get name) (read text))
-    → crossed ≡ Some Provision → (name : List ℕ) → IsFurther name
+    → crossed ≡ Some Provision → (name : List ℕ) → Is name
     → option_and_then (get name) (read written) ≡ option_and_then (get name) (read given)
-kept_in kind crossed text given made written same done is known provision name further =
+kept_in Is kind crossed text given made written same done is known provision name further =
     let found = known (ap (λ o. unwrap_or o kind) (is ∙ provision)) name further in
     ap (λ t. option_and_then (get name) (read t)) done ∙ found ∙ ap (λ t. option_and_then (get name) (read t)) same

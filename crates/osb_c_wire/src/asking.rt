@@ -40,8 +40,8 @@ pub struct OsbAsked {
     pub plan: OsbId,
 }
 
-// An id that may be missing, as it crosses: zeroes where it is.
-fn id_or_zeroes<K>(id: Option<Id<K>>) -> OsbId
+/// An id that may be missing, as it crosses: zeroes where it is.
+pub fn id_or_zeroes<K>(id: Option<Id<K>>) -> OsbId
     ensures id { crossed.id_if (is_some id) result ≡ id }
     ensures none { IsNone id → result ≡ zero_id }
 {
@@ -51,8 +51,8 @@ fn id_or_zeroes<K>(id: Option<Id<K>>) -> OsbId
     }
 }
 
-// What is asked, as it crosses.
-pub(crate) fn asked_out(it: Asked) -> OsbAsked
+/// What is asked, as it crosses.
+pub fn asked_out(it: Asked) -> OsbAsked
     ensures asked { crossed.asked_of result ≡ Some it }
     ensures plain { crossed.IsPlainAsked result }
 {

@@ -16,8 +16,8 @@ use osb_message::Request;
 use serde_json::{Map, Value};
 use std::alloc::Global;
 
-// The members of the object that a text is.
-pub(crate) fn read_members(alloc: Global, text: &str) -> Result<Map<String, Value>, Status>
+/// The members of the object that a text is.
+pub fn read_members(alloc: Global, text: &str) -> Result<Map<String, Value>, Status>
     ensures members { IfOk result (λ members. members_in text.now ≡ Some (members_view members.entries)) }
     ensures shallow { IfOk result (λ members. depth (object (members_view members.entries)) ≤ max_depth) }
     ensures not_json { result ≡ Err Status.NotJson → read text.now ≡ None }

@@ -14,8 +14,8 @@ use osb_message::{Catalogue, Memory};
 use osb_wire::{CatalogueFault, catalogue_plans};
 use std::alloc::Global;
 
-// Why a document names no catalogue, as a status.
-pub(crate) fn status_of(fault: CatalogueFault) -> Status
+/// Why a document names no catalogue, as a status.
+pub fn plans_status(fault: CatalogueFault) -> Status
     ensures status { result ≡ document_status fault }
 {
     match fault {
@@ -30,8 +30,8 @@ pub(crate) fn status_of(fault: CatalogueFault) -> Status
     }
 }
 
-// The plans of a catalogue, as they cross.
-fn list_plans(alloc: Global, catalogue: &Catalogue) -> Result<Vec<OsbPlan>, Memory>
+/// The plans of a catalogue, as they cross.
+pub fn list_plans(alloc: Global, catalogue: &Catalogue) -> Result<Vec<OsbPlan>, Memory>
     ensures plans { IfOk result (λ list. each plan_of list.items ≡ map.entries catalogue.now) }
     ensures ascending { IfOk result (λ list. IsStrictlySortedBy pair_cmp (each pair_of list.items)) }
 {
@@ -42,8 +42,8 @@ fn list_plans(alloc: Global, catalogue: &Catalogue) -> Result<Vec<OsbPlan>, Memo
     Ok(list)
 }
 
-// Writes plans at the front of a list, if it has as many places.
-fn write_plans(list: &Vec<OsbPlan>, plans: &mut [OsbPlan]) -> Status
+/// Writes plans at the front of a list, if it has as many places.
+pub fn write_plans(list: &Vec<OsbPlan>, plans: &mut [OsbPlan]) -> Status
     ensures done { result ≡ Status.Done → take (length list.now.items) plans.new ≡ list.now.items }
     ensures rest { drop (length list.now.items) plans.new ≡ drop (length list.now.items) plans.old }
     ensures too_small { (result ≡ Status.TooSmall) ↔ (length plans.old < length list.now.items) }
@@ -92,7 +92,7 @@ pub extern "C" fn osb_catalogue_plans(
 {
     let catalogue = match catalogue_plans(alloc, document) {
         Ok(catalogue) => catalogue,
-        Err(fault) => return status_of(fault).code(),
+        Err(fault) => return plans_status(fault).code(),
     };
     let Ok(list) = list_plans(alloc, &catalogue) else {
         return Status::Memory.code();

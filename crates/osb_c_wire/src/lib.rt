@@ -6,6 +6,8 @@
 //! buffer of the caller's, and its length to `needed`; several texts go there one after the other, and a struct has the
 //! length of each.
 //!
+//! `osb_c_binding_wire` stands on it, and has the requests and answers of bindings.
+//!
 //! `include/osb.h` declares all of it, `docs/c.md` says how it is built, linked and called, and `docs/wire.md` what
 //! is written and read.
 #![tactic(auto)]
@@ -26,3 +28,10 @@ mod requests;
 mod rules;
 mod served;
 mod texts;
+
+pub use asking::{OsbAsked, asked_out, id_or_zeroes};
+pub use bodies::read_members;
+pub use catalogues::{list_plans, plans_status, write_plans};
+pub use named::names_from;
+pub use refusals::{refusal_from, status_from};
+pub use texts::{length_if, push_if, text_if};

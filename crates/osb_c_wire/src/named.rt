@@ -57,8 +57,8 @@ pub extern "C" fn osb_id_of_text(text: &[u8], id: &mut OsbId) -> u32
     }
 }
 
-// The texts of the ids of a request, where each is UTF-8.
-fn names_from<'t>(instance: &'t [u8], service: &'t [u8], plan: &'t [u8]) -> Option<Names<'t>>
+/// The texts of the ids of a request, where each is UTF-8.
+pub fn names_from<'t>(instance: &'t [u8], service: &'t [u8], plan: &'t [u8]) -> Option<Names<'t>>
     ensures names { IfSome result (λ names.
         naming.texts_of names ≡ named.texts_with instance.now service.now plan.now) }
     ensures utf8 { IsSome result ↔ named.AreUtf8 instance.now service.now plan.now }

@@ -13,8 +13,8 @@ ghost use Rattle.osb_c_wire.specs.Texts as texts;
 use osb_c_types::{Status, write_text};
 use osb_wire::Refusal;
 
-// Why a request is refused, as a status.
-pub(crate) fn status_from(refusal: Refusal) -> Status
+/// Why a request is refused, as a status.
+pub fn status_from(refusal: Refusal) -> Status
     ensures status { result ≡ refusal_status refusal }
     ensures back { refusal_of (code result) ≡ Some refusal }
 {
@@ -35,8 +35,8 @@ pub(crate) fn status_from(refusal: Refusal) -> Status
     }
 }
 
-// The refusal that the number of a status stands for.
-fn refusal_from(code: u32) -> Option<Refusal>
+/// The refusal that the number of a status stands for.
+pub fn refusal_from(code: u32) -> Option<Refusal>
     ensures refusal { result ≡ refusal_of code }
 {
     match code {

@@ -4,7 +4,7 @@ ghost use Rattle.osb_wire.specs.SoldDocuments as sold;
 ghost use Rattle.osb_c_types.specs.Status.{code, is_one_of};
 ghost use Rattle.osb_c_wire.specs.Rules as rules;
 
-use crate::catalogues::status_of;
+use crate::catalogues::plans_status;
 use osb_c_types::Status;
 use osb_wire::{DocumentFault, Endpoints, RuleFault, catalogue_document};
 use std::alloc::Global;
@@ -60,7 +60,7 @@ fn fault_status(fault: DocumentFault) -> Status
     ensures status { result ≡ rules.fault_status fault }
 {
     match fault {
-        DocumentFault::Plans(fault) => status_of(fault),
+        DocumentFault::Plans(fault) => plans_status(fault),
         DocumentFault::Rule(fault) => rule_status(fault),
     }
 }

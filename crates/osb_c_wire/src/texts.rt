@@ -4,8 +4,8 @@ ghost use Rattle.osb_c_wire.specs.Texts as texts;
 
 use std::alloc::AllocError;
 
-// A text that counts where a flag says so: none where it is no UTF-8.
-pub(crate) fn text_if(is_there: bool, text: &[u8]) -> Option<Option<&str>>
+/// A text that counts where a flag says so: none where it is no UTF-8.
+pub fn text_if(is_there: bool, text: &[u8]) -> Option<Option<&str>>
     ensures text { IfSome result (λ given. option_map (λ text. text.now) given ≡ texts.text_if is_there text.now) }
     ensures utf8 { IsSome result ↔ texts.IsUtf8If is_there text.now }
 {
@@ -18,8 +18,8 @@ pub(crate) fn text_if(is_there: bool, text: &[u8]) -> Option<Option<&str>>
     }
 }
 
-// Adds a text, if it is there.
-pub(crate) fn push_if(all: &mut String, text: &Option<String>) -> Result<(), AllocError>
+/// Adds a text, if it is there.
+pub fn push_if(all: &mut String, text: &Option<String>) -> Result<(), AllocError>
     ensures all { OnOk result (string_bytes all.new
         ≡ string_bytes all.old ++ texts.or_nothing (option_map string_bytes text.now)) }
 {
@@ -29,8 +29,8 @@ pub(crate) fn push_if(all: &mut String, text: &Option<String>) -> Result<(), All
     }
 }
 
-// The length of a text: 0 if it isn't there.
-pub(crate) fn length_if(text: &Option<String>) -> usize
+/// The length of a text: 0 if it isn't there.
+pub fn length_if(text: &Option<String>) -> usize
     ensures length { result ≡ length (texts.or_nothing (option_map string_bytes text.now)) }
 {
     match text {

@@ -1,7 +1,7 @@
 """The life of a service instance under the Open Service Broker API 2.17, for both ends, over the proved library libosb.
 
 - `Record` and `Holding`: one instance as a value, as a platform and as a broker keep it in a database.
-- `osb.wire`: requests and answers as HTTP and JSON have them.
+- `osb.wire`: requests and answers as HTTP and JSON have them. `osb.binding_wire`: those of bindings.
 - `osb.wsgi.BrokerApplication`: a broker as a WSGI application. `osb.client.Client`: a platform over HTTP.
 - `osb.tables`: the platform's tables.
 

@@ -2,6 +2,7 @@
 from __future__ import annotations
 
 import ctypes as c
+from typing import Any, Callable
 
 from osb._crossing import endpoints_to, id_to, plan_from
 from osb._header import CPlan
@@ -18,11 +19,18 @@ def catalogue_plans(document: bytes) -> list[Plan]:
     service and plan; a plan is asynchronous if its member `x-osb-asynchronous` is true, or if `asynchronous` is true
     and it lacks that. Raises NOT_JSON, NO_SERVICES, BAD_SERVICE, NO_PLANS, BAD_PLAN, BAD_PLAN_MODE, PLAN_TWICE.
     """
+    return plans_of(lambda *to: int(lib.osb_catalogue_plans(document, len(document), *to)))
+
+
+def plans_of(call: Callable[[Any, int, Any], int]) -> list[Plan]:
+    """The plans that a call reads, or else what its status stands for is raised. It is called again if there were too
+    few places.
+    """
     needed, buffer = c.c_size_t(0), (CPlan * 16)()
-    status = lib.osb_catalogue_plans(document, len(document), buffer, len(buffer), needed)
+    status = call(buffer, len(buffer), needed)
     if status == Status.TOO_SMALL:
         buffer = (CPlan * needed.value)()
-        status = lib.osb_catalogue_plans(document, len(document), buffer, len(buffer), needed)
+        status = call(buffer, len(buffer), needed)
     check(status)
     return [plan_from(it) for it in buffer[: needed.value]]
 

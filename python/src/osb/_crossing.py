@@ -47,6 +47,12 @@ def request_from(request: CRequest) -> Request:
     )
 
 
+def status_to(status: int) -> int:
+    if status not in range(2**16):
+        raise ValueError("the status of a response is a number from 0 to 65535")
+    return status
+
+
 def answer_to(answer: Answer) -> CAnswer:
     return CAnswer(answer.status, Body(answer.body).value)
 

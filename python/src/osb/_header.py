@@ -119,6 +119,29 @@ class CEndpoints(c.Structure):
     ]
 
 
+class CBindingAsked(c.Structure):
+    _fields_ = [("is_fetch", c.c_bool), ("instance", CId), ("asked", CAsked)]
+
+
+class CBindingReceived(c.Structure):
+    _fields_ = [
+        ("has_service", c.c_bool),
+        ("has_plan", c.c_bool),
+        ("has_bind_resource", c.c_bool),
+        ("has_parameters", c.c_bool),
+        ("has_context", c.c_bool),
+        ("has_predecessor_binding_id", c.c_bool),
+        ("instance", c.c_size_t),
+        ("binding", c.c_size_t),
+        ("service", c.c_size_t),
+        ("plan", c.c_size_t),
+        ("bind_resource", c.c_size_t),
+        ("parameters", c.c_size_t),
+        ("context", c.c_size_t),
+        ("predecessor_binding_id", c.c_size_t),
+    ]
+
+
 EXPORTS: list[tuple[str, Any, list[Any]]] = [
     ("osb_version", c.c_uint32, []),
     ("osb_id_of_text", c.c_uint32, [*_READ, _AT(CId)]),
@@ -161,6 +184,10 @@ EXPORTS: list[tuple[str, Any, list[Any]]] = [
     ("osb_holding_from_text", c.c_uint32, [*_READ, _AT(CHolding)]),
     ("osb_binding_create", c.c_uint32, [_AT(CRecord), CId, c.c_bool, _AT(CRecord), _AT(CRequest)]),
     ("osb_binding_answer", c.c_uint32, [_AT(CRecord), c.c_uint64, CAnswer, c.c_bool]),
+    ("osb_binding_record_to_text", c.c_uint32, [_AT(CRecord), *_WRITTEN]),
+    ("osb_binding_record_from_text", c.c_uint32, [*_READ, _AT(CRecord)]),
+    ("osb_binding_holding_to_text", c.c_uint32, [_AT(CHolding), *_WRITTEN]),
+    ("osb_binding_holding_from_text", c.c_uint32, [*_READ, _AT(CHolding)]),
     (
         "osb_binding_begin",
         c.c_uint32,
@@ -205,5 +232,24 @@ EXPORTS: list[tuple[str, Any, list[Any]]] = [
     ("osb_asks_for_catalogue", c.c_bool, [*_READ, *_READ]),
     ("osb_plan_version", c.c_uint32, [*_READ, CId, CId, *_WRITTEN]),
     ("osb_maintenance_conflict", c.c_uint32, [c.c_bool, *_READ, *_READ]),
+    ("osb_read_binding_request", c.c_uint32, [*_READ, c.c_size_t, *_READ, *_READ, *_READ, _AT(CBindingAsked)]),
+    (
+        "osb_receive_binding_request",
+        c.c_uint32,
+        [*_READ, c.c_size_t, *_READ, *_READ, *_READ, _AT(CBindingAsked), _AT(CBindingReceived), *_WRITTEN],
+    ),
+    ("osb_binding_refusal_status", c.c_uint16, [c.c_uint32]),
+    ("osb_binding_refusal_body", c.c_uint32, [c.c_uint32, *_WRITTEN]),
+    ("osb_requires_app", c.c_uint32, [c.c_bool, *_READ]),
+    (
+        "osb_write_binding_target",
+        c.c_uint32,
+        [*_READ, _AT(CRequest), CId, *_READ, *_READ, *_READ, *_READ, c.c_bool, c.c_bool, *_READ, *_WRITTEN],
+    ),
+    ("osb_write_binding_body", c.c_uint32, [c.c_uint8, *_READ, *_READ, *_READ, *_WRITTEN]),
+    ("osb_write_binding", c.c_uint32, [*_READ]),
+    ("osb_read_binding", c.c_uint32, [c.c_bool, c.c_uint8, c.c_uint16, *_READ]),
+    ("osb_binding_modes", c.c_uint32, [*_READ, _AT(CPlan), c.c_size_t, _AT(c.c_size_t)]),
+    ("osb_bindings_retrievable", c.c_uint32, [*_READ, CId, _AT(c.c_bool)]),
 ]
 """Each call, with what it gives and what it takes."""

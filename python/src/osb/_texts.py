@@ -31,6 +31,14 @@ def texts_of(text: bytes, lengths: c.Structure, *names: str) -> Iterator[str | N
         start = end
 
 
+def with_lengths(*texts: str) -> list[bytes | int]:
+    """The bytes of each text, and behind them how many they are."""
+    crossing: list[bytes | int] = []
+    for text in map(utf8, texts):
+        crossing += [text, len(text)]
+    return crossing
+
+
 def utf8(text: str) -> bytes:
     """The bytes of a string. A lone surrogate comes out as bytes that the library refuses as not UTF-8."""
     return text.encode("utf-8", "surrogatepass")

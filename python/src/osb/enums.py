@@ -84,6 +84,11 @@ class Status(Named):
     SAME_NUMBER = 75, "two ids of the document have one number"
     NOT_READY = 76, "the instance isn't recorded ready, so no binding of it is created"
     BOUND = 77, "a binding of the instance isn't gone, so the instance isn't removed"
+    REFUSED_BINDING = 78, "refused with 400: the binding's id isn't UTF-8 of 1 to 255 bytes, or no path can carry it"
+    REFUSED_APP = 79, "refused with 422: the Bind names no application, and its plan needs one"
+    NOT_BINDING_TEXT = 80, "the text isn't that of the request's binding, or no path can carry it"
+    NO_BINDING = 81, "the response has no object of the binding"
+    NOT_RETRIEVABLE = 82, "a plan binds asynchronously, and its service isn't bindings_retrievable"
 
 
 class Kind(Named):

@@ -7,6 +7,9 @@ from osb._lib import lib
 from osb._texts import written
 from osb.enums import Status
 
+# The refusals that only a request of a binding meets.
+_OF_BINDINGS = (Status.REFUSED_BINDING, Status.REFUSED_APP)
+
 
 class OsbError(Exception):
     """A call that wasn't done, and has changed nothing. `status` says why."""
@@ -21,15 +24,17 @@ class Refusal(OsbError):
     """A request that a broker refuses before it looks at any instance, with the answer to send.
 
     `http_status` and `body` are that answer's. The status is one of REFUSED_TARGET to REFUSED_SPACE,
-    REFUSED_MAINTENANCE, or MEMORY where an out-of-memory error is to be told.
+    REFUSED_MAINTENANCE, REFUSED_BINDING, REFUSED_APP, or MEMORY where an out-of-memory error is to be told.
     """
 
     def __init__(self, status: int) -> None:
         super().__init__(status)
-        self.http_status = int(lib.osb_refusal_status(self.status))
-        done, self.body = written(
-            lambda buffer, length, needed: int(lib.osb_refusal_body(self.status, buffer, length, needed))
-        )
+        if self.status in _OF_BINDINGS:
+            self.http_status = int(lib.osb_binding_refusal_status(self.status))
+            done, self.body = written(lambda *to: int(lib.osb_binding_refusal_body(self.status, *to)))
+        else:
+            self.http_status = int(lib.osb_refusal_status(self.status))
+            done, self.body = written(lambda *to: int(lib.osb_refusal_body(self.status, *to)))
         if done != Status.DONE:
             raise OsbError(done)
 
@@ -38,7 +43,8 @@ def check(status: int) -> None:
     """Raises what stands for this status, if the call wasn't done."""
     if status == Status.DONE:
         return
-    if Status.REFUSED_TARGET <= status <= Status.REFUSED_SPACE or status == Status.REFUSED_MAINTENANCE:
+    is_refused = Status.REFUSED_TARGET <= status <= Status.REFUSED_SPACE or status == Status.REFUSED_MAINTENANCE
+    if is_refused or status in _OF_BINDINGS:
         raise Refusal(status)
     raise OsbError(status)
 

@@ -175,6 +175,20 @@ class Holding:
         check(lib.osb_holding_from_text(given, len(given), holding))
         return _from(holding)
 
+    def to_binding_text(self) -> str:
+        """The text of a binding's holding, for a column of a database: that of `to_text`, with a version of its own."""
+        holding = _to(self)
+        return text_of(
+            lambda buffer, length, needed: int(lib.osb_binding_holding_to_text(holding, buffer, length, needed))
+        ).decode()
+
+    @classmethod
+    def from_binding_text(cls, text: str) -> Holding:
+        """Reads the text of a binding's holding. Raises what `from_text` raises."""
+        holding, given = CHolding(), utf8(text)
+        check(lib.osb_binding_holding_from_text(given, len(given), holding))
+        return _from(holding)
+
 
 Holding.NONE = Holding()
 

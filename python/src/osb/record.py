@@ -149,6 +149,20 @@ class Record:
         check(lib.osb_record_from_text(given, len(given), record))
         return _from(record)
 
+    def to_binding_text(self) -> str:
+        """The text of a binding's record, for a column of a database: that of `to_text`, with a version of its own."""
+        record = _to(self)
+        return text_of(
+            lambda buffer, length, needed: int(lib.osb_binding_record_to_text(record, buffer, length, needed))
+        ).decode()
+
+    @classmethod
+    def from_binding_text(cls, text: str) -> Record:
+        """Reads the text of a binding's record. Raises what `from_text` raises."""
+        record, given = CRecord(), utf8(text)
+        check(lib.osb_binding_record_from_text(given, len(given), record))
+        return _from(record)
+
 
 def _in_range(attempt: int) -> int:
     if attempt not in range(2**64):

@@ -16,10 +16,10 @@ from osb._catalogues import (
     plan_version,
     served_catalogue,
 )
-from osb._crossing import answer_from, answer_to, id_from, id_to, request_from, request_to
+from osb._crossing import answer_from, answer_to, id_from, id_to, request_from, request_to, status_to
 from osb._header import CAnswer, CAsked, CDetails, CId, CReceived, CRequest
 from osb._lib import lib
-from osb._texts import texts_of, utf8, written
+from osb._texts import texts_of, utf8, with_lengths, written
 from osb.enums import Kind, Status
 from osb.errors import Refusal, check, found, text_of
 from osb.ids import Id
@@ -74,7 +74,7 @@ def read_answer(kind: Kind, status: int, body: bytes) -> Answer | None:
     it isn't surely the broker's: a timeout is taken in its place.
     """
     answer = CAnswer()
-    done = lib.osb_read_answer(Kind(kind).value, _status(status), body, len(body), answer)
+    done = lib.osb_read_answer(Kind(kind).value, status_to(status), body, len(body), answer)
     if done == Status.NO_ANSWER:
         return None
     check(done)
@@ -177,8 +177,8 @@ def write_named_target(request: Request, names: Names, operation: str | None = N
     other instance is asked for. The rest is as in `write_target`. Raises NOT_UTF8, NOT_INSTANCE_TEXT, NOT_SERVICE_TEXT,
     NOT_PLAN_TEXT; an instance named `.` or `..` is NOT_INSTANCE_TEXT too, since HTTP clients resolve such a path.
     """
-    front, given, named = _with_lengths(prefix), request_to(request), utf8(operation or "")
-    texts = _with_lengths(names.instance, names.service, names.plan)
+    front, given, named = with_lengths(prefix), request_to(request), utf8(operation or "")
+    texts = with_lengths(names.instance, names.service, names.plan)
     return text_of(
         lambda buffer, length, needed: int(
             lib.osb_write_named_target(
@@ -194,7 +194,7 @@ def write_body(request: Request, organization: str, space: str, further: str = "
     empty text. The ids are sent as GUIDs in lower case: `write_named_body` sends others. Raises NOT_UTF8, NOT_JSON,
     NOT_AN_OBJECT.
     """
-    given, texts = request_to(request), _with_lengths(organization, space, further)
+    given, texts = request_to(request), with_lengths(organization, space, further)
     return text_of(lambda buffer, length, needed: int(lib.osb_write_body(given, *texts, buffer, length, needed)))
 
 
@@ -204,7 +204,7 @@ def write_named_body(kind: Kind, names: Names, organization: str, space: str, fu
     Provisioning). It doesn't compare the texts with a request: `write_named_target` does. Raises NOT_UTF8, NOT_JSON,
     NOT_AN_OBJECT.
     """
-    number, texts = Kind(kind).value, _with_lengths(names.service, names.plan, organization, space, further)
+    number, texts = Kind(kind).value, with_lengths(names.service, names.plan, organization, space, further)
     return text_of(lambda buffer, length, needed: int(lib.osb_write_named_body(number, *texts, buffer, length, needed)))
 
 
@@ -262,7 +262,7 @@ def read_request(method: str, target: bytes, body: bytes, longest_body: int, pre
             front, len(front), longest_body, way, len(way), target, len(target), body, len(body), asked
         )
     )
-    return _asked_from(asked)
+    return asked_from(asked)
 
 
 @dataclass(frozen=True)
@@ -302,7 +302,7 @@ def receive_request(method: str, target: bytes, body: bytes, longest_body: int, 
     Provision's body (sections Provisioning, Polling Last Operation for Service Instances and Deprovisioning). Raises
     what `read_request` does.
     """
-    texts, asked, lengths = [*_with_lengths(prefix), longest_body, *_with_lengths(method)], CAsked(), CReceived()
+    texts, asked, lengths = [*with_lengths(prefix), longest_body, *with_lengths(method)], CAsked(), CReceived()
     text = text_of(
         lambda buffer, length, needed: int(
             lib.osb_receive_request(
@@ -314,7 +314,7 @@ def receive_request(method: str, target: bytes, body: bytes, longest_body: int, 
     service, plan, *parts = texts_of(
         rest, lengths, "service", "plan", "parameters", "context", "maintenance_info", "others"
     )
-    return Received(_asked_from(asked), instance, service, plan, Parts(*parts))
+    return Received(asked_from(asked), instance, service, plan, Parts(*parts))
 
 
 def member_text(body: bytes, name: str) -> str | None:
@@ -362,10 +362,10 @@ def write_answer(answer: Answer, operation: str | None = None, description: str 
     Service Instances and Service Broker Errors); of one with more than 1,000 characters the first 1,000, which is this
     project's choice. Raises NOT_UTF8.
     """
-    given, named = answer_to(answer), (operation is not None, *_with_lengths(operation or ""))
+    given, named = answer_to(answer), (operation is not None, *with_lengths(operation or ""))
     if description is None:
         return text_of(lambda buffer, length, needed: int(lib.osb_write_answer(given, *named, buffer, length, needed)))
-    told = _with_lengths(description)
+    told = with_lengths(description)
     return text_of(
         lambda buffer, length, needed: int(
             lib.osb_write_told_answer(given, *named, True, *told, buffer, length, needed)
@@ -387,7 +387,7 @@ def basic_auth(value: str | None, user: str, password: str) -> bool:
     """
     if value is None:
         return False
-    status = lib.osb_basic_auth(*_with_lengths(value, user, password))
+    status = lib.osb_basic_auth(*with_lengths(value, user, password))
     if status == Status.UNAUTHORIZED:
         return False
     check(status)
@@ -433,21 +433,8 @@ def request_identity(value: str) -> str | None:
     return value
 
 
-def _with_lengths(*texts: str) -> list[bytes | int]:
-    """The bytes of each text, and behind them how many they are."""
-    crossing: list[bytes | int] = []
-    for text in map(utf8, texts):
-        crossing += [text, len(text)]
-    return crossing
-
-
-def _status(status: int) -> int:
-    if status not in range(2**16):
-        raise ValueError("the status of a response is a number from 0 to 65535")
-    return status
-
-
-def _asked_from(asked: CAsked) -> Asked:
+def asked_from(asked: CAsked) -> Asked:
+    """What is asked, as it crossed."""
     return Asked(
         Kind(asked.kind),
         bool(asked.accepts_incomplete),

@@ -1,4 +1,5 @@
 use Rattle.std.proofs.Common.{take, string_bytes, ap, ◌∙◌}
+use Rattle.osb_wire.specs.Provisions.{IsFurther}
 use Rattle.osb_c_types.specs.Kinds.{kind_of}
 use Rattle.osb_c_wire.proofs.Crossed.{kept_in}
 use Rattle.osb_c_wire.proofs.Statuses.{was_done}
@@ -10,7 +11,7 @@ returns-in-Ok-named_body_text-clause-kept c = λ done.
     let front =
     c.write_text.ensures.done (was_done _ _ c.write_text.ensures.statuses c.code-in-Ok-named_body_text.ensures.code done)
     in
-    kept_in c.in-Some.kind (kind_of c.args.kind) c.in-Ok-from_utf8-4.further.now c.args.further.now
+    kept_in IsFurther c.in-Some.kind (kind_of c.args.kind) c.in-Ok-from_utf8-4.further.now c.args.further.now
     (string_bytes c.in-Ok-named_body_text.text) (take c.write_text.new.needed buffer)
     c.in-Ok-from_utf8-4.ensures.cases.0
     (ap (λ n. take n buffer) c.write_text.ensures.needed ∙ front ∙ c.as_str.ensures.value)

@@ -1,0 +1,6 @@
+pub mod Asked
+pub mod Modes
+pub mod Objects
+pub mod Received
+pub mod Refusals
+pub mod Sent
