@@ -6,13 +6,18 @@
 PYTHON is the Python that has pytest. The steps, one after another; with --tests, only the last one:
 
 1. `rt ci`: all proofs, the mutants that the prover must reject, and the tests and programs of the crates.
-2. `scripts/prebuilt --compare`: the prebuilt files are what these sources give.
+2. `scripts/prebuilt --compare`: the prebuilt files are what these sources give. It builds them over the libraries that
+   `rt ci` has just proved and built.
 3. pytest, several tests at once; then by themselves those that go by the clock.
+
+Hosts differ, so the cost is also given in units: one is what `rt check` of osb_message takes from nothing, in processor
+seconds. It is measured before the steps, by itself.
 """
 
 from __future__ import annotations
 
 import fcntl
+import importlib.util
 import os
 import re
 import resource
@@ -30,6 +35,8 @@ from typing import Callable, NamedTuple
 TOP = Path(__file__).resolve().parent.parent
 COUNTS = re.compile(r"(\d+) passed, (\d+) failed(?:, (\d+) skipped)?")
 SKIPPED = "skipped: "
+# What rt writes if a check of the same crate elsewhere on this machine has left it work to begin with.
+KEPT = "begins with what a check kept"
 # With these set, the tests would take another library, program or database than this checkout's.
 NAMED = (
     "LIBOSB",
@@ -134,7 +141,47 @@ def prove() -> Result:
         fcntl.flock(crates, fcntl.LOCK_EX)
         for left in [TOP / "out", *TOP.glob("crates/*/out/workdirs")]:
             shutil.rmtree(left, ignore_errors=True)
-        return check("rt", "ci")
+        rows = crates.read().splitlines()
+        before = stamps(rows)
+        result = check("rt", "ci")
+        if not result.failures:
+            take_libraries(before, stamps(rows))
+        return result
+
+
+def stamps(rows: list[str]) -> dict[Path, str]:
+    """The kit's stamp of what each crate in these rows of crates.txt is made from, by its folder. If the kit has no
+    such stamp, there are none.
+    """
+    try:
+        page = subprocess.run(
+            ["rt", "doc"], stdin=subprocess.DEVNULL, capture_output=True, text=True, check=True
+        ).stdout
+        spec = importlib.util.spec_from_file_location("rtlib", Path(page.strip()).parent / "bin" / "rtlib.py")
+        assert spec is not None and spec.loader is not None
+        rtlib = importlib.util.module_from_spec(spec)
+        spec.loader.exec_module(rtlib)
+        names = [row.partition(":")[0].strip() for row in rows if row.strip() and not row.startswith("#")]
+        folders = [TOP / "crates" / name for name in names]
+        return {folder: rtlib.Crate(str(folder), str(TOP), {}).stamp() for folder in folders}
+    except Exception as error:  # whatever the kit raises
+        print(
+            f"gate: the libraries that `rt ci` builds can't be taken, and are proved once more: {error!r}", flush=True
+        )
+        return {}
+
+
+def take_libraries(before: dict[Path, str], after: dict[Path, str]) -> None:
+    """Lets `rt lib` take the libraries that `rt ci` has just proved and built, so that none is proved a second time. It
+    leaves out what was changed meanwhile.
+
+    `rt lib` takes a library that has the stamp of its sources. `rt ci` leaves none, since what it states of a library
+    fits only the libraries below that it was built over. Here all are of one run.
+    """
+    for folder, stamp in after.items():
+        rlib = folder / "out" / "rlib"
+        if before.get(folder) == stamp and rlib.is_dir():
+            (rlib / "stamp").write_text(stamp)
 
 
 def compare() -> Result:
@@ -168,6 +215,35 @@ def processor_seconds() -> float:
     return used.ru_utime + used.ru_stime
 
 
+def unit() -> tuple[float, str]:
+    """What `rt check` of osb_message takes from nothing, in processor seconds; or 0, and why it isn't known."""
+    with tempfile.TemporaryDirectory() as folder:
+        crate = Path(folder, "crates", "osb_message")
+        shutil.copytree(TOP / "crates" / "osb_message", crate, ignore=shutil.ignore_patterns("out"))
+        rows = (TOP / "crates.txt").read_text().splitlines(keepends=True)
+        Path(folder, "crates.txt").write_text("".join(row for row in rows if row.startswith("osb_message:")))
+        used = processor_seconds()
+        checked = subprocess.run(
+            ["rt", "check"],
+            cwd=crate,
+            stdin=subprocess.DEVNULL,
+            stdout=subprocess.PIPE,
+            stderr=subprocess.STDOUT,
+            text=True,
+        )
+        if checked.returncode != 0:
+            return 0, "`rt check` of osb_message failed"
+        if KEPT in checked.stdout:
+            return 0, "`rt check` of osb_message began with what another check on this machine kept"
+        return processor_seconds() - used, ""
+
+
+def in_units(seconds: float, one: float, why: str) -> str:
+    if why:
+        return f"units: not measured: {why} ({seconds:.0f} processor seconds)"
+    return f"units: {seconds / one:.1f} ({seconds:.0f} processor seconds of {one:.1f} each)"
+
+
 def summary(results: list[Result]) -> str:
     passed = sum(it.passed for it in results)
     failed = sum(len(it.failures) for it in results)
@@ -182,6 +258,8 @@ def main() -> int:
     if "rt ci" in found:
         for name in [it for it in os.environ if it in NAMED or it.startswith(LIBPQ)]:
             del os.environ[name]
+    one, why = unit() if "rt ci" in found else (0, "")
+    all_used = processor_seconds()
     results: list[Result] = []
     report: list[str] = []
     for name, step in found.items():
@@ -192,6 +270,8 @@ def main() -> int:
         seconds = f"{time.monotonic() - begun:.0f} s, {processor_seconds() - used:.0f} processor seconds"
         report.append(f"{name}: {summary([result])} ({seconds})")
         report += [f"FAILED: {name}: {it}" for it in dict.fromkeys(result.failures)]
+    if "rt ci" in found:
+        report.append(in_units(processor_seconds() - all_used, one, why))
     report += [f"{SKIPPED}{it}" for result in results for it in result.skips]
     print("== all", *report, summary(results), sep="\n", flush=True)
     return 1 if any(it.failures for it in results) else 0

@@ -4,6 +4,7 @@ from __future__ import annotations
 
 import importlib.util
 import os
+import re
 import shutil
 import subprocess
 import sys
@@ -55,10 +56,12 @@ class Repository:
 
     def __init__(self, top: Path) -> None:
         self.top = top
+        self.report: list[str] = []
         (top / "scripts").mkdir()
         for name in ("check", "scripts/gate.py", "scripts/python.sh"):
             shutil.copy2(TOP / name, top / name)
         (top / "crates.txt").write_text("osb_replay:\n")
+        (top / "crates" / "osb_message").mkdir(parents=True)
         self.script(
             "bin/rt", "mkdir -p crates/osb_replay/out; : >crates/osb_replay/out/osb_replay; echo '5 passed, 0 failed'"
         )
@@ -89,8 +92,8 @@ class Repository:
             text=True,
             timeout=100,
         )
-        *lines, last = ran.stdout.partition("== all\n")[2].splitlines()
-        return ran.returncode, last, [it for it in lines if it.startswith(("FAILED: ", "skipped: "))]
+        *self.report, last = ran.stdout.partition("== all\n")[2].splitlines()
+        return ran.returncode, last, [it for it in self.report if it.startswith(("FAILED: ", "skipped: "))]
 
 
 @pytest.fixture
@@ -101,6 +104,71 @@ def repository(tmp_path: Path) -> Repository:
 @pytest.mark.slow
 def test_all_pass(repository: Repository) -> None:
     assert repository.check() == (0, "10 passed, 0 failed, 0 skipped", [])
+
+
+KIT = """
+import os
+
+class Crate:
+    def __init__(self, folder, root, known):
+        pass
+    def stamp(self):
+        return STAMP
+"""
+
+
+@pytest.mark.slow
+@pytest.mark.parametrize(
+    ("kit", "stamp"),
+    [
+        (KIT.replace("STAMP", "'a stamp'"), "a stamp"),
+        (KIT.replace("STAMP", "os.urandom(8).hex()"), None),
+        ("class Crate: pass", None),
+    ],
+)
+def test_libraries_are_taken(repository: Repository, tmp_path: Path, kit: str, stamp: str | None) -> None:
+    """What `rt ci` built gets the kit's stamp, unless its sources were changed meanwhile, or the kit has none."""
+    (tmp_path / "kit" / "bin").mkdir(parents=True)
+    (tmp_path / "kit" / "bin" / "rtlib.py").write_text(kit)
+    rlib = repository.top / "crates" / "osb_replay" / "out" / "rlib"
+    made = f"mkdir -p {rlib}; : >crates/osb_replay/out/osb_replay"
+    repository.script(
+        "bin/rt", f"[ $1 != doc ] || exec echo {tmp_path}/kit/START.md; {made}; echo '5 passed, 0 failed'"
+    )
+    assert repository.check()[0] == 0
+    written = rlib / "stamp"
+    assert (written.read_text() if written.exists() else None) == stamp
+
+
+@pytest.mark.slow
+def test_units(repository: Repository) -> None:
+    """The cost is a multiple of what the check of osb_message takes."""
+    busy = f'exec "{sys.executable}" -c "import time\nwhile time.process_time() < .5: pass"'
+    repository.script("bin/rt", f"[ $1 = ci ] || {busy}; echo '5 passed, 0 failed'")
+    repository.check()
+    found = [re.fullmatch(r"units: (.*) \((.*) processor seconds of (.*) each\)", it) for it in repository.report]
+    [(units, seconds, one)] = [it.groups() for it in found if it]
+    assert 0.5 <= float(one) < 2
+    assert float(seconds) / float(one) == pytest.approx(float(units), abs=1.1)
+
+
+@pytest.mark.slow
+@pytest.mark.parametrize(
+    ("check", "why"),
+    [
+        ("exit 1", "`rt check` of osb_message failed"),
+        (
+            "echo 'rt: osb_message: begins with what a check kept in /elsewhere'",
+            "`rt check` of osb_message began with what another check on this machine kept",
+        ),
+    ],
+)
+def test_units_that_cannot_be_measured(repository: Repository, check: str, why: str) -> None:
+    repository.script("bin/rt", f"[ $1 != check ] || {{ {check}; exit; }}; echo '5 passed, 0 failed'")
+    repository.check()
+    assert [it.partition(" (")[0] for it in repository.report if it.startswith("units")] == [
+        f"units: not measured: {why}"
+    ]
 
 
 @pytest.mark.slow

@@ -18,6 +18,7 @@ osb_c: osb_world
 osb_c_instance: osb_world
 osb_c_binding: osb_c_instance
 osb_c_wire: osb_world
+osb_c_binding_wire: osb_c_wire
 """
 
 # Stands for rt. It writes a line to `builds` for each crate, and takes as many seconds as the file `seconds` says.
