@@ -53,7 +53,7 @@ quick-shell:
 
 quick-go: $(if $(wildcard /usr/share/gocode/src/honnef.co/go/tools/cmd/staticcheck),$(STATICCHECK))
 	export PKG_CONFIG_PATH="$(LIBRARY)" LD_LIBRARY_PATH="$(LIBRARY)" GOFLAGS='-mod=readonly -buildvcs=false' GOPROXY=off
-	for module in go examples/go; do
+	for module in go/osb examples/go; do
 	    (cd $$module && go vet ./... && if [ -x $(STATICCHECK) ]; then $(STATICCHECK) ./...; fi)
 	done
 

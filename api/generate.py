@@ -310,7 +310,7 @@ def files() -> dict[str, str]:
     table = r"^\| \| \| exactly if \| returned by \|\n.*\n((?:\|.*\n)*)"
     return {
         "include/osb.h": header(),
-        "go/generated.go": go(),
+        "go/osb/generated.go": go(),
         "python/src/osb/enums.py": python_enums(),
         "python/src/osb/_header.py": python_header(),
         "python/pyproject.toml": replaced("python/pyproject.toml", r'^version = "(.*)"$', "%d.%d.%d" % VERSION),

@@ -59,6 +59,6 @@ def test_each_number_has_one_meaning() -> None:
 
 
 def test_both_packages_call_each_export() -> None:
-    for folder, call in (("go", r"\bC\.(osb_\w+)\("), ("python/src/osb", r"\blib(?:rary)?\.(osb_\w+)\(")):
+    for folder, call in (("go/osb", r"\bC\.(osb_\w+)\("), ("python/src/osb", r"\blib(?:rary)?\.(osb_\w+)\(")):
         sources = "".join(it.read_text(encoding="utf-8") for it in (TOP / folder).glob("*.*") if it.is_file())
         assert set(re.findall(call, sources)) == {it.name for it in CALLS}, folder

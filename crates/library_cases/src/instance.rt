@@ -1,5 +1,5 @@
 //! The cases of `osb_instance`: a line with the name of a call and its arguments, and behind it what the call returned.
-//! What isn't here can be seen from C: `checks/network` compares it with a model, and `go/values_test.go` with the
+//! What isn't here can be seen from C: `checks/network` compares it with a model, and `go/osb/values_test.go` with the
 //! tables.
 
 mod lives;
