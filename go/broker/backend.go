@@ -1,0 +1,120 @@
+package broker
+
+import (
+	"context"
+	"encoding/json"
+	"errors"
+)
+
+// There is what exists of an instance or of a binding.
+type There int
+
+const (
+	None  There = iota // nothing
+	Part               // something that can't be used: a creation or a deletion was broken off
+	Whole              // all of it, ready for use
+)
+
+// String is the word for it: none, part or whole.
+func (t There) String() string {
+	switch t {
+	case None:
+		return "none"
+	case Part:
+		return "part"
+	case Whole:
+		return "whole"
+	}
+	return "unknown"
+}
+
+// A Backend creates and deletes what is sold. At most one call of a key runs at a time. Calls of different keys run side
+// by side, each in a goroutine of its own. Each call may come again after a crash, so it begins with what exists. What
+// counts is what Look finds afterwards: an error says only why.
+//
+// The context isn't cancelled if the platform goes away.
+type Backend interface {
+	// Look returns what exists. If it fails, nobody knows, and it is called again later.
+	Look(ctx context.Context, request Request) (There, error)
+
+	// Create creates all of it, if nothing exists, or a part. Once it returns nil, that outlives a power cut. An error
+	// may be a *Rejected.
+	Create(ctx context.Context, request Request) error
+
+	// Delete deletes all of it, or a part. Once it returns nil, that outlives a power cut.
+	Delete(ctx context.Context, request Request) error
+}
+
+// A BindingBackend is a Backend whose instances can be bound. What it creates for a binding is the binding's own, for
+// example a role with a password: the work of one binding leaves the instance and its other bindings alone.
+type BindingBackend interface {
+	Backend
+
+	// LookBinding returns what exists of a binding, as Look does.
+	LookBinding(ctx context.Context, request Request) (There, error)
+
+	// CreateBinding creates a binding as Create does, and returns its credentials, which are JSON. They are stored in
+	// the transaction that ends the work, and no other call asks for them.
+	CreateBinding(ctx context.Context, request Request) (credentials json.RawMessage, err error)
+
+	// DeleteBinding deletes a binding as Delete does.
+	DeleteBinding(ctx context.Context, request Request) error
+}
+
+// A CredentialsBackend can tell the credentials of a binding that exists, because it derives or stores them. Without it
+// a binding that was created by work that was broken off is deleted and created again: nobody knows its credentials.
+type CredentialsBackend interface {
+	Credentials(ctx context.Context, request Request) (json.RawMessage, error)
+}
+
+// A SyncBackend returns from Sync once what Look or LookBinding says would outlive a power cut. It is called if the work
+// was done by another, or by a call that failed. For any other backend all files of the machine are written to disk
+// then.
+type SyncBackend interface {
+	Sync(ctx context.Context, request Request) error
+}
+
+// A LockBackend brings its own Locks. It needs them if its work outlives the process, or is done on several machines.
+type LockBackend interface {
+	Locks() Locks
+}
+
+// A Rejected says that the backend refuses a creation, and that nothing of it exists. The platform is told so, and
+// doesn't clean up.
+type Rejected struct {
+	// Status is 400 or 422. Any other number counts as 400.
+	Status int
+	// Code is a code for programs, such as QuotaExceeded, or empty. AsyncRequired and ConcurrencyError are the
+	// standard's, and aren't sent (section Service Broker Errors).
+	Code string
+	// Description is for a person. Of one with more than 1,000 characters the first 1,000 are sent.
+	Description string
+}
+
+// Error is the description.
+func (r *Rejected) Error() string { return "rejected: " + r.Description }
+
+// Public marks an error whose description the platform is told. The text of any other error goes to the log alone.
+func Public(err error, description string) error {
+	return &publicError{error: err, description: description}
+}
+
+type publicError struct {
+	error
+	description string
+}
+
+func (p *publicError) Unwrap() error { return p.error }
+
+// descriptionOf is what the platform is told of an error, and empty if that is nothing.
+func descriptionOf(err error) string {
+	var rejected *Rejected
+	if errors.As(err, &rejected) {
+		return rejected.Description
+	}
+	var public *publicError
+	if errors.As(err, &public) {
+		return public.description
+	}
+	return ""
+}

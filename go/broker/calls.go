@@ -1,0 +1,134 @@
+package broker
+
+import (
+	"context"
+	"encoding/json"
+	"errors"
+	"fmt"
+
+	"pippinterm/broker/crash"
+	"pippinterm/osb"
+)
+
+// calls are the backend's calls for one request: those of an instance, or those of a binding.
+type calls struct {
+	worker
+	request    Request
+	isCreation bool            // whether the credentials of a binding count
+	binding    json.RawMessage // the object of the binding, once its credentials are known
+}
+
+// bindings is the backend, if it sells bindings.
+func (c *calls) bindings() (BindingBackend, error) {
+	if backend, ok := c.backend.(BindingBackend); ok {
+		return backend, nil
+	}
+	return nil, errors.New("the backend sells no bindings")
+}
+
+// look returns what exists. To a creation, a binding whose credentials nobody knows is a part.
+func (c *calls) look(ctx context.Context) (there There, err error) {
+	err = safely(func() (err error) {
+		if !c.request.Key.IsBinding {
+			there, err = c.backend.Look(ctx, c.request)
+			return err
+		}
+		backend, err := c.bindings()
+		if err == nil {
+			there, err = backend.LookBinding(ctx, c.request)
+		}
+		return err
+	})
+	if err != nil || there != Whole || !c.request.Key.IsBinding || !c.isCreation {
+		return there, err
+	}
+	return c.withCredentials(ctx)
+}
+
+// withCredentials is what exists of a binding of which all exists: a part, if nobody knows its credentials.
+func (c *calls) withCredentials(ctx context.Context) (There, error) {
+	if c.binding != nil {
+		return Whole, nil
+	}
+	backend, ok := c.backend.(CredentialsBackend)
+	if !ok {
+		return Part, nil
+	}
+	err := safely(func() error {
+		credentials, err := backend.Credentials(ctx, c.request)
+		if err != nil {
+			return err
+		}
+		return c.keep(credentials)
+	})
+	return Whole, err
+}
+
+// keep makes the object of the binding from its credentials.
+func (c *calls) keep(credentials json.RawMessage) error {
+	object, err := json.Marshal(struct {
+		Credentials json.RawMessage `json:"credentials"`
+	}{credentials})
+	if err != nil {
+		return fmt.Errorf("the credentials aren't JSON: %w", err)
+	}
+	if err := osb.CheckBinding(object); err != nil {
+		return fmt.Errorf("the credentials can't be sent: %w", err)
+	}
+	c.binding = object
+	return nil
+}
+
+// settled returns what exists once that would outlive a power cut.
+func (c *calls) settled(ctx context.Context) (There, error) {
+	if err := c.synced(ctx, c.request); err != nil {
+		return None, err
+	}
+	return c.look(ctx)
+}
+
+// try calls, and returns what exists then, and how the call failed. What a call that failed has done may not be on disk.
+func (c *calls) try(ctx context.Context, call func(context.Context) error) (there There, failed, err error) {
+	crash.Soon("work-running")
+	if failed = safely(func() error { return call(ctx) }); failed == nil {
+		there, err = c.look(ctx)
+		return there, nil, err
+	}
+	there, err = c.settled(ctx)
+	return there, failed, err
+}
+
+// create creates it. A binding that exists and whose credentials nobody knows is deleted first.
+func (c *calls) create(ctx context.Context) error {
+	if !c.request.Key.IsBinding {
+		return c.backend.Create(ctx, c.request)
+	}
+	backend, err := c.bindings()
+	if err != nil {
+		return err
+	}
+	there, err := backend.LookBinding(ctx, c.request)
+	if err == nil && there == Whole {
+		err = backend.DeleteBinding(ctx, c.request)
+	}
+	if err != nil {
+		return err
+	}
+	credentials, err := backend.CreateBinding(ctx, c.request)
+	if err != nil {
+		return err
+	}
+	return c.keep(credentials)
+}
+
+func (c *calls) delete(ctx context.Context) error {
+	c.binding = nil
+	if !c.request.Key.IsBinding {
+		return c.backend.Delete(ctx, c.request)
+	}
+	backend, err := c.bindings()
+	if err != nil {
+		return err
+	}
+	return backend.DeleteBinding(ctx, c.request)
+}

@@ -1,0 +1,147 @@
+package broker
+
+import (
+	"encoding/json"
+	"errors"
+	"fmt"
+
+	"pippinterm/osb"
+)
+
+// A Catalogue is what a broker sells: the document that it serves, and how each plan works.
+type Catalogue struct {
+	document    []byte
+	instances   map[plan]osb.Mode
+	bindings    map[plan]osb.Mode
+	versions    map[plan]string
+	retrievable map[osb.ID]bool // services whose bindings can be fetched
+}
+
+type plan struct{ service, plan osb.ID }
+
+// ErrRotatable reports a catalogue that promises binding rotation, which this broker doesn't serve.
+var ErrRotatable = errors.New("binding_rotatable is true, and rotation isn't served")
+
+// NewCatalogue reads a document as osb.CheckCatalogue does. If sellsBindings is false, no service may be bindable.
+//
+// Errors: those of osb.CheckCatalogue, osb.BindingModes and osb.ServedCatalogue, and ErrRotatable.
+func NewCatalogue(document []byte, sellsBindings bool) (*Catalogue, error) {
+	serves := osb.Endpoints{Bindings: sellsBindings, FetchingBindings: sellsBindings}
+	if err := osb.CheckCatalogue(document, serves); err != nil {
+		return nil, err
+	}
+	instances, err := osb.CataloguePlans(document)
+	if err != nil {
+		return nil, err
+	}
+	bindings, err := osb.BindingModes(document)
+	if err != nil {
+		return nil, err
+	}
+	if !sellsBindings {
+		bindings = nil
+	}
+	c := &Catalogue{instances: modesOf(instances), bindings: modesOf(bindings)}
+	if c.document, err = osb.ServedCatalogue(document); err != nil {
+		return nil, err
+	}
+	return c, c.readRest(document)
+}
+
+// readRest reads the versions of plans and which bindings can be fetched.
+func (c *Catalogue) readRest(document []byte) (err error) {
+	if c.versions, err = versionsOf(document, c.instances); err != nil {
+		return err
+	}
+	c.retrievable = map[osb.ID]bool{}
+	for it := range c.bindings {
+		if c.retrievable[it.service], err = osb.BindingsRetrievable(document, it.service); err != nil {
+			return err
+		}
+	}
+	return checkRotation(document)
+}
+
+func versionsOf(document []byte, modes map[plan]osb.Mode) (map[plan]string, error) {
+	versions := map[plan]string{}
+	for it := range modes {
+		version, err := osb.PlanVersion(document, it.service, it.plan)
+		switch {
+		case errors.Is(err, osb.ErrNoPlanVersion):
+		case err != nil:
+			return nil, err
+		default:
+			versions[it] = version
+		}
+	}
+	return versions, nil
+}
+
+func checkRotation(document []byte) error {
+	type rotatable struct {
+		BindingRotatable bool `json:"binding_rotatable"`
+	}
+	var read struct {
+		Services []struct {
+			Plans []rotatable `json:"plans"`
+			rotatable
+		} `json:"services"`
+	}
+	if err := json.Unmarshal(document, &read); err != nil {
+		return fmt.Errorf("binding_rotatable can't be read: %w", err)
+	}
+	for _, service := range read.Services {
+		if service.BindingRotatable {
+			return ErrRotatable
+		}
+		for _, plan := range service.Plans {
+			if plan.BindingRotatable {
+				return ErrRotatable
+			}
+		}
+	}
+	return nil
+}
+
+func modesOf(plans []osb.Plan) map[plan]osb.Mode {
+	modes := map[plan]osb.Mode{}
+	for _, it := range plans {
+		mode := osb.ModeSync
+		if it.IsAsynchronous {
+			mode = osb.ModeAsync
+		}
+		modes[plan{it.Service, it.Plan}] = mode
+	}
+	return modes
+}
+
+// Document is the document that is served.
+func (c *Catalogue) Document() []byte { return c.document }
+
+// mode is how a plan works: for an instance, or for a binding. It is osb.ModeNone if the plan isn't sold, or isn't
+// bindable.
+func (c *Catalogue) mode(isBinding bool, of plan) osb.Mode {
+	modes := c.instances
+	if isBinding {
+		modes = c.bindings
+	}
+	if mode, isSold := modes[of]; isSold {
+		return mode
+	}
+	return osb.ModeNone
+}
+
+// fits is whether a holding can come about under this key with these plans.
+func (c *Catalogue) fits(key Key, holding osb.Holding) bool {
+	work, isPending := holding.Work()
+	if isPending && work.ID != key.ID() {
+		return false
+	}
+	mode := osb.ModeNone
+	if row, isHeld := holding.Row(); isHeld {
+		mode = c.mode(key.IsBinding, plan{row.Service, row.Plan})
+	} else if isPending {
+		mode = c.mode(key.IsBinding, plan{work.Service, work.Plan})
+	}
+	return holding.Fits(mode)
+}

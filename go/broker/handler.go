@@ -1,0 +1,247 @@
+package broker
+
+import (
+	"context"
+	"errors"
+	"fmt"
+	"io"
+	"math/rand"
+	"net"
+	"net/http"
+	"strconv"
+	"sync"
+	"sync/atomic"
+	"time"
+
+	"pippinterm/osb"
+)
+
+// A Config is what a Handler is made of, beside its service.
+type Config struct {
+	Users       *Users
+	LongestBody int     // in bytes, 1 or more; a longer body is answered with 413
+	AtOnce      int     // so many requests are carried out at once, 1 or more; others wait
+	Limiter     Limiter // of failed logins, or nil for no limit
+	// Touch is called with a key that somebody has to go on with: Sweeper.Touch.
+	Touch    func(Key)
+	Observer Observer
+}
+
+// A Handler answers over HTTP. Requests are carried out with the context that it was made with: a platform that goes
+// away cancels nothing.
+type Handler struct {
+	Config
+	ctx         context.Context
+	service     *Service
+	known       known
+	reading     chan struct{} // a place for each body that is read
+	slots       chan struct{} // a place for each request that is carried out
+	isStopping  atomic.Bool
+	first, next uint64   // of which the ids of requests that have none are made
+	bodies      sync.Map // of answers: osb.Answer to []byte
+}
+
+// NewHandler makes a handler over a service.
+func NewHandler(ctx context.Context, service *Service, config Config) (*Handler, error) {
+	if config.Users == nil || config.Touch == nil || config.Observer == nil {
+		return nil, errors.New("broker: a handler needs Users, Touch and an Observer")
+	}
+	if config.LongestBody < 1 || config.AtOnce < 1 {
+		return nil, errors.New("broker: LongestBody and AtOnce are 1 or more")
+	}
+	return &Handler{
+		Config: config, ctx: ctx, service: service,
+		reading: make(chan struct{}, config.AtOnce),
+		slots:   make(chan struct{}, config.AtOnce),
+		first:   rand.New(rand.NewSource(time.Now().UnixNano())).Uint64(),
+	}, nil
+}
+
+// Stop has every request from now on answered with 503.
+func (h *Handler) Stop() { h.isStopping.Store(true) }
+
+// An exchange is one request while it is being answered.
+type exchange struct {
+	Exchange
+	request *http.Request
+	header  http.Header // of the answer
+}
+
+// A reply is what is answered over HTTP. Every body is JSON.
+type reply struct {
+	status int
+	body   []byte
+}
+
+// ServeHTTP answers one request.
+func (h *Handler) ServeHTTP(w http.ResponseWriter, r *http.Request) {
+	began := time.Now()
+	x := &exchange{request: r, header: w.Header(), Exchange: Exchange{
+		RequestID: h.requestID(r), Route: "other", Method: atMost(r.Method, 20), Target: atMost(r.RequestURI, 1000),
+		Address: hostOf(r.RemoteAddr), Traceparent: first(r.Header, "Traceparent"),
+		VcapRequest: first(r.Header, "X-Vcap-Request-Id"),
+	}}
+	x.header[requestIdentity] = []string{x.RequestID}
+	x.header["Content-Type"] = jsonType
+	if len(r.TransferEncoding) > 0 { // no request follows a body whose end the sender may see elsewhere
+		x.header.Set("Connection", "close")
+	}
+	given := h.answer(x)
+	w.WriteHeader(given.status)
+	_, _ = w.Write(given.body) // a platform that has gone isn't told
+	x.Status, x.Duration = given.status, time.Since(began)
+	h.Observer.Answered(x.Exchange)
+}
+
+const requestIdentity = "X-Broker-Api-Request-Identity" // as net/http writes it
+
+var jsonType = []string{osb.ContentType}
+
+// answer decides on what is answered. The headers are judged before any of the body is read.
+func (h *Handler) answer(x *exchange) reply {
+	if h.isStopping.Load() {
+		return reply{http.StatusServiceUnavailable, stopping}
+	}
+	if refused, ok := h.admit(x); !ok {
+		return refused
+	}
+	if osb.AsksForCatalogue("", x.request.RequestURI) {
+		return h.catalogue(x)
+	}
+	body, err := h.body(x.request)
+	if err != nil { // it was cut on its way, or came too slowly
+		x.header.Set("Connection", "close")
+		return h.told(x, Answered{Answer: osb.Answer{Status: http.StatusRequestTimeout, Body: osb.BodyOtherError}})
+	}
+	asked, err := h.read(x, body)
+	if err != nil {
+		return h.refused(x, err)
+	}
+	return h.carriedOut(x, asked)
+}
+
+// body reads the body, and of one that is too long one byte more than is allowed, which the library refuses.
+func (h *Handler) body(r *http.Request) ([]byte, error) {
+	if r.ContentLength == 0 {
+		return nil, nil
+	}
+	h.reading <- struct{}{}
+	defer func() { <-h.reading }()
+	return io.ReadAll(io.LimitReader(r.Body, int64(h.LongestBody)+1))
+}
+
+// catalogue answers the document of the catalogue.
+func (h *Handler) catalogue(x *exchange) reply {
+	x.Route = "catalog"
+	if x.request.Method != http.MethodGet {
+		x.header.Set("Allow", http.MethodGet)
+		return h.refused(x, osb.ErrRefusedMethod)
+	}
+	return reply{http.StatusOK, h.service.catalogue.document}
+}
+
+// carriedOut carries a request out, and has gone on with what isn't finished.
+func (h *Handler) carriedOut(x *exchange, asked Asked) reply {
+	h.slots <- struct{}{}
+	defer func() { <-h.slots }()
+	var answered Answered
+	err := safely(func() (err error) {
+		answered, err = h.service.Handle(h.ctx, asked)
+		return err
+	})
+	if err != nil {
+		return h.failed(x, fmt.Errorf("%v: %w", asked.Key, err))
+	}
+	h.follow(x, asked, answered)
+	return h.told(x, answered)
+}
+
+// follow has somebody go on with a key: an operation has begun, or work is pending whose worker may be dead. After the
+// deletion of an instance was put off, it deletes the bindings whose creation has failed.
+func (h *Handler) follow(x *exchange, asked Asked, answered Answered) {
+	kind, status := asked.Asked.Kind, answered.Status
+	isConcurrent := answered.Body == osb.BodyConcurrencyError
+	switch {
+	case kind == osb.KindProvision && (status == http.StatusAccepted || status == http.StatusServiceUnavailable),
+		kind == osb.KindDeprovision && (status == http.StatusAccepted || isConcurrent),
+		kind == osb.KindPoll && answered.Body == osb.BodyInProgress:
+		h.Touch(asked.Key)
+	}
+	if kind != osb.KindDeprovision || !isConcurrent || asked.Key.IsBinding {
+		return
+	}
+	if err := safely(func() error { return h.service.UnbindFailed(h.ctx, asked.Key.Instance) }); err != nil {
+		h.report(x, "a binding whose creation has failed wasn't deleted", err)
+	}
+}
+
+// admit judges who asks, and which version is spoken.
+func (h *Handler) admit(x *exchange) (reply, bool) {
+	if h.Limiter != nil && !h.Limiter.Allow(x.Address) && !h.known.has(x.Address) {
+		x.header.Set("Retry-After", "3")
+		return reply{http.StatusServiceUnavailable, tooMany}, false
+	}
+	user, err := h.Users.judge(x.request.Header["Authorization"])
+	if errors.Is(err, osb.ErrUnauthorized) {
+		if h.Limiter != nil {
+			h.Limiter.Failed(x.Address)
+		}
+		x.header.Set("WWW-Authenticate", `Basic realm="service broker", charset="UTF-8"`)
+		return h.told(x, Answered{Answer: osb.Answer{Status: http.StatusUnauthorized, Body: osb.BodyOtherError}}), false
+	}
+	if err == nil {
+		x.User = user
+		h.known.add(x.Address)
+		err = version(x.request.Header["X-Broker-Api-Version"])
+	}
+	if err != nil {
+		return h.refused(x, err), false
+	}
+	return reply{}, true
+}
+
+// version judges the header X-Broker-API-Version. One that stands twice is judged as one with both values.
+func version(values []string) error {
+	switch len(values) {
+	case 0:
+		return osb.APIVersion(nil)
+	case 1:
+		if values[0] == osb.VersionSent {
+			return nil
+		}
+		return osb.APIVersion(&values[0])
+	}
+	joined := values[0] + ", " + values[1]
+	return osb.APIVersion(&joined)
+}
+
+// requestID is the id that the platform gave the request, or one that is made up here.
+func (h *Handler) requestID(r *http.Request) string {
+	if given := r.Header[requestIdentity]; len(given) == 1 && len(given[0]) <= 200 && osb.RequestIdentity(given[0]) == nil {
+		return given[0]
+	}
+	return strconv.FormatUint(h.first, 16) + "-" + strconv.FormatUint(atomic.AddUint64(&h.next, 1), 16)
+}
+
+// hostOf is the host of an address HOST:PORT.
+func hostOf(address string) string {
+	host, _, err := net.SplitHostPort(address)
+	if err != nil {
+		return address
+	}
+	return host
+}
+
+func first(header http.Header, name string) string {
+	if values := header[name]; len(values) > 0 {
+		return atMost(values[0], 200)
+	}
+	return ""
+}
+
+func atMost(text string, bytes int) string {
+	if len(text) > bytes {
+		return text[:bytes]
+	}
+	return text
+}

@@ -1,0 +1,553 @@
+package broker_test
+
+import (
+	"bytes"
+	"context"
+	"encoding/base64"
+	"encoding/json"
+	"errors"
+	"fmt"
+	"io"
+	"math/rand"
+	"net/http"
+	"net/http/httptest"
+	"path/filepath"
+	"strings"
+	"sync"
+	"testing"
+	"testing/iotest"
+	"time"
+
+	"pippinterm/broker"
+	"pippinterm/broker/sqlite"
+	"pippinterm/osb"
+)
+
+// A site is a broker over a store of its own, with a sweeper that runs.
+type site struct {
+	*broker.Handler
+	shelf    *shelf
+	store    *sqlite.Store
+	observed *observed
+}
+
+// A setting changes how a site is made.
+type setting struct {
+	atOnce  int
+	over    func(*shelf) broker.Backend
+	rules   broker.Rules
+	limiter broker.Limiter
+	users   map[string][]string
+}
+
+func newSite(t *testing.T, s setting) *site {
+	t.Helper()
+	ctx := context.Background()
+	it := &site{shelf: newShelf(func() int { return 9 }), observed: &observed{}}
+	var err error
+	if it.store, err = sqlite.Open(ctx, filepath.Join(t.TempDir(), "store"), it.observed); err != nil {
+		t.Fatal(err)
+	}
+	t.Cleanup(func() { _ = it.store.Close() })
+	backend := broker.Backend(it.shelf)
+	if s.over != nil {
+		backend = s.over(it.shelf)
+	}
+	service := broker.NewService(catalogueFor(t, catalogue), it.store, backend, newMemoryLocks(), s.rules, it.observed)
+	sweeper := broker.NewSweeper(service, it.observed)
+	stop, cancel := context.WithCancel(ctx)
+	swept := make(chan struct{})
+	go func() {
+		defer close(swept)
+		sweeper.Run(ctx, stop, 2, 10*time.Millisecond)
+	}()
+	t.Cleanup(func() { cancel(); <-swept })
+	if s.users == nil {
+		s.users = map[string][]string{"u": {"p"}}
+	}
+	users, err := broker.NewUsers(s.users)
+	if err != nil {
+		t.Fatal(err)
+	}
+	it.Handler, err = broker.NewHandler(ctx, service, broker.Config{
+		Users: users, LongestBody: 1000, AtOnce: s.atOnce + 1, Touch: sweeper.Touch, Observer: it.observed,
+		Limiter: s.limiter,
+	})
+	if err != nil {
+		t.Fatal(err)
+	}
+	return it
+}
+
+// observed keeps what an Observer is told.
+type observed struct {
+	broker.Silent
+	turn      sync.Mutex
+	exchanges []broker.Exchange
+	failures  []broker.Failure
+}
+
+func (o *observed) Answered(x broker.Exchange) {
+	o.turn.Lock()
+	defer o.turn.Unlock()
+	o.exchanges = append(o.exchanges, x)
+}
+
+func (o *observed) Failed(f broker.Failure) {
+	o.turn.Lock()
+	defer o.turn.Unlock()
+	o.failures = append(o.failures, f)
+}
+
+func (o *observed) last() broker.Exchange {
+	o.turn.Lock()
+	defer o.turn.Unlock()
+	return o.exchanges[len(o.exchanges)-1]
+}
+
+const (
+	now, later, bindLater = "c1", "c2", "c3"
+	instances             = "/v2/service_instances/"
+)
+
+// names are the query of a deletion.
+func names(plan string) string {
+	return fmt.Sprintf("?service_id=%v&plan_id=%v", id("a0"), id(plan))
+}
+
+// bodyOf is the body of a Provision, with these members besides.
+func bodyOf(plan, further string) string {
+	return fmt.Sprintf(`{"service_id":"%v","plan_id":"%v","organization_guid":"o","space_guid":"s"%s}`,
+		id("a0"), id(plan), further)
+}
+
+// ask sends a request, which may be changed first, and returns the answer with its body.
+func (s *site) ask(method, target, body string, change ...func(*http.Request)) (*http.Response, string) {
+	r := httptest.NewRequest(method, target, strings.NewReader(body))
+	r.SetBasicAuth("u", "p")
+	r.Header.Set("X-Broker-API-Version", "2.17")
+	for _, it := range change {
+		it(r)
+	}
+	given := httptest.NewRecorder()
+	s.ServeHTTP(given, r)
+	return given.Result(), given.Body.String()
+}
+
+// expect asks, and checks the status. It returns the body.
+func (s *site) expect(t *testing.T, status int, method, target, body string, change ...func(*http.Request)) string {
+	t.Helper()
+	given, text := s.ask(method, target, body, change...)
+	if given.StatusCode != status {
+		t.Fatalf("%s %s: %d %s, and %d is wanted", method, target, given.StatusCode, text, status)
+	}
+	var object map[string]any
+	if err := json.Unmarshal([]byte(text), &object); err != nil {
+		t.Fatalf("%s %s: %q isn't an object: %v", method, target, text, err)
+	}
+	return text
+}
+
+// until asks again until the body has this text.
+func (s *site) until(t *testing.T, text, method, target string) string {
+	t.Helper()
+	for end := time.Now().Add(20 * time.Second); ; time.Sleep(2 * time.Millisecond) {
+		_, body := s.ask(method, target, "")
+		if strings.Contains(body, text) {
+			return body
+		}
+		if time.Now().After(end) {
+			t.Fatalf("%s %s: %s, and %s is wanted", method, target, body, text)
+		}
+	}
+}
+
+func header(name, value string) func(*http.Request) {
+	return func(r *http.Request) { r.Header.Set(name, value) }
+}
+
+func TestRefusals(t *testing.T) {
+	s := newSite(t, setting{})
+	twice := func(r *http.Request) { r.Header.Add("Authorization", r.Header.Get("Authorization")) }
+	for _, it := range []struct {
+		name, method, target, body string
+		change                     func(*http.Request)
+		status                     int
+	}{
+		{"nobody", "GET", "/v2/catalog", "", func(r *http.Request) { r.Header.Del("Authorization") }, 401},
+		{"somebody else", "GET", "/v2/catalog", "", func(r *http.Request) { r.SetBasicAuth("u", "q") }, 401},
+		{"two logins", "GET", "/v2/catalog", "", twice, 401},
+		{"no version", "GET", "/v2/catalog", "", func(r *http.Request) { r.Header.Del("X-Broker-API-Version") }, 412},
+		{"another version", "GET", "/v2/catalog", "", header("X-Broker-API-Version", "3.0"), 412},
+		{"an older 2.x", "GET", "/v2/catalog", "", header("X-Broker-API-Version", "2.11"), 200},
+		{"no such target", "GET", "/v3", "", nil, 404},
+		{"another method", "POST", instances + "i", "", nil, 405},
+		{"another method of a binding", "POST", instances + "i/service_bindings/b", "", nil, 405},
+		{"too long", "PUT", instances + "i", bodyOf(now, strings.Repeat(" ", 1000)), nil, 413},
+		{"no JSON", "PUT", instances + "i", "{", nil, 400},
+		{"no service", "PUT", instances + "i", `{"plan_id":"p","organization_guid":"o","space_guid":"s"}`, nil, 400},
+		{"an unknown plan", "PUT", instances + "i", bodyOf("ff", ""), nil, 400},
+		{"async wanted", "PUT", instances + "i", bodyOf(later, ""), nil, 422},
+		{"a predecessor", "PUT", instances + "i/service_bindings/b", bodyOf(now, `,"predecessor_binding_id":"a"`), nil, 400},
+	} {
+		t.Run(it.name, func(t *testing.T) {
+			if it.change == nil {
+				it.change = func(*http.Request) {}
+			}
+			s.expect(t, it.status, it.method, it.target, it.body, it.change)
+		})
+	}
+	if len(s.shelf.things) > 0 {
+		t.Errorf("%v was created", s.shelf.things)
+	}
+}
+
+// A body that ends too early is answered with 408, and one that nobody may send isn't read.
+func TestBodies(t *testing.T) {
+	s := newSite(t, setting{})
+	cut := func(r *http.Request) { r.Body, r.ContentLength = io.NopCloser(iotest.ErrReader(errors.New("cut"))), 10 }
+	given, _ := s.ask("PUT", instances+"i", "", cut)
+	if given.StatusCode != 408 || given.Header.Get("Connection") != "close" {
+		t.Errorf("%d, %v", given.StatusCode, given.Header)
+	}
+	unread := func(r *http.Request) {
+		r.Body, r.ContentLength = io.NopCloser(iotest.ErrReader(errors.New("it was read"))), 10
+		r.SetBasicAuth("u", "q")
+	}
+	if given, _ := s.ask("PUT", instances+"i", "", unread); given.StatusCode != 401 {
+		t.Errorf("%d to a body of nobody", given.StatusCode)
+	}
+}
+
+// The life of an instance and a binding, at once and later.
+func TestLives(t *testing.T) {
+	for plan, isLater := range map[string]bool{now: false, later: true, bindLater: true} {
+		t.Run(plan, func(t *testing.T) {
+			s := newSite(t, setting{})
+			one, query := instances+"my-instance", "?accepts_incomplete=true"
+			given, _ := s.ask("PUT", one+query, bodyOf(plan, `,"parameters":{"size":1}`))
+			if given.StatusCode == 202 {
+				s.until(t, "succeeded", "GET", one+"/last_operation")
+			} else if given.StatusCode != 201 {
+				t.Fatal(given.Status)
+			}
+			s.expect(t, 200, "PUT", one+query, bodyOf(plan, `,"parameters":{"size":1}`))
+			s.expect(t, 409, "PUT", one+query, bodyOf(plan, `,"parameters":{"size":2}`))
+
+			bound := one + "/service_bindings/b"
+			s.expect(t, 404, "GET", bound, "")
+			given, first := s.ask("PUT", bound+query, bodyOf(plan, ""))
+			if isLater {
+				s.until(t, "succeeded", "GET", bound+"/last_operation")
+				first = s.expect(t, 200, "GET", bound, "")
+			} else if given.StatusCode != 201 {
+				t.Fatal(given.Status)
+			}
+			if !strings.Contains(first, `"credentials":"token 1"`) {
+				t.Errorf("no credentials: %s", first)
+			}
+			if again := s.expect(t, 200, "PUT", bound+query, bodyOf(plan, "")); again != first {
+				t.Errorf("other credentials: %s, %s", first, again)
+			}
+			s.expect(t, 422, "DELETE", one+names(plan)+"&accepts_incomplete=true", "")
+			s.ask("DELETE", bound+names(plan)+"&accepts_incomplete=true", "")
+			s.until(t, "{", "GET", bound+"/last_operation")
+			for status := 0; status != 410; {
+				given, _ := s.ask("GET", bound+"/last_operation", "")
+				status = given.StatusCode
+			}
+			s.expect(t, 409, "PUT", bound+query, bodyOf(plan, ""))
+			s.ask("DELETE", one+names(plan)+"&accepts_incomplete=true", "")
+			for status := 0; status != 410; {
+				given, _ := s.ask("GET", one+"/last_operation", "")
+				status = given.StatusCode
+			}
+			if len(s.shelf.things) > 0 {
+				t.Errorf("left: %v", s.shelf.things)
+			}
+		})
+	}
+}
+
+// A held backend creates nothing until it is released.
+type waiting struct {
+	*shelf
+	begun   chan broker.Request
+	release chan struct{}
+}
+
+func (w waiting) Create(ctx context.Context, request broker.Request) error {
+	w.begun <- request
+	<-w.release
+	return w.shelf.Create(ctx, request)
+}
+
+// While work is pending, other requests of the instance are answered at once. The backend gets the whole request.
+func TestPending(t *testing.T) {
+	one := waiting{begun: make(chan broker.Request, 1), release: make(chan struct{})}
+	s := newSite(t, setting{atOnce: 9, over: func(s *shelf) broker.Backend { one.shelf = s; return one }})
+	identity := "cloudfoundry " + base64.StdEncoding.EncodeToString([]byte(`{"user_id":"me"}`))
+	made := make(chan int)
+	go func() {
+		given, _ := s.ask("PUT", instances+"i", bodyOf(now, `,"parameters":{"a":1.0}`),
+			header("X-Broker-API-Originating-Identity", identity), header("X-Broker-API-Request-Identity", "r-1"))
+		made <- given.StatusCode
+	}()
+	got := <-one.begun
+	if got.InstanceID != "i" || string(got.Member("parameters")) != `{"a":1.0}` || got.RequestID != "r-1" ||
+		got.Identity == nil || got.Identity.Platform != "cloudfoundry" || string(got.Identity.Value) != `{"user_id":"me"}` {
+		t.Errorf("the backend got %+v", got)
+	}
+	s.expect(t, 503, "PUT", instances+"i", bodyOf(now, `,"parameters":{"a":1.0}`))
+	s.expect(t, 422, "DELETE", instances+"i"+names(now), "")
+	if body := s.expect(t, 200, "GET", instances+"i/last_operation", ""); !strings.Contains(body, "in progress") {
+		t.Error(body)
+	}
+	s.expect(t, 503, "PUT", instances+"i/service_bindings/b", bodyOf(now, ""))
+	close(one.release)
+	if status := <-made; status != 201 {
+		t.Error(status)
+	}
+	s.Stop()
+	s.expect(t, 503, "GET", "/v2/catalog", "")
+}
+
+// As many requests are carried out at once as may be: others wait.
+func TestAtOnce(t *testing.T) {
+	one := waiting{begun: make(chan broker.Request, 1), release: make(chan struct{})}
+	s := newSite(t, setting{atOnce: 0, over: func(s *shelf) broker.Backend { one.shelf = s; return one }})
+	made := make(chan int, 2)
+	create := func(of string) {
+		given, _ := s.ask("PUT", instances+of, bodyOf(now, ""))
+		made <- given.StatusCode
+	}
+	go create("i")
+	<-one.begun
+	go create("j")
+	select {
+	case <-one.begun:
+		t.Error("two are carried out at once")
+	case <-time.After(50 * time.Millisecond):
+	}
+	close(one.release)
+	if one, other := <-made, <-made; one != 201 || other != 201 {
+		t.Error(one, other)
+	}
+}
+
+// refusing is a backend that refuses and fails.
+type refusing struct {
+	*shelf
+	failure error
+}
+
+func (r refusing) Create(context.Context, broker.Request) error { return r.failure }
+
+func TestFailures(t *testing.T) {
+	for _, it := range []struct {
+		name    string
+		failure error
+		status  int
+		want    []string
+		absent  string
+	}{
+		{"rejected", &broker.Rejected{Status: 400, Description: "no such size"}, 400, []string{"no such size"}, ""},
+		{"a code", &broker.Rejected{Status: 422, Code: "Quota", Description: "all used"}, 422,
+			[]string{`"error":"Quota"`, "all used"}, ""},
+		{"the standard's code", &broker.Rejected{Status: 422, Code: "ConcurrencyError", Description: "x"}, 422, nil,
+			"ConcurrencyError"},
+		{"public", broker.Public(errors.New("secret"), "the disk is full"), 500, []string{"the disk is full"}, "secret"},
+		{"any other", errors.New("secret"), 500, nil, "secret"},
+		{"a panic", nil, 500, nil, "boom"},
+	} {
+		t.Run(it.name, func(t *testing.T) {
+			s := newSite(t, setting{over: func(s *shelf) broker.Backend {
+				if it.failure == nil {
+					return panicking{s}
+				}
+				return refusing{s, it.failure}
+			}})
+			body := s.expect(t, it.status, "PUT", instances+"i", bodyOf(now, ""))
+			for _, text := range it.want {
+				if !strings.Contains(body, text) {
+					t.Errorf("%s: there is no %s", body, text)
+				}
+			}
+			if it.absent != "" && strings.Contains(body, it.absent) {
+				t.Errorf("%s: there is %s", body, it.absent)
+			}
+			if s.observed.failures == nil {
+				t.Error("nobody was told")
+			}
+			given, body := s.ask("PUT", instances+"j?accepts_incomplete=true", bodyOf(later, ""))
+			if given.StatusCode != 202 {
+				t.Fatal(given.Status, body)
+			}
+			body = s.until(t, "failed", "GET", instances+"j/last_operation")
+			if it.name != "any other" && it.name != "a panic" && !strings.Contains(body, "description") {
+				t.Errorf("%s has no description", body)
+			}
+		})
+	}
+}
+
+type panicking struct{ *shelf }
+
+func (panicking) Create(context.Context, broker.Request) error { panic("boom") }
+
+// The creation of a later plan waits for its first Poll, if that is the rule, and fails after a while without one.
+func TestFirstPoll(t *testing.T) {
+	s := newSite(t, setting{rules: broker.Rules{FirstPoll: true, WaitForPoll: time.Hour}})
+	s.expect(t, 202, "PUT", instances+"i?accepts_incomplete=true", bodyOf(later, ""))
+	stats, err := s.store.Stats(context.Background())
+	if err != nil || stats.Waiting != 1 || s.shelf.there(keyOf("i")) != broker.None {
+		t.Errorf("%+v, %v", stats, err)
+	}
+	s.until(t, "succeeded", "GET", instances+"i/last_operation")
+
+	s = newSite(t, setting{rules: broker.Rules{FirstPoll: true}})
+	s.expect(t, 202, "PUT", instances+"i?accepts_incomplete=true", bodyOf(later, ""))
+	for end := time.Now().Add(20 * time.Second); ; time.Sleep(time.Millisecond) {
+		held, err := s.store.Read(context.Background(), keyOf("i"))
+		if row, _ := held.Holding.Row(); err != nil || row.Phase == osb.PhaseFailed {
+			break
+		}
+		if time.Now().After(end) {
+			t.Fatal("it waits for ever")
+		}
+	}
+	body := s.expect(t, 200, "GET", instances+"i/last_operation", "")
+	if !strings.Contains(body, "failed") || !strings.Contains(body, "polled in time") {
+		t.Error(body)
+	}
+}
+
+func keyOf(text string) broker.Key {
+	number, err := osb.IDOfText(text)
+	must(err)
+	return broker.InstanceKey(number)
+}
+
+// After the deletion of an instance was put off, its bindings whose creation has failed are deleted, so that it can be
+// deleted later. A binding that exists stays.
+func TestFailedBindings(t *testing.T) {
+	s := newSite(t, setting{over: func(s *shelf) broker.Backend { return unbindable{s} }})
+	one := instances + "i"
+	s.expect(t, 201, "PUT", one, bodyOf(bindLater, ""))
+	s.expect(t, 202, "PUT", one+"/service_bindings/b?accepts_incomplete=true", bodyOf(bindLater, ""))
+	s.until(t, "failed", "GET", one+"/service_bindings/b/last_operation")
+	s.expect(t, 422, "DELETE", one+names(bindLater), "")
+	for end := time.Now().Add(20 * time.Second); ; time.Sleep(time.Millisecond) {
+		if given, _ := s.ask("DELETE", one+names(bindLater), ""); given.StatusCode == 200 {
+			break
+		}
+		if time.Now().After(end) {
+			t.Fatal("it can't be deleted")
+		}
+	}
+}
+
+type unbindable struct{ *shelf }
+
+func (unbindable) CreateBinding(context.Context, broker.Request) (json.RawMessage, error) {
+	return nil, errors.New("no")
+}
+
+// Each of two passwords of a user is valid, and so is another user's.
+func TestUsers(t *testing.T) {
+	s := newSite(t, setting{users: map[string][]string{"u": {"p", "new"}, "v": {"w"}}})
+	for _, it := range []struct {
+		user, password string
+		status         int
+	}{{"u", "p", 200}, {"u", "new", 200}, {"v", "w", 200}, {"v", "p", 401}, {"u", "", 401}} {
+		login := func(r *http.Request) { r.SetBasicAuth(it.user, it.password) }
+		s.expect(t, it.status, "GET", "/v2/catalog", "", login)
+		if it.status == 200 && s.observed.last().User != it.user {
+			t.Errorf("the log has the user %q", s.observed.last().User)
+		}
+	}
+	for _, wrong := range []map[string][]string{nil, {"u": nil}, {"u": {""}}, {"": {"p"}}, {"a:b": {"p"}}, {"u": {"\xff"}}} {
+		if _, err := broker.NewUsers(wrong); err == nil || strings.Contains(err.Error(), "\xff") {
+			t.Errorf("%q: %v", wrong, err)
+		}
+	}
+}
+
+// few lets one login fail.
+type few struct{ left int }
+
+func (f *few) Allow(string) bool { return f.left > 0 }
+func (f *few) Failed(string)     { f.left-- }
+
+// An address whose logins have failed is answered with 503, unless somebody has logged in from it.
+func TestFailedLogins(t *testing.T) {
+	wrong := func(r *http.Request) { r.SetBasicAuth("u", "q") }
+	s := newSite(t, setting{limiter: &few{left: 1}})
+	s.expect(t, 401, "GET", "/v2/catalog", "", wrong)
+	given, _ := s.ask("GET", "/v2/catalog", "")
+	if given.StatusCode != 503 || given.Header.Get("Retry-After") == "" {
+		t.Errorf("%d, %v", given.StatusCode, given.Header)
+	}
+	s = newSite(t, setting{limiter: &few{left: 1}})
+	s.expect(t, 200, "GET", "/v2/catalog", "")
+	s.expect(t, 401, "GET", "/v2/catalog", "", wrong)
+	s.expect(t, 200, "GET", "/v2/catalog", "")
+}
+
+// What a log is told of a request.
+func TestObserved(t *testing.T) {
+	s := newSite(t, setting{})
+	s.expect(t, 201, "PUT", instances+"i?x=1", bodyOf(now, ""), header("X-Broker-API-Request-Identity", "r-2"),
+		header("Traceparent", "00-1"), header("X-Vcap-Request-Id", "v-1"))
+	got := s.observed.last()
+	got.Duration = 0
+	want := broker.Exchange{
+		RequestID: "r-2", Key: keyOf("i"), IsNamed: true, Route: "provision", Method: "PUT", Target: instances + "i?x=1",
+		Status: 201, User: "u", Address: "192.0.2.1", Traceparent: "00-1", VcapRequest: "v-1",
+	}
+	if got != want {
+		t.Errorf("%+v, and %+v is wanted", got, want)
+	}
+	given, _ := s.ask("GET", "/v2/catalog", "", header("X-Broker-API-Request-Identity", "a\nb"))
+	if made := given.Header.Get("X-Broker-API-Request-Identity"); made == "" || made == "a\nb" {
+		t.Errorf("the id is %q", made)
+	}
+}
+
+// Ten thousand hostile requests: each is answered with a 4xx, and nothing is changed.
+func TestHostile(t *testing.T) {
+	s := newSite(t, setting{})
+	chance := rand.New(rand.NewSource(1))
+	pick := func(of []string) string {
+		text := []byte(of[chance.Intn(len(of))])
+		for flips := chance.Intn(3); flips > 0 && len(text) > 0; flips-- {
+			text[chance.Intn(len(text))] = byte(chance.Intn(256))
+		}
+		return string(text)
+	}
+	targets := []string{"i", "i%2f..", "%00", strings.Repeat("a", 300), "i/last_operation", "../catalog", "",
+		"i/service_bindings/", "i/service_bindings/b/c", "i/service_bindings/%ff", "i/service_bindings/b/last_operation"}
+	methods := []string{"GET", "PUT", "DELETE", "PATCH", "POST", "TRACE", "OPTIONS", "HEAD", "BREW", "put"}
+	bodies := []string{"", "{}", "[]", `{"service_id":`, `{"service_id":1}`, "\xff", "null", strings.Repeat("[", 900),
+		`{"service_id":"s","plan_id":"p","organization_guid":"","space_guid":"s"}`, bodyOf("ff", "")}
+	for n := 0; n < 10_000; n++ {
+		s.hostile(t, methods[chance.Intn(len(methods))], pick(targets), pick(bodies))
+	}
+	stats, err := s.store.Stats(context.Background())
+	if err != nil || stats != (broker.Stats{}) || len(s.shelf.things) > 0 {
+		t.Errorf("%+v, %v, %v", stats, err, s.shelf.things)
+	}
+}
+
+func (s *site) hostile(t *testing.T, method, target, body string) {
+	t.Helper()
+	r := httptest.NewRequest("GET", "/", bytes.NewReader([]byte(body)))
+	r.Method, r.RequestURI = method, instances+target
+	r.SetBasicAuth("u", "p")
+	r.Header.Set("X-Broker-API-Version", "2.17")
+	given := httptest.NewRecorder()
+	s.ServeHTTP(given, r)
+	if given.Code < 400 || given.Code > 499 {
+		t.Errorf("%s %q %q: %d", method, target, body, given.Code)
+	}
+}

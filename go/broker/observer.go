@@ -1,0 +1,57 @@
+package broker
+
+import "time"
+
+// An Observer is told what happens, for a log and for metrics. Its methods return at once, and are called by any number
+// of goroutines. No password, no credentials and no body is handed to it.
+type Observer interface {
+	// Answered is called once for each request, after its answer was written.
+	Answered(Exchange)
+	// Failed is called if something went wrong that an operator has to know.
+	Failed(Failure)
+	// Committed is called after each commit of a store that writes several changes together, with their number.
+	Committed(changes int)
+	// Finished is called when an operation that went on after its answer has ended, well (ok) or badly.
+	Finished(key Key, ok bool)
+}
+
+// An Exchange is a request and its answer.
+type Exchange struct {
+	RequestID   string // the id that the platform gave the request, or one that was made up here
+	Key         Key    // what the path names, if IsNamed is true
+	IsNamed     bool
+	Route       string // catalog, provision, deprovision, poll, bind, unbind, poll-binding, fetch-binding, or other
+	Method      string // at most 20 bytes
+	Target      string // path and query as they came, at most 1,000 bytes
+	Status      int
+	Duration    time.Duration
+	User        string // the user that logged in, or empty
+	Address     string // the host of the client
+	Traceparent string // the headers of these names, at most 200 bytes each
+	VcapRequest string
+	Identity    string // the platform behind the header X-Broker-API-Originating-Identity, or empty
+}
+
+// A Failure is something that went wrong.
+type Failure struct {
+	Event     string // what went wrong, in a few words that don't change
+	RequestID string // of the request that is being handled, or empty
+	Key       Key    // what it is about, if IsNamed is true
+	IsNamed   bool
+	Err       error
+}
+
+// Silent is an Observer that does nothing.
+type Silent struct{}
+
+// Answered does nothing.
+func (Silent) Answered(Exchange) {}
+
+// Failed does nothing.
+func (Silent) Failed(Failure) {}
+
+// Committed does nothing.
+func (Silent) Committed(int) {}
+
+// Finished does nothing.
+func (Silent) Finished(Key, bool) {}

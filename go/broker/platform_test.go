@@ -1,0 +1,281 @@
+package broker_test
+
+import (
+	"bytes"
+	"encoding/json"
+	"fmt"
+	"net/http"
+	"net/http/httptest"
+	"strings"
+
+	"pippinterm/broker"
+	"pippinterm/osb"
+)
+
+// A network carries a request to the broker, and returns nil if no answer comes back. It is told what the platform does.
+type network interface {
+	deliver(message) *reply
+	happened(it *life, event string)
+}
+
+// A message is a request over HTTP.
+type message struct {
+	method, target string
+	body           []byte
+
+	of      broker.Key
+	attempt uint64 // of a request but a Fetch
+	isFetch bool
+}
+
+// A reply is an answer over HTTP.
+type reply struct {
+	status int
+	header http.Header
+	body   []byte
+	at     int // its number among the answers of the life, or among those to a Fetch
+}
+
+// serve has a handler answer the request.
+func (m message) serve(handler http.Handler) *reply { return m.as(handler, "u", "p") }
+
+func (m message) as(handler http.Handler, user, password string) *reply {
+	request := httptest.NewRequest(m.method, m.target, bytes.NewReader(m.body))
+	request.SetBasicAuth(user, password)
+	request.Header.Set(osb.VersionHeader, osb.VersionSent)
+	given := httptest.NewRecorder()
+	handler.ServeHTTP(given, request)
+	return &reply{status: given.Code, header: given.Header(), body: given.Body.Bytes()}
+}
+
+// A life is what a platform records of an instance or of a binding.
+type life struct {
+	key       broker.Key
+	record    osb.Record
+	isThere   bool   // whether there is a record
+	object    []byte // of a binding that is ready
+	operation *string
+}
+
+func (l *life) state() osb.State {
+	if !l.isThere {
+		return osb.StateNone
+	}
+	return l.record.State()
+}
+
+// A platform records an instance and two bindings of it, and keeps its rules (docs/binding.md).
+type platform struct {
+	network   network
+	plan      osb.Plan
+	instance  *life
+	bindings  []*life
+	isUnruly  bool // whether it keeps none of its rules
+	isRemoved bool // whether the instance is to be removed: no binding is created any more
+	sent      []message
+}
+
+func newPlatform(network network, plan osb.Plan) *platform {
+	p := &platform{network: network, plan: plan, instance: &life{key: broker.InstanceKey(id("1"))}}
+	for _, it := range []string{"b1", "b2"} {
+		p.bindings = append(p.bindings, &life{key: broker.BindingKey(id("1"), id(it))})
+	}
+	return p
+}
+
+// id is an id with these last digits.
+func id(last string) osb.ID {
+	return osb.MustParseID("00000000-0000-0000-0000-000000000000"[:36-len(last)] + last)
+}
+
+func (p *platform) all() []*life { return append([]*life{p.instance}, p.bindings...) }
+
+// step gives up what is in flight, or sends what is due.
+func (p *platform) step(it *life) {
+	if !it.isThere {
+		p.create(it)
+		return
+	}
+	if it.record.InFlight() != osb.KindNone {
+		p.timeout(it, it.record.Attempt())
+		return
+	}
+	record, sent, err := it.record.Send(it.key.ID())
+	if err != nil {
+		return // nothing is due
+	}
+	it.record = record
+	p.network.happened(it, "send")
+	p.exchange(it, sent)
+}
+
+func (p *platform) create(it *life) {
+	var sent osb.Sent
+	if !it.key.IsBinding || p.isUnruly {
+		it.record, sent = osb.Create(it.key.ID(), p.plan.Service, p.plan.Plan, true)
+	} else {
+		if p.isRemoved {
+			return
+		}
+		record, first, err := p.instance.createBinding(it.key.Binding)
+		if err != nil {
+			return // the instance isn't ready
+		}
+		it.record, sent = record, first
+	}
+	it.isThere = true
+	p.network.happened(it, "create")
+	p.exchange(it, sent)
+}
+
+func (l *life) createBinding(binding osb.ID) (osb.Record, osb.Sent, error) {
+	if !l.isThere {
+		return osb.Record{}, osb.Sent{}, osb.ErrNotReady
+	}
+	return l.record.CreateBinding(binding, true)
+}
+
+// exchange sends a request whose record is written, and takes what comes back.
+func (p *platform) exchange(it *life, sent osb.Sent) {
+	given := p.send(p.message(it, sent, false))
+	if given == nil {
+		return // it stays in flight, until it is given up
+	}
+	answer, err := osb.ReadAnswer(sent.Request.Kind, uint16(given.status), given.body)
+	if err != nil {
+		p.timeout(it, sent.Attempt)
+		return
+	}
+	taken := fmt.Sprintf("take %d", given.at)
+	object, _ := osb.ReadBinding(sent.Request.Kind, uint16(given.status), given.body)
+	if it.key.IsBinding && it.record.State() == osb.StatePolling && answer.Body == osb.BodySucceeded {
+		fetched := p.fetch(it, sent)
+		if fetched == nil {
+			p.timeout(it, sent.Attempt)
+			return
+		}
+		object, taken = fetched.body, fmt.Sprintf("take-fetched %d %d", given.at, fetched.at)
+	}
+	p.take(it, sent.Attempt, answer, object)
+	p.network.happened(it, taken)
+}
+
+// take takes an answer. The credentials are written in the transaction in which the record becomes ready.
+func (p *platform) take(it *life, attempt uint64, answer osb.Answer, object []byte) {
+	var err error
+	if it.key.IsBinding {
+		it.record, err = it.record.AnswerBinding(attempt, answer, true)
+	} else {
+		it.record, err = it.record.Answer(attempt, answer)
+	}
+	must(err)
+	if it.record.State() != osb.StateReady {
+		object = nil
+	} else if object == nil {
+		object = it.object
+	}
+	it.object = object
+}
+
+// timeout gives up a request.
+func (p *platform) timeout(it *life, attempt uint64) {
+	record, err := it.record.Timeout(attempt)
+	must(err)
+	it.record = record
+	p.network.happened(it, "timeout")
+}
+
+// fetch is the answer to a Fetch that has the object of the binding, or nil.
+func (p *platform) fetch(it *life, poll osb.Sent) *reply {
+	given := p.send(p.message(it, poll, true))
+	if given == nil {
+		return nil
+	}
+	if _, err := osb.ReadFetched(uint16(given.status), given.body); err != nil {
+		return nil
+	}
+	return given
+}
+
+func (p *platform) send(it message) *reply {
+	p.sent = append(p.sent, it)
+	return p.network.deliver(it)
+}
+
+func (p *platform) message(it *life, sent osb.Sent, isFetch bool) message {
+	request := sent.Request
+	made := message{of: it.key, attempt: sent.Attempt, isFetch: isFetch}
+	var err error
+	made.method, err = osb.WriteMethod(request.Kind)
+	must(err)
+	if !it.key.IsBinding {
+		made.target, err = osb.WriteTarget("", request, nil)
+		must(err)
+		made.body, err = osb.WriteBody(request, "org", "space", []byte(`{"parameters":{"size":1}}`))
+		must(err)
+		return made
+	}
+	names := osb.BindingNames{
+		Instance: it.key.Instance.String(), Binding: it.key.Binding.String(),
+		Service: request.Service.String(), Plan: request.Plan.String(),
+	}
+	if isFetch {
+		made.target, err = osb.WriteFetchTarget("", request, it.key.Instance, names)
+	} else {
+		made.target, err = osb.WriteBindingTarget("", request, it.key.Instance, names, nil)
+	}
+	must(err)
+	made.body, err = osb.WriteBindingBody(request.Kind, names, []byte(`{"parameters":{"role":"reader"}}`))
+	must(err)
+	return made
+}
+
+// remove has it removed, as an operator asks. An instance is removed only once all of its bindings are gone.
+func (p *platform) remove(it *life) {
+	if !it.isThere {
+		return
+	}
+	if it.key.IsBinding {
+		if record, err := it.record.Remove(); err == nil {
+			it.record, it.object = record, nil
+			p.network.happened(it, "remove")
+		}
+		return
+	}
+	allGone := true
+	for _, binding := range p.bindings {
+		allGone = allGone && (!binding.isThere || binding.record.IsGone() || p.isUnruly)
+	}
+	if record, err := it.record.RemoveIf(allGone); err == nil {
+		it.record, p.isRemoved = record, true
+		p.network.happened(it, "remove")
+	}
+}
+
+// expire gives up polling.
+func (p *platform) expire(it *life) {
+	if !it.isThere {
+		return
+	}
+	if record, err := it.record.Expire(); err == nil {
+		it.record = record
+		p.network.happened(it, "expire")
+	}
+}
+
+func must(err error) {
+	if err != nil {
+		panic(err)
+	}
+}
+
+// credentialsOf are the credentials in the object of a binding.
+func credentialsOf(object []byte) string {
+	var read struct {
+		Credentials string `json:"credentials"`
+	}
+	if json.Unmarshal(object, &read) != nil {
+		return ""
+	}
+	return strings.TrimSpace(read.Credentials)
+}

@@ -1,0 +1,375 @@
+package broker
+
+import (
+	"context"
+	"encoding/json"
+	"errors"
+	"fmt"
+	"net/http"
+	"time"
+
+	"pippinterm/broker/crash"
+	"pippinterm/osb"
+)
+
+// A Service carries requests out: it has the one order of writes. Any number of goroutines use it.
+type Service struct {
+	catalogue *Catalogue
+	store     Store
+	locks     Locks
+	worker    worker
+	observer  Observer
+	rules     Rules
+}
+
+// Rules are this project's choice (docs/instance.md).
+type Rules struct {
+	// FirstPoll is whether the creation of an asynchronous plan begins only once its last operation was polled. Any
+	// platform whose 202 is lost then has nothing that it doesn't know of.
+	FirstPoll bool
+	// WaitForPoll is how long a creation waits for its first Poll before it has failed.
+	WaitForPoll time.Duration
+}
+
+// NewService makes a service. If the backend is a LockBackend, give its locks.
+func NewService(
+	catalogue *Catalogue, store Store, backend Backend, locks Locks, rules Rules, observer Observer,
+) *Service {
+	return &Service{
+		catalogue: catalogue, store: store, locks: locks, observer: observer, rules: rules,
+		worker: worker{backend: backend, observer: observer},
+	}
+}
+
+// An Asked is what a request asks of an instance or of a binding.
+type Asked struct {
+	Key        Key
+	Asked      osb.Asked // of a binding: under the ID of the binding
+	IsFetch    bool      // whether it is the Fetch of a binding
+	Attributes osb.Digest
+	Request    json.RawMessage // of a creation: the text of its Request
+	Origin     Origin          // of a deletion
+}
+
+// An Answered is what a request is answered.
+type Answered struct {
+	osb.Answer
+	Binding     json.RawMessage // the object of a binding, which is the whole body then, or nil
+	Description string          // for a person, or empty
+	Rejected    *Rejected       // the backend's, or nil
+}
+
+// Handle carries a request out, with the work that it means, and returns the answer to send.
+//
+// The lock is taken first if it is free: then nobody else can have done the work between its record and its beginning,
+// and it needn't be read once more. If it isn't free, the store answers without it, most often that work is pending.
+func (s *Service) Handle(ctx context.Context, asked Asked) (Answered, error) {
+	if asked.IsFetch {
+		return s.fetch(ctx, asked)
+	}
+	if asked.Asked.Kind == osb.KindPoll {
+		if answered, isDone, err := s.poll(ctx, asked); err != nil || isDone {
+			return answered, err
+		}
+	}
+	lock, err := s.locks.TryLock(ctx, asked.Key)
+	if err != nil {
+		return Answered{}, err
+	}
+	defer func() {
+		if lock != nil {
+			lock.Unlock()
+		}
+	}()
+	for {
+		begun, err := s.record(ctx, asked)
+		if err != nil || begun.work == osb.WorkNone {
+			return begun.answered, err
+		}
+		if lock != nil {
+			return s.do(ctx, lock, asked.Key, begun.entry, !s.locks.CanBeLost())
+		}
+		if lock, err = s.locks.Lock(ctx, asked.Key); err != nil {
+			return Answered{}, err
+		}
+		answered, err := s.do(ctx, lock, asked.Key, begun.entry, false)
+		if !errors.Is(err, errDoneBefore) {
+			return answered, err
+		}
+		// Whoever had the lock before has done this work: it is as if the request arrived again.
+	}
+}
+
+// errDoneBefore reports that somebody else has done the work, before this worker began.
+var errDoneBefore = fmt.Errorf("%w, and was done before", ErrLostWork)
+
+// poll answers a Poll that changes nothing, which waits for nobody.
+func (s *Service) poll(ctx context.Context, asked Asked) (answered Answered, isDone bool, err error) {
+	held, err := s.read(ctx, asked.Key)
+	if err != nil {
+		return answered, false, err
+	}
+	next, begun, err := s.begin(held, asked)
+	if err != nil {
+		return answered, false, err
+	}
+	return begun.answered, next == nil, nil
+}
+
+// fetch answers the Fetch of a binding with what is stored.
+func (s *Service) fetch(ctx context.Context, asked Asked) (Answered, error) {
+	held, err := s.read(ctx, asked.Key)
+	if err != nil {
+		return Answered{}, err
+	}
+	answer, err := held.Holding.Fetch()
+	if err != nil {
+		return Answered{}, err
+	}
+	row, _ := held.Holding.Row()
+	if answer.Status == http.StatusOK && !s.catalogue.retrievable[row.Service] {
+		answer = osb.Answer{Status: http.StatusNotFound, Body: osb.BodyOtherError}
+	}
+	if answer.Status != http.StatusOK {
+		return Answered{Answer: answer}, nil
+	}
+	return s.withBinding(asked.Key, answer, held.Binding)
+}
+
+// withBinding is an answer with the object of a binding.
+func (s *Service) withBinding(key Key, answer osb.Answer, object json.RawMessage) (Answered, error) {
+	if object == nil {
+		return Answered{}, fmt.Errorf("%v is ready, and its credentials aren't stored", key)
+	}
+	return Answered{Answer: answer, Binding: object}, nil
+}
+
+// begun is what comes of a request at once.
+type begun struct {
+	answered Answered
+	work     osb.Work
+	entry    Entry // what was written, if work is due
+}
+
+// record is the first transaction of a request: it is answered, or its work becomes pending.
+func (s *Service) record(ctx context.Context, asked Asked) (given begun, err error) {
+	place := ""
+	err = s.change(ctx, asked.Key, 0, func(held Held) (next *Entry, err error) {
+		next, given, err = s.begin(held, asked)
+		if place = ""; err == nil && next != nil {
+			if place = "begin"; given.work == osb.WorkNone {
+				place = "mark"
+			}
+			crash.At(place + "-next")
+		}
+		return next, err
+	})
+	if err == nil && place != "" {
+		crash.At(place + "-written")
+	}
+	return given, err
+}
+
+// begin is what becomes of what is held, or nil if that stays, and what comes of the request at once.
+func (s *Service) begin(held Held, asked Asked) (next *Entry, given begun, err error) {
+	request, err := asked.Asked.Request(held.Holding.Row())
+	if err != nil {
+		return nil, given, err
+	}
+	holding, happened, err := s.beginHolding(held, asked, request)
+	if err != nil {
+		return nil, given, err
+	}
+	given = begun{work: happened.Work}
+	if happened.Work == osb.WorkNone {
+		if given.answered, err = s.answered(held, asked, happened.Answer); err != nil {
+			return nil, given, err
+		}
+	}
+	if holding == held.Holding {
+		return nil, given, nil
+	}
+	entry := held.Entry
+	entry.Holding = holding
+	if err := entry.begun(asked); err != nil {
+		return nil, given, err
+	}
+	given.entry = entry
+	return &entry, given, nil
+}
+
+// beginHolding asks the proved library. Nothing of an instance begins while one of its bindings is held.
+func (s *Service) beginHolding(held Held, asked Asked, request osb.Request) (osb.Holding, osb.Begun, error) {
+	mode := s.catalogue.mode(asked.Key.IsBinding, plan{request.Service, request.Plan})
+	rules := osb.Rules{FirstPoll: s.rules.FirstPoll, Attributes: asked.Attributes}
+	if asked.Key.IsBinding {
+		return held.Holding.BeginBinding(held.Instance, mode, request, rules)
+	}
+	holding, happened, err := held.Holding.Begin(mode, request, rules)
+	if err != nil || holding == held.Holding || asked.Asked.Kind == osb.KindPoll {
+		return holding, happened, err
+	}
+	anyBinding, err := held.AnyBinding()
+	if err != nil {
+		return holding, happened, err
+	}
+	return held.Holding.BeginIf(mode, request, rules, !anyBinding)
+}
+
+// answered is an answer that needs no work, with what is stored beside the holding.
+func (s *Service) answered(held Held, asked Asked, answer osb.Answer) (Answered, error) {
+	isBind := asked.Key.IsBinding && asked.Asked.Kind == osb.KindProvision
+	if isBind && answer.Status == http.StatusOK && answer.Body == osb.BodyEmpty {
+		return s.withBinding(asked.Key, answer, held.Binding)
+	}
+	if answer.Body == osb.BodyFailed {
+		return Answered{Answer: answer, Description: held.Description}, nil
+	}
+	return Answered{Answer: answer}, nil
+}
+
+// begun writes down, beside a holding that has changed, what the worker needs.
+func (e *Entry) begun(asked Asked) error {
+	e.Since = now()
+	switch {
+	case !e.Holding.IsHeld(): // only a tombstone
+		*e = Entry{Holding: e.Holding}
+	case asked.Asked.Kind == osb.KindProvision:
+		e.Request, e.Binding, e.Description = asked.Request, nil, ""
+	case asked.Asked.Kind == osb.KindDeprovision:
+		return e.deletionBegun(asked)
+	}
+	return nil
+}
+
+func (e *Entry) deletionBegun(asked Asked) error {
+	row, _ := e.Holding.Row()
+	request, err := requestOf(asked.Key, row, e.Request)
+	if err != nil {
+		return err
+	}
+	origin := asked.Origin
+	request.Deletion = &origin
+	e.Request, err = json.Marshal(request)
+	return err
+}
+
+// do does the pending work of an entry under the lock, and ends it. If isSure is true, nobody else can have done it
+// since the entry was written. Otherwise it is read once more.
+//
+// Errors: errDoneBefore, and then nothing was done; those of the store and the backend.
+func (s *Service) do(ctx context.Context, lock Lock, key Key, entry Entry, isSure bool) (answered Answered, err error) {
+	pending, isPending := entry.Holding.Work()
+	if !isPending {
+		return answered, ErrLostWork
+	}
+	fence, err := s.fence(ctx, key)
+	if err != nil {
+		return answered, err
+	}
+	if !isSure {
+		held, err := s.read(ctx, key)
+		if err != nil {
+			return answered, err
+		}
+		if now, isPending := held.Holding.Work(); !isPending || now != pending {
+			return answered, errDoneBefore
+		}
+		entry = held.Entry
+	}
+	request, err := requestOf(key, rowOf(entry.Holding), entry.Request)
+	if err != nil {
+		return answered, err
+	}
+	mode := s.catalogue.mode(key.IsBinding, plan{pending.Service, pending.Plan})
+	done, err := s.worker.do(lock.Context(ctx), osb.WorkOf(pending.Kind, mode), request)
+	if err != nil {
+		return answered, err
+	}
+	return s.end(ctx, key, fence, pending, done)
+}
+
+// rowOf is the row, or the one that the pending work would make.
+func rowOf(holding osb.Holding) osb.BrokerRow {
+	row, isHeld := holding.Row()
+	if !isHeld {
+		work, _ := holding.Work()
+		row = osb.BrokerRow{Service: work.Service, Plan: work.Plan}
+	}
+	return row
+}
+
+// end is the second transaction of a request: its work ends.
+func (s *Service) end(
+	ctx context.Context, key Key, fence int64, pending osb.Request, done result,
+) (answered Answered, err error) {
+	err = s.change(ctx, key, fence, func(held Held) (*Entry, error) {
+		if recorded, isPending := held.Holding.Work(); !isPending || recorded != pending {
+			return nil, ErrLostWork
+		}
+		crash.At("end-next")
+		entry := held.Entry
+		mode := s.catalogue.mode(key.IsBinding, plan{pending.Service, pending.Plan})
+		holding, answer, err := held.Holding.End(mode, done.outcome)
+		if err != nil {
+			return nil, err
+		}
+		entry.Holding = holding
+		entry.ended(key, done)
+		answered = Answered{Answer: answer, Description: done.description, Rejected: done.rejected}
+		if pending.Kind == osb.KindProvision && key.IsBinding && answer.Status == http.StatusCreated {
+			answered, err = s.withBinding(key, answer, entry.Binding)
+		}
+		return &entry, err
+	})
+	if err == nil {
+		crash.At("end-written")
+	}
+	return answered, err
+}
+
+// ended writes down, beside a holding whose work or operation has ended, what came of it.
+func (e *Entry) ended(key Key, done result) {
+	row, isHeld := e.Holding.Row()
+	if !e.Holding.IsHeld() {
+		*e = Entry{Holding: e.Holding}
+		return
+	}
+	e.Since = time.Time{}
+	if e.IsUnfinished() {
+		e.Since = now()
+	}
+	e.Description = done.description
+	if key.IsBinding && isHeld && row.Phase == osb.PhaseReady && e.Binding == nil {
+		e.Binding = done.binding
+	}
+}
+
+// fence is the number under which the worker of a key writes, and 0 if no lock can be lost.
+func (s *Service) fence(ctx context.Context, key Key) (int64, error) {
+	if !s.locks.CanBeLost() {
+		return 0, nil
+	}
+	return s.store.Fence(ctx, key)
+}
+
+// change is one transaction over what is held, if it fits.
+func (s *Service) change(ctx context.Context, key Key, fence int64, step Step) error {
+	return s.store.Change(ctx, key, fence, func(held Held) (*Entry, error) {
+		if !s.catalogue.fits(key, held.Holding) {
+			return nil, ErrMisfit
+		}
+		return step(held)
+	})
+}
+
+func (s *Service) read(ctx context.Context, key Key) (Held, error) {
+	held, err := s.store.Read(ctx, key)
+	if err == nil && !s.catalogue.fits(key, held.Holding) {
+		err = ErrMisfit
+	}
+	return held, err
+}
+
+// now is the time that is stored, in milliseconds.
+func now() time.Time { return time.Now().UTC().Truncate(time.Millisecond) }

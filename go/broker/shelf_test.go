@@ -1,0 +1,232 @@
+package broker_test
+
+import (
+	"context"
+	"encoding/json"
+	"errors"
+	"strconv"
+	"sync"
+	"testing"
+
+	"pippinterm/broker"
+	"pippinterm/broker/crash"
+	"pippinterm/osb"
+)
+
+// The service and its plans: instances and bindings at once, both later, and either.
+const catalogue = `{"services": [{
+	"id": "00000000-0000-0000-0000-0000000000a0", "name": "shelf", "description": "A shelf", "bindable": true,
+	"bindings_retrievable": true, "plans": [
+	{"id": "00000000-0000-0000-0000-0000000000c1", "name": "now", "description": "all at once"},
+	{"id": "00000000-0000-0000-0000-0000000000c2", "name": "later", "description": "all later",
+		"x-osb-asynchronous": true, "x-osb-asynchronous-bindings": true},
+	{"id": "00000000-0000-0000-0000-0000000000c3", "name": "bind-later", "description": "bindings later",
+		"x-osb-asynchronous-bindings": true},
+	{"id": "00000000-0000-0000-0000-0000000000c4", "name": "make-later", "description": "instances later",
+		"x-osb-asynchronous": true}]}]}`
+
+var sold = []osb.Plan{
+	{Service: id("a0"), Plan: id("c1")}, {Service: id("a0"), Plan: id("c2")},
+	{Service: id("a0"), Plan: id("c3")}, {Service: id("a0"), Plan: id("c4")},
+}
+
+func catalogueFor(t *testing.T, document string) *broker.Catalogue {
+	t.Helper()
+	made, err := broker.NewCatalogue([]byte(document), true)
+	if err != nil {
+		t.Fatal(err)
+	}
+	return made
+}
+
+func handlerFor(t *testing.T, service *broker.Service) *broker.Handler {
+	t.Helper()
+	users, err := broker.NewUsers(map[string][]string{"u": {"p"}})
+	if err != nil {
+		t.Fatal(err)
+	}
+	handler, err := broker.NewHandler(context.Background(), service, broker.Config{
+		Users: users, LongestBody: 1000, AtOnce: 4, Touch: func(broker.Key) {}, Observer: broker.Silent{},
+	})
+	if err != nil {
+		t.Fatal(err)
+	}
+	return handler
+}
+
+// A shelf is a backend in memory, which outlives its broker. Each call may fail before or after it was done.
+type shelf struct {
+	mood   func() int
+	worked func(broker.Key, broker.There, string) // is told of each change, with the credentials
+	turn   sync.Mutex
+	things map[broker.Key]thing
+	made   int
+}
+
+type thing struct {
+	there       broker.There
+	credentials string
+}
+
+func newShelf(mood func() int) *shelf {
+	worked := func(broker.Key, broker.There, string) {}
+	return &shelf{mood: mood, worked: worked, things: map[broker.Key]thing{}}
+}
+
+// credentials are those of a binding that exists, or empty.
+func (s *shelf) credentials(key broker.Key) string {
+	s.turn.Lock()
+	defer s.turn.Unlock()
+	return s.things[key].credentials
+}
+
+func (s *shelf) there(key broker.Key) broker.There {
+	s.turn.Lock()
+	defer s.turn.Unlock()
+	return s.things[key].there
+}
+
+// isCredentials is whether the object of a binding has the credentials that work.
+func (s *shelf) isCredentials(key broker.Key, object []byte) bool {
+	s.turn.Lock()
+	defer s.turn.Unlock()
+	it := s.things[key]
+	return it.there == broker.Whole && it.credentials == credentialsOf(object)
+}
+
+func (s *shelf) set(key broker.Key, to thing) {
+	s.turn.Lock()
+	if s.things[key] = to; to.there == broker.None {
+		delete(s.things, key)
+	}
+	s.turn.Unlock()
+	s.worked(key, to.there, to.credentials)
+}
+
+// maybe does it, or fails before or after.
+func (s *shelf) maybe(do func() error, mayReject bool) error {
+	switch mood := s.mood(); {
+	case mood == 0:
+		return errors.New("before")
+	case mood == 2 && mayReject:
+		return &broker.Rejected{Status: 422, Description: "too many"}
+	case mood == 1:
+		if err := do(); err != nil {
+			return err
+		}
+		return errors.New("after")
+	}
+	return do()
+}
+
+func (s *shelf) Look(_ context.Context, r broker.Request) (broker.There, error) {
+	return s.there(r.Key), nil
+}
+
+func (s *shelf) Sync(context.Context, broker.Request) error { return nil }
+
+func (s *shelf) Create(_ context.Context, r broker.Request) error {
+	return s.maybe(func() error {
+		s.set(r.Key, thing{there: broker.Part})
+		crash.At("work-half")
+		s.set(r.Key, thing{there: broker.Whole})
+		return nil
+	}, s.there(r.Key) == broker.None)
+}
+
+func (s *shelf) Delete(_ context.Context, r broker.Request) error {
+	return s.maybe(func() error {
+		s.set(r.Key, thing{there: broker.Part})
+		crash.At("work-half")
+		s.set(r.Key, thing{})
+		return nil
+	}, false)
+}
+
+func (s *shelf) LookBinding(_ context.Context, r broker.Request) (broker.There, error) {
+	return s.there(r.Key), nil
+}
+
+func (s *shelf) CreateBinding(_ context.Context, r broker.Request) (credentials json.RawMessage, err error) {
+	err = s.maybe(func() error {
+		s.set(r.Key, thing{there: broker.Part})
+		crash.At("binding-half")
+		s.made++
+		token := "token " + strconv.Itoa(s.made)
+		s.set(r.Key, thing{broker.Whole, token})
+		credentials, err = json.Marshal(token)
+		return err
+	}, s.there(r.Key) == broker.None)
+	return credentials, err
+}
+
+func (s *shelf) DeleteBinding(_ context.Context, r broker.Request) error {
+	return s.maybe(func() error {
+		s.set(r.Key, thing{there: broker.Part})
+		crash.At("binding-half")
+		s.set(r.Key, thing{})
+		return nil
+	}, false)
+}
+
+// A knowing shelf can tell the credentials of what exists.
+type knowing struct{ *shelf }
+
+func (k knowing) Credentials(_ context.Context, r broker.Request) (json.RawMessage, error) {
+	k.turn.Lock()
+	defer k.turn.Unlock()
+	return json.Marshal(k.things[r.Key].credentials)
+}
+
+// memoryLocks are broker.Locks of one process.
+type memoryLocks struct {
+	turn  sync.Mutex
+	taken map[broker.Key]chan struct{}
+}
+
+func newMemoryLocks() *memoryLocks { return &memoryLocks{taken: map[broker.Key]chan struct{}{}} }
+
+type memoryLock struct {
+	locks *memoryLocks
+	key   broker.Key
+}
+
+func (l *memoryLocks) CanBeLost() bool { return false }
+
+func (l *memoryLocks) take(key broker.Key) (broker.Lock, chan struct{}) {
+	l.turn.Lock()
+	defer l.turn.Unlock()
+	if given, isTaken := l.taken[key]; isTaken {
+		return nil, given
+	}
+	l.taken[key] = make(chan struct{})
+	return memoryLock{l, key}, nil
+}
+
+func (l *memoryLocks) TryLock(_ context.Context, key broker.Key) (broker.Lock, error) {
+	lock, _ := l.take(key)
+	return lock, nil
+}
+
+func (l *memoryLocks) Lock(ctx context.Context, key broker.Key) (broker.Lock, error) {
+	for {
+		lock, given := l.take(key)
+		if lock != nil {
+			return lock, nil
+		}
+		select {
+		case <-given:
+		case <-ctx.Done():
+			return nil, ctx.Err()
+		}
+	}
+}
+
+func (m memoryLock) Context(ctx context.Context) context.Context { return ctx }
+
+func (m memoryLock) Unlock() {
+	m.locks.turn.Lock()
+	defer m.locks.turn.Unlock()
+	close(m.locks.taken[m.key])
+	delete(m.locks.taken, m.key)
+}

@@ -1,0 +1,220 @@
+package sqlite
+
+import (
+	"context"
+	"database/sql/driver"
+	"errors"
+	"fmt"
+	"path/filepath"
+	"strings"
+	"sync"
+	"testing"
+	"time"
+
+	"github.com/mattn/go-sqlite3"
+
+	"pippinterm/broker"
+	"pippinterm/osb"
+)
+
+var (
+	service = osb.MustParseID("00000000-0000-0000-0000-0000000000a0")
+	plan    = osb.MustParseID("00000000-0000-0000-0000-0000000000b1")
+)
+
+func keyOf(n int) broker.Key {
+	return broker.InstanceKey(osb.MustParseID(fmt.Sprintf("00000000-0000-4000-8000-%012x", n)))
+}
+
+func open(t *testing.T, path string) *Store {
+	t.Helper()
+	s, err := Open(context.Background(), path, broker.Silent{})
+	if err != nil {
+		t.Fatal(err)
+	}
+	t.Cleanup(func() {
+		if err := s.Close(); err != nil {
+			t.Error(err)
+		}
+	})
+	return s
+}
+
+// provision is the Step of a Provision that begins.
+func provision(key broker.Key) broker.Step {
+	return func(held broker.Held) (*broker.Entry, error) {
+		request := osb.Request{Kind: osb.KindProvision, ID: key.Instance, Service: service, Plan: plan}
+		next, _, err := held.Holding.Begin(osb.ModeSync, request, osb.Rules{})
+		return &broker.Entry{Holding: next}, err
+	}
+}
+
+// Of changes that are written together, one that fails, panics or was cancelled harms no other.
+func TestOneFails(t *testing.T) {
+	s := open(t, filepath.Join(t.TempDir(), "store"))
+	blocked, release := make(chan struct{}), make(chan struct{})
+	var all sync.WaitGroup
+	all.Add(1)
+	go func() { // while this one holds the writer, the others gather
+		defer all.Done()
+		_ = s.Change(context.Background(), keyOf(0), 0, func(broker.Held) (*broker.Entry, error) {
+			close(blocked)
+			<-release
+			return nil, nil
+		})
+	}()
+	<-blocked
+	wrong, given := errors.New("wrong"), make([]error, 41)
+	gone, cancel := context.WithCancel(context.Background())
+	cancel()
+	steps := []struct {
+		ctx  context.Context
+		step func(broker.Key) broker.Step
+	}{
+		{context.Background(), func(broker.Key) broker.Step {
+			return func(broker.Held) (*broker.Entry, error) { return &broker.Entry{}, wrong }
+		}},
+		{context.Background(), func(broker.Key) broker.Step {
+			return func(broker.Held) (*broker.Entry, error) { panic("a bug") }
+		}},
+		{gone, provision},
+		{context.Background(), provision},
+	}
+	for n := 1; n <= 40; n++ {
+		all.Add(1)
+		go func(n int) {
+			defer all.Done()
+			it := steps[n%4]
+			given[n] = s.Change(it.ctx, keyOf(n), 0, it.step(keyOf(n)))
+		}(n)
+	}
+	for len(s.asked) < 40 {
+		time.Sleep(time.Millisecond)
+	}
+	close(release)
+	all.Wait()
+	for n := 1; n <= 40; n++ {
+		isRight := []bool{
+			given[n] == wrong,
+			given[n] != nil && strings.Contains(given[n].Error(), "a bug"),
+			given[n] == context.Canceled,
+			given[n] == nil,
+		}[n%4]
+		held, err := s.Read(context.Background(), keyOf(n))
+		if err != nil {
+			t.Fatal(err)
+		}
+		if _, isWritten := held.Holding.Work(); !isRight || isWritten != (n%4 == 3) {
+			t.Errorf("%d: %v, %v", n, given[n], held.Holding)
+		}
+	}
+}
+
+// If the transaction itself fails, nobody is told that anything was written, and the next one is written.
+func TestTransactionFails(t *testing.T) {
+	s := open(t, filepath.Join(t.TempDir(), "store"))
+	broken := s.Change(context.Background(), keyOf(1), 0, func(held broker.Held) (*broker.Entry, error) {
+		if err := s.writer.exec("ROLLBACK"); err != nil { // as SQLite does of itself if the disk is full
+			t.Error(err)
+		}
+		return provision(keyOf(1))(held)
+	})
+	if broken == nil {
+		t.Error("it was said to be written")
+	}
+	if err := s.Change(context.Background(), keyOf(2), 0, provision(keyOf(2))); err != nil {
+		t.Error(err)
+	}
+	if held, err := s.Read(context.Background(), keyOf(1)); err != nil || held.Holding.IsHeld() {
+		t.Errorf("%v, %v", held.Holding, err)
+	}
+}
+
+// A change isn't told before its commit: another connection reads it then.
+func TestTellsAfterCommit(t *testing.T) {
+	path := filepath.Join(t.TempDir(), "store")
+	s, other := open(t, path), open(t, path)
+	for n := 0; n < 50; n++ {
+		if err := s.Change(context.Background(), keyOf(n), 0, provision(keyOf(n))); err != nil {
+			t.Fatal(err)
+		}
+		if held, err := other.Read(context.Background(), keyOf(n)); err != nil || !held.Holding.IsHeld() {
+			t.Fatalf("%d isn't written: %v", n, err)
+		}
+	}
+}
+
+// A file of version 0.2 is read and extended.
+func TestMigration(t *testing.T) {
+	path := filepath.Join(t.TempDir(), "store")
+	made, err := (&sqlite3.SQLiteDriver{}).Open("file:" + path)
+	if err != nil {
+		t.Fatal(err)
+	}
+	old := made.(*sqlite3.SQLiteConn)
+	for _, statement := range []string{
+		"CREATE TABLE holdings (id TEXT PRIMARY KEY, holding TEXT NOT NULL, unfinished INTEGER NOT NULL) WITHOUT ROWID",
+		"CREATE INDEX unfinished_holdings ON holdings (id) WHERE unfinished",
+		"CREATE TABLE workers (id TEXT PRIMARY KEY, worker INTEGER NOT NULL) WITHOUT ROWID",
+		"CREATE TABLE store (one INTEGER PRIMARY KEY CHECK (one = 1), name TEXT NOT NULL, " +
+			"is_tied INTEGER NOT NULL DEFAULT 0)",
+		"INSERT INTO store VALUES (1, 'a store', 1)",
+	} {
+		if _, err := old.Exec(statement, nil); err != nil {
+			t.Fatal(err)
+		}
+	}
+	texts := []string{
+		`{"marked":false,"row":{"phase":"ready","plan":"` + plan.String() + `","service":"` + service.String() +
+			`"},"version":1,"work":null}`,
+		`{"marked":true,"row":null,"version":1,"work":null}`,
+	}
+	for n, text := range texts {
+		values := []driver.Value{keyOf(n).String(), text, false}
+		if _, err := old.Exec("INSERT INTO holdings VALUES (?, ?, ?)", values); err != nil {
+			t.Fatal(err)
+		}
+	}
+	if err := old.Close(); err != nil {
+		t.Fatal(err)
+	}
+	s := open(t, path)
+	first, err := s.Read(context.Background(), keyOf(0))
+	row, isHeld := first.Holding.Row()
+	if err != nil || !isHeld || row != (osb.BrokerRow{Service: service, Plan: plan, Phase: osb.PhaseReady}) {
+		t.Errorf("%v, %v", first, err)
+	}
+	if second, err := s.Read(context.Background(), keyOf(1)); err != nil || !second.Holding.HasTombstone() {
+		t.Errorf("%v, %v", second, err)
+	}
+	if name, err := s.Name(context.Background()); err != nil || name != "a store" {
+		t.Errorf("%q, %v", name, err)
+	}
+	if stats, err := s.Stats(context.Background()); err != nil || stats != (broker.Stats{Tombstones: 1}) {
+		t.Errorf("%+v, %v", stats, err)
+	}
+}
+
+// A file that isn't a database is an error that names it.
+func TestNoDatabase(t *testing.T) {
+	path := t.TempDir()
+	if _, err := Open(context.Background(), path, broker.Silent{}); err == nil || !strings.Contains(err.Error(), path) {
+		t.Error(err)
+	}
+}
+
+func BenchmarkRead(b *testing.B) {
+	s, err := Open(context.Background(), filepath.Join(b.TempDir(), "store"), broker.Silent{})
+	if err != nil {
+		b.Fatal(err)
+	}
+	if err := s.Change(context.Background(), keyOf(1), 0, provision(keyOf(1))); err != nil {
+		b.Fatal(err)
+	}
+	b.ReportAllocs()
+	for n := 0; n < b.N; n++ {
+		if _, err := s.Read(context.Background(), keyOf(1)); err != nil {
+			b.Fatal(err)
+		}
+	}
+}

@@ -1,0 +1,89 @@
+package sqlite
+
+import (
+	"context"
+	"crypto/rand"
+	"encoding/binary"
+	"fmt"
+
+	"pippinterm/broker"
+)
+
+// Name returns the name of the store, or "" before the first use.
+func (s *Store) Name(ctx context.Context) (name string, err error) {
+	err = s.read(ctx, func(c *connection) error {
+		name, err = c.text("SELECT name FROM store")
+		return err
+	})
+	return name, err
+}
+
+// Begin gives the store a name for good, unless it has one, and returns the name that it has.
+func (s *Store) Begin(ctx context.Context, name string) (string, error) {
+	err := s.together(ctx, func(c *connection) error {
+		return c.exec("INSERT INTO store (one, name) VALUES (1, ?) ON CONFLICT DO NOTHING", name)
+	})
+	if err != nil {
+		return "", err
+	}
+	return s.Name(ctx)
+}
+
+// Tie calls tie in a transaction, beside which nothing is written.
+func (s *Store) Tie(ctx context.Context, tie func(isUsed bool) error) error {
+	return s.read(ctx, func(c *connection) (err error) { // the writer isn't for calls of others
+		if err := patiently(ctx, func() error { _, err := c.begin.Exec(nil); return err }); err != nil {
+			return err
+		}
+		defer func() {
+			if err != nil && !c.AutoCommit() {
+				_ = c.exec("ROLLBACK")
+			}
+		}()
+		used, err := c.text("SELECT 'used' FROM store WHERE is_tied " +
+			"UNION ALL SELECT 'used' FROM holdings UNION ALL SELECT 'used' FROM bindings LIMIT 1")
+		if err != nil {
+			return err
+		}
+		if err := tie(used != ""); err != nil {
+			return err
+		}
+		if err := c.exec("UPDATE store SET is_tied = 1 WHERE NOT is_tied"); err != nil {
+			return err
+		}
+		return c.exec("COMMIT")
+	})
+}
+
+// text is the only column of the first row of a query, or "" if there is none.
+func (c *connection) text(query string) (text string, err error) {
+	err = c.each(query, nil, func(row []any) error {
+		text = fmt.Sprint(row[0])
+		return nil
+	})
+	return text, err
+}
+
+// Fence writes down a new worker of a key.
+func (s *Store) Fence(ctx context.Context, key broker.Key) (int64, error) {
+	var random [8]byte
+	if _, err := rand.Read(random[:]); err != nil {
+		return 0, err
+	}
+	worker := int64(binary.BigEndian.Uint64(random[:])>>1) | 1
+	err := s.together(ctx, func(c *connection) error {
+		return c.exec("INSERT INTO workers VALUES (?, ?) ON CONFLICT (id) DO UPDATE SET worker = excluded.worker",
+			key.String(), worker)
+	})
+	return worker, err
+}
+
+// worker is who works at a key, or did last, and 0 if nobody has.
+func (c *connection) worker(key broker.Key) (int64, error) {
+	row, err := one(c.readWorker, 1, key.String())
+	if err != nil || row == nil {
+		return 0, err
+	}
+	worker, _ := row[0].(int64)
+	return worker, nil
+}

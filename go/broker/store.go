@@ -1,0 +1,121 @@
+package broker
+
+import (
+	"context"
+	"encoding/json"
+	"errors"
+	"time"
+
+	"pippinterm/osb"
+)
+
+// An Entry is what a Store keeps of an instance or of a binding, in one row. The zero Entry is that of a key of which
+// nothing is kept.
+type Entry struct {
+	// Holding decides. The zero Holding holds nothing.
+	Holding osb.Holding
+	// Request is the text of a Request, or nil: it is kept while the Holding is held.
+	Request json.RawMessage
+	// Binding is the object of a binding with its credentials, as a Bind and a Fetch are answered, or nil: it is kept
+	// from the transaction on in which the row becomes ready, and never changes (docs/binding.md).
+	Binding json.RawMessage
+	// Description is why the last operation failed, for the platform, or empty.
+	Description string
+	// Since is when the pending work, the operation or the waiting began, or the zero Time.
+	Since time.Time
+}
+
+// IsUnfinished is whether somebody has to go on: work is pending, or the row is making, deleting or waiting.
+func (e Entry) IsUnfinished() bool {
+	if _, isPending := e.Holding.Work(); isPending {
+		return true
+	}
+	row, isHeld := e.Holding.Row()
+	return isHeld && (row.Phase == osb.PhaseMaking || row.Phase == osb.PhaseDeleting || row.Phase == osb.PhaseWaiting)
+}
+
+// A Held is what a transaction reads.
+type Held struct {
+	Entry
+	// Instance is the holding of a binding's instance. For an instance it is the zero Holding.
+	Instance osb.Holding
+	// AnyBinding returns whether a binding of an instance is held (osb.Holding.IsHeld). It may be called until the
+	// transaction ends. For a binding it is nil.
+	AnyBinding func() (bool, error)
+}
+
+// A Step is what a transaction does with what it has read: it returns the Entry to write, or nil to write nothing. If it
+// fails, nothing is written.
+type Step func(Held) (*Entry, error)
+
+// A Store keeps a row for each instance and each binding. No row of an instance is ever deleted. Any number of
+// goroutines use a Store, and any number of processes use the database.
+type Store interface {
+	// Read returns what is committed and on disk.
+	Read(ctx context.Context, key Key) (Held, error)
+
+	// Change is one transaction over the row of a key. It commits what step returns, and only then returns nil: what was
+	// committed outlives a power cut. It may call step more than once; the last call counts. Two things are locked
+	// until the transaction ends: the row itself, and for a binding the row of its instance. So no binding begins
+	// while an instance's Change runs, nor the other way round.
+	//
+	// If fence isn't zero, Change fails with ErrLostLock unless fence is the last that Fence returned for the key.
+	Change(ctx context.Context, key Key, fence int64, step Step) error
+
+	// Fence writes down a new worker of a key, and returns its number, which isn't zero. It is called if the Locks can
+	// be lost while the work goes on.
+	Fence(ctx context.Context, key Key) (int64, error)
+
+	// Unfinished returns the keys whose Entry is unfinished.
+	Unfinished(ctx context.Context) ([]Key, error)
+
+	// HeldBindings returns the bindings of an instance that are held.
+	HeldBindings(ctx context.Context, instance osb.ID) ([]osb.ID, error)
+
+	// Ready returns nil if a row can be read and one can be written.
+	Ready(ctx context.Context) error
+
+	// Stats counts what is kept.
+	Stats(ctx context.Context) (Stats, error)
+
+	// Close closes the store, once all changes that have begun have ended.
+	Close() error
+}
+
+// Stats are counts of what a Store keeps.
+type Stats struct {
+	Pending    int       // keys with pending work
+	Operating  int       // keys whose row is making or deleting
+	Waiting    int       // keys that wait for their first Poll
+	Tombstones int       // keys with a tombstone
+	Oldest     time.Time // since when the oldest of the unfinished ones is so; the zero Time if there is none
+}
+
+// Locks let one worker at a time be at a key, among all processes. A Lock lives as long as the work that is done under
+// it, also if the work outlives its process.
+type Locks interface {
+	// Lock waits for the lock.
+	Lock(ctx context.Context, key Key) (Lock, error)
+	// TryLock returns nil if somebody else has the lock.
+	TryLock(ctx context.Context, key Key) (Lock, error)
+	// CanBeLost is whether a lock may end while its worker goes on, as that of a session does if the server ends it.
+	CanBeLost() bool
+}
+
+// A Lock is had until Unlock.
+type Lock interface {
+	// Context returns a context for the Backend, which carries whatever holds the lock.
+	Context(ctx context.Context) context.Context
+	Unlock()
+}
+
+var (
+	// ErrMisfit reports that what is held can't come about at its plan. Nothing was changed, and an operator has to look.
+	ErrMisfit = errors.New("what is held can't come about at its plan")
+	// ErrLostWork reports that the work isn't pending any more: somebody else has ended it.
+	ErrLostWork = errors.New("the work isn't pending any more")
+	// ErrLostLock reports that somebody else has the lock now. Nothing was written.
+	ErrLostLock = errors.New("the lock was lost")
+	// ErrNobodyKnows reports that nobody knows how the work went. It stays pending, and is tried again.
+	ErrNobodyKnows = errors.New("nobody knows how the work went")
+)

@@ -1,0 +1,131 @@
+package broker
+
+import (
+	"context"
+	"time"
+
+	"pippinterm/broker/crash"
+	"pippinterm/osb"
+)
+
+// TakeUp goes on with a key: it does pending work that a dead worker has left, goes on with the operation that runs, and
+// gives up a creation that has waited too long for its first Poll. If somebody else is at the key, it does nothing.
+//
+// Errors: those of the store, the locks and the backend. What isn't done stays as it is, to be taken up again.
+func (s *Service) TakeUp(ctx context.Context, key Key) error {
+	lock, err := s.locks.TryLock(ctx, key)
+	if err != nil || lock == nil {
+		return err
+	}
+	defer lock.Unlock()
+	held, err := s.read(ctx, key)
+	if err != nil {
+		return err
+	}
+	if _, isPending := held.Holding.Work(); isPending {
+		if _, err := s.do(ctx, lock, key, held.Entry, !s.locks.CanBeLost()); err != nil {
+			return err
+		}
+		if held, err = s.read(ctx, key); err != nil {
+			return err
+		}
+	}
+	row, isHeld := held.Holding.Row()
+	switch {
+	case !isHeld:
+		return nil
+	case row.Phase == osb.PhaseMaking || row.Phase == osb.PhaseDeleting:
+		return s.operate(ctx, lock, key, held)
+	case row.Phase == osb.PhaseWaiting && time.Since(held.Since) >= s.rules.WaitForPoll:
+		return s.giveUpWaiting(ctx, key)
+	}
+	return nil
+}
+
+// operate goes on with the operation that runs, and ends it.
+func (s *Service) operate(ctx context.Context, lock Lock, key Key, held Held) error {
+	row, _ := held.Holding.Row()
+	fence, err := s.fence(ctx, key)
+	if err != nil {
+		return err
+	}
+	request, err := requestOf(key, row, held.Request)
+	if err != nil {
+		return err
+	}
+	done, err := s.worker.operate(lock.Context(ctx), row.Phase, request)
+	if err != nil {
+		return err
+	}
+	err = s.change(ctx, key, fence, func(held Held) (*Entry, error) {
+		if now, isHeld := held.Holding.Row(); !isHeld || now != row {
+			return nil, ErrLostWork
+		}
+		crash.At("finish-next")
+		holding, err := held.Holding.Finish(done.isDone())
+		if err != nil {
+			return nil, err
+		}
+		entry := held.Entry
+		entry.Holding = holding
+		entry.ended(key, done)
+		return &entry, nil
+	})
+	if err != nil {
+		return err
+	}
+	crash.At("finish-written")
+	s.observer.Finished(key, done.isDone())
+	return nil
+}
+
+// giveUpWaiting ends a creation whose first Poll hasn't come in time: it has failed, and nothing of it was made.
+func (s *Service) giveUpWaiting(ctx context.Context, key Key) error {
+	err := s.change(ctx, key, 0, func(held Held) (*Entry, error) {
+		if row, isHeld := held.Holding.Row(); !isHeld || row.Phase != osb.PhaseWaiting {
+			return nil, nil // the Poll has come meanwhile
+		}
+		crash.At("wait-next")
+		holding, err := held.Holding.GiveUpWaiting()
+		if err != nil {
+			return nil, err
+		}
+		entry := held.Entry
+		entry.Holding = holding
+		entry.ended(key, result{description: "The creation was given up: its last operation wasn't polled in time."})
+		return &entry, nil
+	})
+	if err == nil {
+		crash.At("wait-written")
+	}
+	return err
+}
+
+// UnbindFailed deletes the bindings of an instance whose creation has failed: a platform that doesn't unbind what has
+// failed could never delete their instance otherwise. It is called after the deletion of an instance was put off, and
+// doesn't touch a binding that the platform was told exists. That is this project's choice.
+func (s *Service) UnbindFailed(ctx context.Context, instance osb.ID) error {
+	bindings, err := s.store.HeldBindings(ctx, instance)
+	if err != nil {
+		return err
+	}
+	for _, binding := range bindings {
+		key := BindingKey(instance, binding)
+		held, err := s.read(ctx, key)
+		if err != nil {
+			return err
+		}
+		row, isHeld := held.Holding.Row()
+		if !isHeld || row.Phase != osb.PhaseFailed {
+			continue
+		}
+		unbind := osb.Asked{
+			Kind: osb.KindDeprovision, AcceptsIncomplete: true, HasService: true, HasPlan: true,
+			ID: binding, Service: row.Service, Plan: row.Plan,
+		}
+		if _, err := s.Handle(ctx, Asked{Key: key, Asked: unbind}); err != nil {
+			return err
+		}
+	}
+	return nil
+}
