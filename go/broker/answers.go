@@ -130,6 +130,9 @@ func (h *Handler) origin(x *exchange) Origin {
 // told writes an answer. There are few without a description, so each of those is written by the library once.
 func (h *Handler) told(x *exchange, answered Answered) reply {
 	status := int(answered.Status)
+	if x.Reason == "" {
+		x.Reason = answered.Description
+	}
 	switch {
 	case answered.Binding != nil:
 		return reply{status, answered.Binding}
@@ -140,7 +143,7 @@ func (h *Handler) told(x *exchange, answered Answered) reply {
 		if err == nil {
 			return reply{status, body}
 		}
-		h.report(x, "a description can't be sent", err)
+		h.report(x, "description_not_sent", err)
 	}
 	if body, isKnown := h.bodies.Load(answered.Answer); isKnown {
 		return reply{status, body.([]byte)}
@@ -176,6 +179,7 @@ func (h *Handler) rejected(x *exchange, status int, rejected *Rejected) reply {
 
 // refused answers what the library refused, or what has no memory.
 func (h *Handler) refused(x *exchange, err error) reply {
+	x.Reason = err.Error()
 	if errors.Is(err, errPredecessor) {
 		description := errPredecessor.Error()
 		return h.told(x, Answered{
@@ -218,7 +222,7 @@ func allowed(target string) string {
 
 // failed answers 500, or 503 if there is no memory, and reports why.
 func (h *Handler) failed(x *exchange, err error) reply {
-	h.report(x, "a request failed", err)
+	h.report(x, "request_failed", err)
 	if !errors.Is(err, osb.ErrMemory) {
 		answer := osb.Answer{Status: http.StatusInternalServerError, Body: osb.BodyOtherError}
 		if body, err := osb.WriteAnswer(answer, nil); err == nil {

@@ -171,7 +171,7 @@ func (h *Handler) follow(x *exchange, asked Asked, answered Answered) {
 		return
 	}
 	if err := safely(func() error { return h.service.UnbindFailed(h.ctx, asked.Key.Instance) }); err != nil {
-		h.report(x, "a binding whose creation has failed wasn't deleted", err)
+		h.report(x, "failed_binding_not_deleted", err)
 	}
 }
 

@@ -249,7 +249,10 @@ func TestLives(t *testing.T) {
 			if again := s.expect(t, 200, "PUT", bound+query, bodyOf(plan, "")); again != first {
 				t.Errorf("other credentials: %s, %s", first, again)
 			}
-			s.expect(t, 422, "DELETE", one+names(plan)+"&accepts_incomplete=true", "")
+			body := s.expect(t, 422, "DELETE", one+names(plan)+"&accepts_incomplete=true", "")
+			if !strings.Contains(body, "ConcurrencyError") || !strings.Contains(body, "has bindings") {
+				t.Error(body)
+			}
 			s.ask("DELETE", bound+names(plan)+"&accepts_incomplete=true", "")
 			s.until(t, "{", "GET", bound+"/last_operation")
 			for status := 0; status != 410; {
@@ -507,6 +510,10 @@ func TestObserved(t *testing.T) {
 	}
 	if got != want {
 		t.Errorf("%+v, and %+v is wanted", got, want)
+	}
+	s.expect(t, 400, "PUT", instances+"i", bodyOf("ff", "")[1:])
+	if reason := s.observed.last().Reason; !strings.Contains(reason, "isn't JSON") {
+		t.Errorf("the reason is %q", reason)
 	}
 	given, _ := s.ask("GET", "/v2/catalog", "", header("X-Broker-API-Request-Identity", "a\nb"))
 	if made := given.Header.Get("X-Broker-API-Request-Identity"); made == "" || made == "a\nb" {

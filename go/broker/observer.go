@@ -24,6 +24,7 @@ type Exchange struct {
 	Method      string // at most 20 bytes
 	Target      string // path and query as they came, at most 1,000 bytes
 	Status      int
+	Reason      string // why the request was rejected or failed, or empty
 	Duration    time.Duration
 	User        string // the user that logged in, or empty
 	Address     string // the host of the client
@@ -34,7 +35,7 @@ type Exchange struct {
 
 // A Failure is something that went wrong.
 type Failure struct {
-	Event     string // what went wrong, in a few words that don't change
+	Event     string // what went wrong, in snake case, such as request_failed: it doesn't change
 	RequestID string // of the request that is being handled, or empty
 	Key       Key    // what it is about, if IsNamed is true
 	IsNamed   bool

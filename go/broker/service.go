@@ -176,7 +176,7 @@ func (s *Service) begin(held Held, asked Asked) (next *Entry, given begun, err e
 	if err != nil {
 		return nil, given, err
 	}
-	holding, happened, err := s.beginHolding(held, asked, request)
+	holding, happened, isBound, err := s.beginHolding(held, asked, request)
 	if err != nil {
 		return nil, given, err
 	}
@@ -184,6 +184,9 @@ func (s *Service) begin(held Held, asked Asked) (next *Entry, given begun, err e
 	if happened.Work == osb.WorkNone {
 		if given.answered, err = s.answered(held, asked, happened.Answer); err != nil {
 			return nil, given, err
+		}
+		if isBound && asked.Asked.Kind == osb.KindDeprovision {
+			given.answered.Description = "The instance has bindings. Delete them first."
 		}
 	}
 	if holding == held.Holding {
@@ -198,22 +201,26 @@ func (s *Service) begin(held Held, asked Asked) (next *Entry, given begun, err e
 	return &entry, given, nil
 }
 
-// beginHolding asks the proved library. Nothing of an instance begins while one of its bindings is held.
-func (s *Service) beginHolding(held Held, asked Asked, request osb.Request) (osb.Holding, osb.Begun, error) {
+// beginHolding asks the proved library. Nothing of an instance begins while one of its bindings is held: then isBound is
+// true.
+func (s *Service) beginHolding(
+	held Held, asked Asked, request osb.Request,
+) (holding osb.Holding, happened osb.Begun, isBound bool, err error) {
 	mode := s.catalogue.mode(asked.Key.IsBinding, plan{request.Service, request.Plan})
 	rules := osb.Rules{FirstPoll: s.rules.FirstPoll, Attributes: asked.Attributes}
 	if asked.Key.IsBinding {
-		return held.Holding.BeginBinding(held.Instance, mode, request, rules)
+		holding, happened, err = held.Holding.BeginBinding(beside(held.Instance, request), mode, request, rules)
+		return holding, happened, false, err
 	}
-	holding, happened, err := held.Holding.Begin(mode, request, rules)
+	holding, happened, err = held.Holding.Begin(mode, request, rules)
 	if err != nil || holding == held.Holding || asked.Asked.Kind == osb.KindPoll {
-		return holding, happened, err
+		return holding, happened, false, err
 	}
-	anyBinding, err := held.AnyBinding()
-	if err != nil {
-		return holding, happened, err
+	if isBound, err = held.AnyBinding(); err != nil {
+		return holding, happened, isBound, err
 	}
-	return held.Holding.BeginIf(mode, request, rules, !anyBinding)
+	holding, happened, err = held.Holding.BeginIf(mode, request, rules, !isBound)
+	return holding, happened, isBound, err
 }
 
 // answered is an answer that needs no work, with what is stored beside the holding.

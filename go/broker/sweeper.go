@@ -69,7 +69,7 @@ func (s *Sweeper) sweep(ctx, stop context.Context, every time.Duration) {
 	var before map[Key]bool
 	for {
 		if found, err := s.service.store.Unfinished(ctx); err != nil {
-			s.observer.Failed(Failure{Event: "what is unfinished can't be read", Err: err})
+			s.observer.Failed(Failure{Event: "unfinished_unreadable", Err: err})
 		} else {
 			before = s.touchAll(found, before)
 		}
@@ -107,7 +107,7 @@ func (s *Sweeper) tendNext(ctx context.Context) bool {
 		delete(s.told, key)
 	case s.told[key] != err.Error():
 		s.told[key] = err.Error()
-		s.observer.Failed(Failure{Event: "it wasn't ended, and is tried again", Key: key, IsNamed: true, Err: err})
+		s.observer.Failed(Failure{Event: "not_ended", Key: key, IsNamed: true, Err: err})
 	}
 	if s.tended[key] && !s.isOver {
 		s.tended[key] = false

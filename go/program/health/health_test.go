@@ -1,0 +1,238 @@
+package health
+
+import (
+	"context"
+	"errors"
+	"net/http"
+	"net/http/httptest"
+	"sync"
+	"testing"
+	"time"
+
+	"pippinterm/broker"
+)
+
+func ask(handler http.Handler, method, target string) *httptest.ResponseRecorder {
+	answer := httptest.NewRecorder()
+	handler.ServeHTTP(answer, httptest.NewRequest(method, target, nil))
+	return answer
+}
+
+func always(status int) http.Handler {
+	return http.HandlerFunc(func(w http.ResponseWriter, _ *http.Request) { w.WriteHeader(status) })
+}
+
+func failing(context.Context) error { return errors.New("connection refused") }
+
+var next, scraped = always(http.StatusTeapot), always(http.StatusAccepted)
+
+var answers = []struct {
+	name           string
+	options        Options
+	isStopping     bool
+	method, target string
+	status         int
+	body           string
+}{
+	{"alive", Options{}, false, "GET", "/healthz", 200, fine},
+	{"alive by HEAD", Options{}, false, "HEAD", "/healthz", 200, fine},
+	{"alive with a query", Options{}, false, "GET", "/healthz?a=b", 200, fine},
+	{"alive and not ready", Options{Ready: failing}, false, "GET", "/healthz", 200, fine},
+	{"alive by PUT", Options{}, false, "PUT", "/healthz", 405, notGet},
+	{"alive and stopping", Options{}, true, "GET", "/healthz", 503, stopping},
+	{"ready", Options{}, false, "GET", "/readyz", 200, fine},
+	{"not ready", Options{Ready: failing}, false, "GET", "/readyz", 503, notReady},
+	{"ready by DELETE", Options{}, false, "DELETE", "/readyz", 405, notGet},
+	{"ready and stopping", Options{}, true, "GET", "/readyz", 503, stopping},
+	{"metrics", Options{Metrics: scraped, Next: next}, false, "GET", "/metrics", 202, ""},
+	{"metrics and stopping", Options{Metrics: scraped}, true, "GET", "/metrics", 202, ""},
+	{"no metrics", Options{Next: next}, false, "GET", "/metrics", 418, ""},
+	{"another path", Options{Next: next, Metrics: scraped}, false, "PUT", "/v2/catalog", 418, ""},
+	{"below", Options{Next: next}, false, "GET", "/healthz/", 418, ""},
+	{"no next", Options{}, false, "GET", "/v2/catalog", 404, "404 page not found\n"},
+}
+
+func TestAnswers(t *testing.T) {
+	for _, test := range answers {
+		t.Run(test.name, func(t *testing.T) {
+			handler := New(context.Background(), test.options)
+			if test.isStopping {
+				handler.Stop()
+			}
+			answer := ask(handler, test.method, test.target)
+			if answer.Code != test.status || answer.Body.String() != test.body {
+				t.Errorf("%d %q, want %d %q", answer.Code, answer.Body, test.status, test.body)
+			}
+			if test.status == 405 && answer.Header().Get("Allow") != "GET, HEAD" {
+				t.Errorf("Allow is %q", answer.Header().Get("Allow"))
+			}
+		})
+	}
+}
+
+// A calls counts calls of ready, each of which waits for a value if there is a channel.
+type calls struct {
+	mutex sync.Mutex
+	count int
+	err   error
+	begun chan struct{}
+	pass  chan struct{}
+}
+
+func (c *calls) ready(context.Context) error {
+	c.mutex.Lock()
+	c.count++
+	err := c.err
+	c.mutex.Unlock()
+	if c.pass != nil {
+		c.begun <- struct{}{}
+		<-c.pass
+	}
+	return err
+}
+
+func (c *calls) counted() int {
+	c.mutex.Lock()
+	defer c.mutex.Unlock()
+	return c.count
+}
+
+func (c *calls) fail(err error) {
+	c.mutex.Lock()
+	defer c.mutex.Unlock()
+	c.err = err
+}
+
+func TestAResultIsUsedForASecond(t *testing.T) {
+	var counted calls
+	handler, now := New(context.Background(), Options{Ready: counted.ready}), time.Now()
+	handler.readiness.now = func() time.Time { return now }
+	for _, step := range []struct {
+		after  time.Duration
+		err    error
+		count  int
+		status int
+	}{
+		{0, nil, 1, 200},
+		{999 * time.Millisecond, errors.New("away"), 1, 200},
+		{time.Millisecond, errors.New("away"), 2, 503},
+		{999 * time.Millisecond, nil, 2, 503},
+		{time.Millisecond, nil, 3, 200},
+	} {
+		now = now.Add(step.after)
+		counted.fail(step.err)
+		status, count := ask(handler, "GET", "/readyz").Code, counted.counted()
+		if status != step.status || count != step.count {
+			t.Errorf("%v later: status %d after %d calls, want %d after %d", step.after, status, count, step.status,
+				step.count)
+		}
+	}
+}
+
+func TestACallThatHangsHoldsNobodyUp(t *testing.T) {
+	hanging := calls{begun: make(chan struct{}, 10), pass: make(chan struct{})}
+	handler := New(context.Background(), Options{Ready: hanging.ready})
+	handler.readiness.waitsFor = 20 * time.Millisecond
+	for number := 0; number < 3; number++ {
+		if status := ask(handler, "GET", "/readyz").Code; status != http.StatusServiceUnavailable {
+			t.Errorf("status %d while the call hangs", status)
+		}
+	}
+	if status := ask(handler, "GET", "/healthz").Code; status != http.StatusOK {
+		t.Errorf("/healthz has the status %d", status)
+	}
+	if count := hanging.counted(); count != 1 {
+		t.Errorf("%d calls at once", count)
+	}
+	handler.readiness.waitsFor = 10 * time.Second
+	status := make(chan int)
+	go func() { status <- ask(handler, "GET", "/readyz").Code }()
+	close(hanging.pass)
+	if got := <-status; got != http.StatusOK {
+		t.Errorf("status %d once the call returned nil", got)
+	}
+}
+
+func TestManyShareOneCall(t *testing.T) {
+	counted := calls{begun: make(chan struct{}, 10), pass: make(chan struct{})}
+	handler := New(context.Background(), Options{Ready: counted.ready})
+	status := make(chan int)
+	for number := 0; number < 5; number++ {
+		go func() { status <- ask(handler, "GET", "/readyz").Code }()
+	}
+	<-counted.begun
+	close(counted.pass)
+	for number := 0; number < 5; number++ {
+		if got := <-status; got != http.StatusOK {
+			t.Errorf("status %d", got)
+		}
+	}
+	if count := counted.counted(); count != 1 {
+		t.Errorf("%d calls", count)
+	}
+}
+
+func TestACallHasALimitOfTime(t *testing.T) {
+	handler := New(context.Background(), Options{Ready: func(ctx context.Context) error {
+		<-ctx.Done()
+		return ctx.Err()
+	}})
+	handler.readiness.waitsFor = 10 * time.Millisecond
+	if status := ask(handler, "GET", "/readyz").Code; status != http.StatusServiceUnavailable {
+		t.Errorf("status %d", status)
+	}
+}
+
+func TestARequestThatEndsEndsNoCall(t *testing.T) {
+	counted := calls{begun: make(chan struct{}, 1), pass: make(chan struct{})}
+	handler := New(context.Background(), Options{Ready: counted.ready})
+	ctx, cancel := context.WithCancel(context.Background())
+	ended := make(chan error)
+	go func() { ended <- handler.readiness.check(ctx) }()
+	<-counted.begun
+	cancel()
+	if err := <-ended; !errors.Is(err, context.Canceled) {
+		t.Errorf("the request ended with %v", err)
+	}
+	waits := make(chan error)
+	go func() { waits <- handler.readiness.check(context.Background()) }()
+	close(counted.pass)
+	if err := <-waits; err != nil || counted.counted() != 1 {
+		t.Errorf("another got %v of %d calls", err, counted.counted())
+	}
+}
+
+// failures is an Observer that has the failures.
+type failures struct {
+	broker.Silent
+	got chan broker.Failure
+}
+
+func (f failures) Failed(failure broker.Failure) { f.got <- failure }
+
+func TestEachReasonIsReportedOnce(t *testing.T) {
+	var counted calls
+	reported := failures{got: make(chan broker.Failure, 10)}
+	handler, now := New(context.Background(), Options{Ready: counted.ready, Observer: reported}), time.Now()
+	handler.readiness.now = func() time.Time { return now }
+	for _, step := range []struct {
+		err        error
+		isReported bool
+	}{
+		{errors.New("away"), true}, {errors.New("away"), false}, {errors.New("full"), true}, {nil, false},
+		{errors.New("full"), true},
+	} {
+		counted.fail(step.err)
+		ask(handler, "GET", "/readyz")
+		now = now.Add(keptFor)
+		if !step.isReported {
+			continue
+		}
+		if failure := <-reported.got; failure.Event != "not_ready" || failure.Err != step.err {
+			t.Errorf("reported: %v", failure)
+		}
+	}
+	if len(reported.got) != 0 {
+		t.Errorf("%d more were reported", len(reported.got))
+	}
+}

@@ -1,0 +1,123 @@
+package limiter
+
+import (
+	"fmt"
+	"sync"
+	"testing"
+	"time"
+)
+
+// at returns a Limiter whose clock stands, and a function that moves it.
+func at() (*Limiter, func(time.Duration)) {
+	limiter, now := New(), time.Date(2024, 1, 1, 0, 0, 0, 0, time.UTC)
+	limiter.now = func() time.Time { return now }
+	return limiter, func(by time.Duration) { now = now.Add(by) }
+}
+
+// failures counts how many failures are allowed in a row.
+func failures(limiter *Limiter, address string) int {
+	for count := 0; ; count++ {
+		if !limiter.Allow(address) || count > 2*burst {
+			return count
+		}
+		limiter.Failed(address)
+	}
+}
+
+func TestTwentyFailuresAndOneMoreEachThreeSeconds(t *testing.T) {
+	limiter, pass := at()
+	for _, step := range []struct {
+		after time.Duration
+		want  int
+	}{{0, 20}, {0, 0}, {2999 * time.Millisecond, 0}, {time.Millisecond, 1}, {9 * time.Second, 3}, {time.Hour, 20}} {
+		pass(step.after)
+		if got := failures(limiter, "192.0.2.1"); got != step.want {
+			t.Errorf("%v later %d failures are allowed, want %d", step.after, got, step.want)
+		}
+	}
+}
+
+func TestFailuresBeyondTheLimitDontExtendIt(t *testing.T) {
+	limiter, pass := at()
+	for count := 0; count < 1000; count++ {
+		limiter.Failed("192.0.2.1")
+	}
+	pass(burst * interval)
+	if got := failures(limiter, "192.0.2.1"); got != burst {
+		t.Errorf("%d failures are allowed a minute later, want %d", got, burst)
+	}
+}
+
+func TestAllowCountsNothing(t *testing.T) {
+	limiter, _ := at()
+	for count := 0; count < 100; count++ {
+		if !limiter.Allow("192.0.2.1") {
+			t.Fatal("an address that never failed isn't allowed")
+		}
+	}
+}
+
+func TestWhichAddressesShareALimit(t *testing.T) {
+	for _, test := range []struct {
+		first, second string
+		isShared      bool
+	}{
+		{"192.0.2.1", "192.0.2.1", true},
+		{"192.0.2.1", "192.0.2.2", false},
+		{"192.0.2.1", "::ffff:192.0.2.1", true},
+		{"2001:db8::1", "2001:db8::ffff:ffff:ffff:ffff", true},
+		{"2001:db8::1", "2001:db8:0:1::1", false},
+		{"fe80::1%eth0", "fe80::2%eth1", true},
+		{"", "a name", true},
+		{"a name", "192.0.2.1", false},
+	} {
+		limiter, _ := at()
+		failures(limiter, test.first)
+		if isShared := !limiter.Allow(test.second); isShared != test.isShared {
+			t.Errorf("%q and %q: shared is %v", test.first, test.second, isShared)
+		}
+	}
+}
+
+func TestMemoryIsBounded(t *testing.T) {
+	limiter, pass := at()
+	for number := 0; number < 3*capacity; number++ {
+		limiter.Failed(fmt.Sprintf("10.%d.%d.%d", number>>16&255, number>>8&255, number&255))
+		if len(limiter.free) > capacity {
+			t.Fatalf("%d addresses are remembered", len(limiter.free))
+		}
+	}
+	pass(interval)
+	limiter.Failed("192.0.2.1")
+	if len(limiter.free) != 1 {
+		t.Errorf("%d addresses are remembered after the failures of all others are over, want 1", len(limiter.free))
+	}
+}
+
+func TestAFullLimiterKeepsTheWorst(t *testing.T) {
+	limiter, _ := at()
+	failures(limiter, "192.0.2.1")
+	for number := 0; number < 2*capacity; number++ {
+		limiter.Failed(fmt.Sprintf("10.%d.%d.%d", number>>16&255, number>>8&255, number&255))
+	}
+	if limiter.Allow("192.0.2.1") {
+		t.Error("an address at its limit is forgotten for others that failed once")
+	}
+}
+
+func TestManyGoroutines(t *testing.T) {
+	limiter, _ := at()
+	var all sync.WaitGroup
+	for worker := 0; worker < 10; worker++ {
+		all.Add(1)
+		go func() {
+			defer all.Done()
+			limiter.Failed("192.0.2.1")
+			limiter.Allow("192.0.2.1")
+		}()
+	}
+	all.Wait()
+	if got := failures(limiter, "192.0.2.1"); got != burst-10 {
+		t.Errorf("%d more failures are allowed after 10, want %d", got, burst-10)
+	}
+}

@@ -1,0 +1,223 @@
+package metrics
+
+import (
+	"context"
+	"errors"
+	"fmt"
+	"net/http"
+	"net/http/httptest"
+	"strings"
+	"sync"
+	"testing"
+	"time"
+
+	"pippinterm/broker"
+)
+
+// lines returns the metrics as the handler sends them, without comments.
+func lines(t *testing.T, metrics *Metrics) map[string]string {
+	t.Helper()
+	answer := httptest.NewRecorder()
+	metrics.Handler().ServeHTTP(answer, httptest.NewRequest(http.MethodGet, "/metrics", nil))
+	if answer.Code != http.StatusOK {
+		t.Fatalf("status %d: %s", answer.Code, answer.Body)
+	}
+	got := make(map[string]string)
+	for _, line := range strings.Split(answer.Body.String(), "\n") {
+		if name, value, isOne := strings.Cut(line, "} "); isOne {
+			got[name+"}"] = value
+		} else if name, value, isOne := strings.Cut(line, " "); isOne && name != "#" {
+			got[name] = value
+		}
+	}
+	return got
+}
+
+func expect(t *testing.T, metrics *Metrics, want map[string]string) {
+	t.Helper()
+	got := lines(t, metrics)
+	for name, value := range want {
+		if got[name] != value {
+			t.Errorf("%s is %q, want %q", name, got[name], value)
+		}
+	}
+}
+
+func TestEventsAreCounted(t *testing.T) {
+	metrics := New(context.Background(), Options{})
+	for _, exchange := range []broker.Exchange{
+		{Route: "provision", Status: 201, Duration: 3 * time.Millisecond},
+		{Route: "provision", Status: 201, Duration: 2 * time.Second},
+		{Route: "poll-binding", Status: 410},
+		{Route: "made-up", Status: 404},
+		{Route: "other", Status: 404},
+		{Route: "catalog", Status: 0},
+	} {
+		metrics.Answered(exchange)
+	}
+	metrics.Failed(broker.Failure{Event: "store_failed", Err: errors.New("why")})
+	metrics.Failed(broker.Failure{Event: "store_failed"})
+	metrics.Committed(1)
+	metrics.Committed(5)
+	metrics.Finished(broker.Key{}, true)
+	metrics.Finished(broker.Key{}, false)
+	metrics.Finished(broker.Key{}, false)
+	expect(t, metrics, map[string]string{
+		`osb_broker_requests_total{route="provision",status="201"}`:    "2",
+		`osb_broker_requests_total{route="poll-binding",status="410"}`: "1",
+		`osb_broker_requests_total{route="other",status="404"}`:        "2",
+		`osb_broker_requests_total{route="catalog",status="other"}`:    "1",
+		`osb_broker_request_seconds_count{route="provision"}`:          "2",
+		`osb_broker_request_seconds_sum{route="provision"}`:            "2.003",
+		`osb_broker_request_seconds_bucket{route="provision",le="1"}`:  "1",
+		`osb_broker_failures_total{event="store_failed"}`:              "2",
+		`osb_broker_commit_changes_count`:                              "2",
+		`osb_broker_commit_changes_bucket{le="4"}`:                     "1",
+		`osb_broker_operations_total{result="succeeded"}`:              "1",
+		`osb_broker_operations_total{result="failed"}`:                 "2",
+	})
+}
+
+func TestTheNumberOfEventsIsBounded(t *testing.T) {
+	metrics := New(context.Background(), Options{})
+	for number := 0; number < 3*mostNames; number++ {
+		metrics.Failed(broker.Failure{Event: fmt.Sprint("event-", number)})
+	}
+	metrics.Failed(broker.Failure{Event: "event-0"})
+	count := 0
+	for name := range lines(t, metrics) {
+		if strings.HasPrefix(name, "osb_broker_failures_total{") {
+			count++
+		}
+	}
+	if count != mostNames+1 {
+		t.Errorf("%d time series, want %d", count, mostNames+1)
+	}
+	expect(t, metrics, map[string]string{
+		`osb_broker_failures_total{event="event-0"}`: "2",
+		`osb_broker_failures_total{event="other"}`:   fmt.Sprint(2 * mostNames),
+	})
+}
+
+func TestTwoMetricsShareNothing(t *testing.T) {
+	first, second := New(context.Background(), Options{}), New(context.Background(), Options{})
+	first.Answered(broker.Exchange{Route: "poll", Status: 200})
+	if got := lines(t, second)[`osb_broker_requests_total{route="poll",status="200"}`]; got != "" {
+		t.Errorf("the second counts %s", got)
+	}
+}
+
+func TestTheProcessIsMeasured(t *testing.T) {
+	got := lines(t, New(context.Background(), Options{}))
+	for _, name := range []string{"process_open_fds", "go_goroutines"} {
+		if got[name] == "" {
+			t.Errorf("%s is missing", name)
+		}
+	}
+}
+
+func TestOptions(t *testing.T) {
+	names := []string{"osb_broker_store_up", "osb_broker_log_lines_dropped_total", "osb_broker_connections"}
+	none := lines(t, New(context.Background(), Options{}))
+	all := New(context.Background(), Options{
+		Store: &store{}, DroppedLines: func() uint64 { return 3 }, Connections: func() int { return 4 },
+	})
+	for _, name := range names {
+		if none[name] != "" {
+			t.Errorf("%s is %s without its option", name, none[name])
+		}
+	}
+	expect(t, all, map[string]string{names[0]: "1", names[1]: "3", names[2]: "4"})
+}
+
+// A store counts how often it is asked.
+type store struct {
+	mutex sync.Mutex
+	asked int
+	stats broker.Stats
+	err   error
+}
+
+func (s *store) Stats(context.Context) (broker.Stats, error) {
+	s.mutex.Lock()
+	defer s.mutex.Unlock()
+	s.asked++
+	return s.stats, s.err
+}
+
+// over returns Metrics over a store, with a clock that the second function moves.
+func over(store *store) (*Metrics, func(time.Duration)) {
+	metrics, now := New(context.Background(), Options{}), time.Date(2024, 1, 1, 0, 0, 0, 0, time.UTC)
+	collector := newCollector(context.Background(), store)
+	collector.now = func() time.Time { return now }
+	metrics.registry.MustRegister(collector)
+	return metrics, func(by time.Duration) { now = now.Add(by) }
+}
+
+func TestCountsOfTheStore(t *testing.T) {
+	since := time.Date(2023, 12, 31, 23, 58, 0, 0, time.UTC)
+	stats := broker.Stats{Pending: 1, Operating: 2, Waiting: 3, Tombstones: 4, Oldest: since}
+	metrics, pass := over(&store{stats: stats})
+	want := map[string]string{
+		"osb_broker_store_up": "1", "osb_broker_pending": "1", "osb_broker_operating": "2", "osb_broker_waiting": "3",
+		"osb_broker_tombstones": "4", "osb_broker_oldest_unfinished_seconds": "120",
+	}
+	expect(t, metrics, want)
+	pass(30 * time.Second)
+	want["osb_broker_oldest_unfinished_seconds"] = "150"
+	expect(t, metrics, want)
+}
+
+func TestNothingUnfinishedHasNoAge(t *testing.T) {
+	for name, oldest := range map[string]time.Time{"none": {}, "to come": time.Date(2099, 1, 1, 0, 0, 0, 0, time.UTC)} {
+		t.Run(name, func(t *testing.T) {
+			metrics, _ := over(&store{stats: broker.Stats{Oldest: oldest}})
+			expect(t, metrics, map[string]string{"osb_broker_oldest_unfinished_seconds": "0"})
+		})
+	}
+}
+
+func TestTheStoreIsAskedOnceASecond(t *testing.T) {
+	counted := &store{}
+	metrics, pass := over(counted)
+	for _, step := range []struct {
+		after time.Duration
+		asked int
+	}{{0, 1}, {0, 1}, {999 * time.Millisecond, 1}, {time.Millisecond, 2}, {time.Hour, 3}} {
+		pass(step.after)
+		lines(t, metrics)
+		if counted.asked != step.asked {
+			t.Errorf("%v later it was asked %d times, want %d", step.after, counted.asked, step.asked)
+		}
+	}
+}
+
+func TestScrapesSideBySideAskTheStoreOnce(t *testing.T) {
+	counted := &store{}
+	metrics, _ := over(counted)
+	var all sync.WaitGroup
+	for number := 0; number < 5; number++ {
+		all.Add(1)
+		go func() {
+			defer all.Done()
+			request := httptest.NewRequest(http.MethodGet, "/metrics", nil)
+			metrics.Handler().ServeHTTP(httptest.NewRecorder(), request)
+		}()
+	}
+	all.Wait()
+	if counted.asked != 1 {
+		t.Errorf("it was asked %d times", counted.asked)
+	}
+}
+
+func TestAStoreThatCantBeAsked(t *testing.T) {
+	failing := &store{stats: broker.Stats{Pending: 7}}
+	metrics, pass := over(failing)
+	expect(t, metrics, map[string]string{"osb_broker_store_up": "1", "osb_broker_pending": "7"})
+	failing.err = errors.New("connection refused")
+	pass(keptFor)
+	expect(t, metrics, map[string]string{"osb_broker_store_up": "0", "osb_broker_pending": ""})
+	failing.err = nil
+	pass(keptFor)
+	expect(t, metrics, map[string]string{"osb_broker_store_up": "1", "osb_broker_pending": "7"})
+}

@@ -1,0 +1,111 @@
+package program
+
+import (
+	"fmt"
+	"net"
+	"strconv"
+	"strings"
+	"time"
+
+	"github.com/spf13/pflag"
+)
+
+// The shortest and the longest time that a flag of Seconds takes.
+const (
+	shortest = time.Millisecond
+	longest  = 24 * time.Hour
+)
+
+// Seconds returns the value of a flag that is a number of seconds, from 0.001 to 86400, with or without a fraction. It
+// sets *to to standard immediately, and to the number when the flag is read. If the text is anything else, Set returns
+// an error and leaves *to unchanged. (The formats of Seconds, Count and Address are this project's choice.)
+func Seconds(to *time.Duration, standard time.Duration) pflag.Value {
+	*to = standard
+	return (*seconds)(to)
+}
+
+// Count returns the value of a flag that is a whole number from least to most, in decimal digits. It sets *to to
+// standard immediately, and to the number when the flag is read. If the text is anything else, Set returns an error and
+// leaves *to unchanged.
+func Count(to *int, standard, least, most int) pflag.Value {
+	*to = standard
+	return &count{to: to, least: least, most: most}
+}
+
+// Address returns the value of a flag that is an address HOST:PORT at which a program listens. The host is a name, an
+// IPv4 address, or an IPv6 address with or without brackets. The port is a number from 0 to 65535, and 0 is any free
+// port. Address sets *to to standard immediately, and when the flag is read to the address in the form that package net
+// takes, such as [::1]:0. If the text is anything else, Set returns an error and leaves *to unchanged.
+func Address(to *string, standard string) pflag.Value {
+	*to = standard
+	return (*address)(to)
+}
+
+type seconds time.Duration
+
+func (s *seconds) String() string {
+	return strconv.FormatFloat(time.Duration(*s).Seconds(), 'f', -1, 64)
+}
+
+func (s *seconds) Set(text string) error {
+	number, err := strconv.ParseFloat(text, 64)
+	// a comparison with a number that isn't one is false
+	if err != nil || !(number >= shortest.Seconds() && number <= longest.Seconds()) {
+		return fmt.Errorf("want a number of seconds from %v to %v", shortest.Seconds(), longest.Seconds())
+	}
+	*s = seconds(number * float64(time.Second))
+	return nil
+}
+
+func (s *seconds) Type() string { return "seconds" }
+
+type count struct {
+	to          *int
+	least, most int
+}
+
+func (c *count) String() string { return strconv.Itoa(*c.to) }
+
+func (c *count) Set(text string) error {
+	number, err := strconv.Atoi(text)
+	if err != nil || strings.HasPrefix(text, "+") || number < c.least || number > c.most {
+		return fmt.Errorf("want a number from %d to %d", c.least, c.most)
+	}
+	*c.to = number
+	return nil
+}
+
+func (c *count) Type() string { return "number" }
+
+type address string
+
+func (a *address) String() string { return string(*a) }
+
+func (a *address) Set(text string) error {
+	colon := strings.LastIndexByte(text, ':')
+	if colon < 0 {
+		return fmt.Errorf("want HOST:PORT")
+	}
+	host, port := text[:colon], text[colon+1:]
+	if strings.HasPrefix(host, "[") && strings.HasSuffix(host, "]") {
+		host = host[1 : len(host)-1]
+	}
+	if host == "" || strings.ContainsAny(host, "/@[] ") {
+		return fmt.Errorf("want HOST:PORT, such as 127.0.0.1:8080 or [::1]:8080")
+	}
+	if !isPort(port) {
+		return fmt.Errorf("want HOST:PORT with a port from 0 to 65535")
+	}
+	*a = address(net.JoinHostPort(host, port))
+	return nil
+}
+
+func (a *address) Type() string { return "host:port" }
+
+func isPort(text string) bool {
+	if strings.Trim(text, "0123456789") != "" {
+		return false
+	}
+	_, err := strconv.ParseUint(text, 10, 16)
+	return err == nil
+}
