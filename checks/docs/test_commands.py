@@ -1,35 +1,20 @@
 """The commands of the documents, run as they stand there, but for ports and for what only root may do."""
 from __future__ import annotations
 
-import logging
 import os
 import re
 import shutil
 import subprocess
-import threading
-import time
 from pathlib import Path
-from types import SimpleNamespace
-from typing import Any
 
-import osb
 import pytest
-from docs.pages import TOP, block, blocks, covers, read
+from docs.pages import TOP, blocks, covers, packages, read
 from docs.workdir import Workdir, needs, wait_for
-from osb import Id, service, wsgi
-from osb.stores import MemoryStore
-from osb_tests import support
-from waiting import until
+from go.toolchain import NEEDS, SOURCES, TOOLS
 
 ONE = "00000000-0000-0000-0000-000000000001"
 
 pytestmark = pytest.mark.slow
-
-
-def packages(text: str) -> set[str]:
-    """The packages that the text names after apt-get install."""
-    found = re.findall(r"apt-get install((?: -\S+)*)((?: [a-z0-9.+-]+)+)", text.replace("\\\n", ""))
-    return {name for _, names in found for name in names.split()}
 
 
 def installed_by_ci() -> set[str]:
@@ -59,6 +44,7 @@ def test_packages_of_the_tests(texts: list[str]) -> None:
     assert packages("".join(texts)) - installed_by_ci() == set()
 
 
+@pytest.mark.usefixtures("broker")
 @covers("README.md", "OSB_BROKER_PASSWORD=secret ./osb-broker serve &\n")
 def test_programs(texts: list[str], workdir: Workdir, port: int) -> None:
     """An instance is created, seen at the broker, and removed."""
@@ -168,130 +154,117 @@ def test_first_program_in_rust(texts: list[str], workdir: Workdir) -> None:
 
 # ---- Go
 
+_BUILD, _START = 'scripts/go build -o "$PWD/build/folders" ', "export PORT=8080 BROKER_PASSWORD=secret\n"
+_EXAMPLE = "go/examples/folders"
 
-@covers(
-    "docs/go.md",
-    "./libosb build build\n",
-    "export PORT=8080 ",
-    "(cd examples/go && go build -o ../../build/platform-go ",
-)
+
+def needs_go(*others: str) -> None:
+    """Skips the test unless Go and what its packages need is installed."""
+    needs("go", "pkg-config", "cc", *others)
+    for name, package in NEEDS.items():
+        if not (SOURCES / "src" / name).is_dir():
+            pytest.skip(f"{name} isn't installed (Debian: {package})")
+
+
+def served_in_go(build: str, port: int) -> str:
+    """The commands that build the example and start it. GOFLAGS is that of modules in this copy."""
+    at, _, started = build.partition(_START)
+    start = (_START + started).replace("PORT=8080", f"PORT={port}")
+    return f"export GOFLAGS=\n{at}{start}{wait_for(port)}"
+
+
+@covers("docs/go.md", "sudo apt-get install ")
+def test_packages_of_the_example_in_go(texts: list[str]) -> None:
+    """They are those of the tools and of the driver of SQLite, and curl."""
+    tools = set(" ".join(TOOLS.values()).split())
+    assert packages(texts[0]) == tools | {NEEDS["github.com/mattn/go-sqlite3"], "curl"}
+
+
+def test_packages_of_go() -> None:
+    """The table has each library that the packages in go/ import, with Debian's package."""
+    rows = re.findall(r"^\| (golang-\S+) \| (\S+) \|", read("docs/go.md"), re.MULTILINE)
+    assert {library: package for package, library in rows} == NEEDS
+
+
+@covers("docs/go.md", _BUILD, "./libosb build build\n")
 def test_broker_and_platform_in_go(texts: list[str], workdir: Workdir, port: int) -> None:
-    needs("go", "pkg-config", "cc", "curl")
-    build, start, platform = texts
-    started = start.replace("PORT=8080", f"PORT={port}") + wait_for(port)
-    printed = workdir.run(f"{build}{started}examples/go/broker/curl.sh\n{platform}kill %1")
-    assert printed == read("examples/go/broker/curl.out") + read("examples/go/platform/platform.out")
+    """The broker answers curl and the platform as the page says, and has nothing left."""
+    needs_go("curl")
+    build, platform = texts
+    served = served_in_go(build, port)
+    out = workdir.run(f"{served}{_EXAMPLE}/curl.sh\n{platform}ls build/state/sold\nkill %1; wait $!")
+    assert out == read(f"{_EXAMPLE}/curl.out") + read("examples/go/platform/platform.out")
+    assert (workdir.top / "build" / "state" / "holdings.sqlite").exists()
 
 
-@covers("docs/go.md", "go mod init ", "go mod edit -require ", "CGO_LDFLAGS=")
+@covers("docs/go.md", "mkdir -p build/own/src/example.org/folders\n")
+def test_go_program_of_a_reader(texts: list[str], workdir: Workdir, port: int) -> None:
+    """It is built outside of the sources, needs no shared object of the library, and answers curl."""
+    needs_go("curl")
+    out = workdir.run(
+        f"{texts[0]}ldd build/own/broker\necho --\n"
+        f"export PORT={port} BROKER_PASSWORD=secret\nbuild/own/broker &\n{wait_for(port)}"
+        f"{_EXAMPLE}/curl.sh\nkill %1; wait $!"
+    )
+    linked, _, printed = out.partition("--\n")
+    assert "libsqlite3" in linked and "libosb" not in linked
+    assert printed == read(f"{_EXAMPLE}/curl.out")
+
+
+@covers("docs/go.md", "scripts/go doc ", "scripts/go test ")
+def test_go_doc_and_crash_test(texts: list[str], workdir: Workdir) -> None:
+    """The package's page, one name of it, and the example's tests with each crash point of the page's table."""
+    needs_go()
+    doc, test = texts
+    out = workdir.run(f"export GOFLAGS=\n{doc}{test.replace(' test ', ' test -v ')}")
+    assert "func NewService(" in out and "type Backend interface {" in out
+    rows = re.findall(r"^\| ((?:`[\w-]+-(?:next|written|running|done)`,? ?)+)\|", read("docs/go.md"), re.MULTILINE)
+    named = {name for row in rows for name in re.findall("`(.*?)`", row)}
+    tried = set(re.findall(r"--- PASS: TestCrashes/(\S+)", out))
+    assert len(tried) > 10 and named - tried == {"wait-next", "wait-written"} and tried < named
+
+
+@covers("docs/go.md", _BUILD, "go mod init ", "go mod edit -require ", "CGO_LDFLAGS=")
 def test_go_module_of_a_reader(texts: list[str], workdir: Workdir, port: int) -> None:
-    """In a folder beside the repository: a broker is built that serves, and needs no shared object."""
-    needs("go", "pkg-config", "cc", "curl")
-    module, examples, archive = texts
+    """In a folder beside the repository: a platform is built that needs no shared object, and a broker serves it."""
+    needs_go("curl")
+    build, module, examples, archive = texts
     own = (
-        "mkdir ../program\ncd ../program\ncp ../pippinterm/examples/go/broker/* .\n"
+        "./libosb build build\nexport PKG_CONFIG_PATH=$PWD/build GOFLAGS=-modcacherw\n"
+        "mkdir ../program\ncd ../program\ncp ../pippinterm/examples/go/platform/platform.go .\n"
         + module
         + examples
-        + "printf 'package main\\n\\nimport _ \"pippinterm/examples/backend\"\\n' >imported.go\n"
+        + "printf 'package main\\n\\nimport _ \"pippinterm/examples/postgres\"\\n' >imported.go\n"
         + archive
     )
-    linked = workdir.run(
-        f"./libosb build build\nexport PKG_CONFIG_PATH=$PWD/build\n{own}ldd program\n"
-        f"PORT={port} BROKER_PASSWORD=secret ./program &\n{wait_for(port)}kill %1"
-    )
+    out = workdir.run(f"{served_in_go(build, port)}{own}ldd program\necho --\n./program\nkill %1; wait $!")
+    linked, _, printed = out.partition("--\n")
     assert "libosb" not in linked, "the program needs the shared object"
+    assert printed == read("examples/go/platform/platform.out")
 
 
 # ---- Python
 
-_SERVE, _ASK = "./libosb build build\n", "broker=http"
+
+@covers("docs/python.md", "./libosb build build\n")
+def test_first_program_in_python(texts: list[str], workdir: Workdir) -> None:
+    assert workdir.run(texts[0]) == read("examples/c/story.out")
 
 
-@covers("docs/python.md", _SERVE, _ASK, "export LIBOSB=$PWD/build/libosb.so PYTHONPATH=")
-def test_broker_and_platform_in_python(texts: list[str], workdir: Workdir, port: int) -> None:
+@pytest.mark.usefixtures("broker")
+@covers(
+    "docs/python.md", "OSB_BROKER_PASSWORD=secret ./osb-broker serve ", "export LIBOSB=$PWD/build/libosb.so PYTHONPATH="
+)
+def test_platform_in_python(texts: list[str], workdir: Workdir, port: int) -> None:
+    """It prints what the page says, at a broker that serves."""
     needs("curl")
-    served, asked, ordered = (it.replace("8080", str(port)) for it in texts)
-    lines = asked.splitlines()
-    again = "\n".join(line for it in ("DELETE", "PUT") for line in lines if line.startswith(f"ask -X {it}"))
-    out = workdir.run(f"{served.rstrip()} {port} >served &\n{wait_for(port)}{asked}{again}\necho --\n{ordered}kill %1")
-    answers, _, printed = out.partition("--\n")
-    assert re.findall(r"^HTTP/1.\d (\d+)|^([0-9a-f-]{36})$", answers, re.MULTILINE) == [
-        ("200", ""),
-        ("201", ""),
-        ("", ONE),
-        ("200", ""),
-        ("410", ""),
-        ("409", ""),
-    ]
-    sentence = re.search(r"\nprints (`[^;]*);", read("docs/python.md"))
+    served, ordered = texts
+    serve = served.rstrip().replace("osb-broker serve", f"osb-broker serve --listen 127.0.0.1:{port}")
+    printed = workdir.run(
+        f"./libosb build build\n{serve} &\n{wait_for(port)}{ordered.replace('8080', str(port))}kill %1; wait $!\n"
+    )
+    sentence = re.search(r"\nIt prints (`[^.]*)\. The number ", read("docs/python.md"))
     assert sentence is not None and printed.splitlines() == re.findall("`([^`]*)`", sentence[1])
-
-
-def _serves(workdir: Workdir, port: int, command: str) -> None:
-    """The broker of docs/python.md, under the server that this command starts, answers for its catalogue."""
-    serve, ask = (block("docs/python.md", it) for it in (_SERVE, _ASK))
-    exports = serve.rpartition("python3 ")[0]
-    asked = "".join(ask.replace("8080", str(port)).splitlines(True)[:3])
-    out = workdir.run(f"{exports}{command.replace('8080', str(port))} &\n{wait_for(port)}{asked}kill %1")
-    assert out.splitlines()[0] == "HTTP/1.1 200 OK"
-
-
-_SERVERS = "(cd examples/python &&\n    gunicorn "
-
-
-@covers("docs/python.md", _SERVERS)
-def test_python_broker_under_gunicorn(texts: list[str], workdir: Workdir, port: int) -> None:
-    needs("gunicorn", "curl")
-    _serves(workdir, port, texts[0].split("\n\n")[0])
-
-
-@covers("docs/python.md", _SERVERS)
-def test_python_broker_under_waitress(texts: list[str], workdir: Workdir, port: int) -> None:
-    """It serves the same application as gunicorn does."""
-    needs("curl")
-    gunicorn, waitress = texts[0].rstrip().split("\n\n")
-    application = re.search(r"'(\w+):(.*)'\)$", gunicorn)
-    assert application is not None
-    assert f"import {application[1]}, " in waitress
-    assert f"waitress.serve({application[1]}.{application[2]}, " in waitress
-    if workdir.run("/usr/bin/python3 -c 'import waitress' 2>&1 || true"):
-        pytest.skip("waitress isn't installed (Debian: apt-get install python3-waitress)")
-    _serves(workdir, port, waitress)
-
-
-@covers("docs/python.md", "class Slow:")
-def test_slow_worker(texts: list[str], caplog: pytest.LogCaptureFixture) -> None:
-    """It makes and deletes an instance of an asynchronous plan, also after the backend has failed once."""
-    things: set[Id] = set()
-    failures = [OSError("the backend is down")]
-
-    def make(id: Id) -> bool:
-        if failures:
-            raise failures.pop()
-        things.add(id)
-        return True
-
-    def delete(id: Id) -> bool:
-        things.discard(id)
-        return True
-
-    def ended(status: int) -> bool:
-        reply = support.poll(broker, plan=support.ASYNC)
-        return reply.status == status and b"progress" not in reply.body
-
-    quick = SimpleNamespace(sleep=lambda _: time.sleep(0.01))
-    names: dict[str, Any] = {**vars(osb), **vars(service), **vars(wsgi), "logging": logging, "time": quick}
-    names.update(keep=lambda task: None, make=make, delete=delete)
-    exec(texts[0], names)
-    broker = wsgi.BrokerApplication(support.CATALOGUE, MemoryStore(), names["Slow"](), support.USER, support.PASSWORD)
-    caplog.set_level(logging.CRITICAL)
-    threading.Thread(target=names["go_on"], args=[broker], daemon=True).start()
-    assert support.provision(broker, plan=support.ASYNC).status == 202
-    until(lambda: ended(200))
-    assert things == {support.ONE} and not failures
-    assert support.deprovision(broker, plan=support.ASYNC).status == 202
-    until(lambda: ended(410))
-    assert not things
 
 
 # What pip needs without a network: setuptools makes wheels itself from 70.1 on. It prints where that is.

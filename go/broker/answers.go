@@ -18,9 +18,11 @@ var (
 // read reads what a request asks, and judges what the plan asks of it.
 func (h *Handler) read(x *exchange, body []byte) (asked Asked, err error) {
 	path, _, _ := strings.Cut(x.request.RequestURI, "?")
+	err = osb.ErrRefusedTarget
 	if strings.Contains(path, "/service_bindings") {
 		asked, err = h.readBinding(x, body)
-	} else {
+	}
+	if errors.Is(err, osb.ErrRefusedTarget) { // an instance may have that name
 		asked, err = h.readInstance(x, body)
 	}
 	if err != nil {

@@ -106,8 +106,8 @@ type publicError struct {
 
 func (p *publicError) Unwrap() error { return p.error }
 
-// descriptionOf is what the platform is told of an error, and empty if that is nothing.
-func descriptionOf(err error) string {
+// Description is what the platform is told of an error: the description of a *Rejected or of Public, and otherwise empty.
+func Description(err error) string {
 	var rejected *Rejected
 	if errors.As(err, &rejected) {
 		return rejected.Description

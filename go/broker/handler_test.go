@@ -202,6 +202,18 @@ func TestRefusals(t *testing.T) {
 	}
 }
 
+// An instance may have the name of a part of a path.
+func TestOddNames(t *testing.T) {
+	s := newSite(t, setting{})
+	for _, name := range []string{"service_bindings", "last_operation", "a%2Fservice_bindings%2Fb", "%20"} {
+		s.expect(t, 201, "PUT", instances+name, bodyOf(now, ""))
+		s.expect(t, 200, "GET", instances+name+"/last_operation", "")
+		s.expect(t, 201, "PUT", instances+name+"/service_bindings/"+name, bodyOf(now, ""))
+		s.expect(t, 200, "DELETE", instances+name+"/service_bindings/"+name+names(now), "")
+		s.expect(t, 200, "DELETE", instances+name+names(now), "")
+	}
+}
+
 // A body that ends too early is answered with 408, and one that nobody may send isn't read.
 func TestBodies(t *testing.T) {
 	s := newSite(t, setting{})

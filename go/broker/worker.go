@@ -116,7 +116,7 @@ func (w worker) told(request Request, what string, isDone bool, failed error, ca
 		failed = errors.New("the backend returned no error, and it isn't so")
 	}
 	w.observer.Failed(Failure{Event: "backend_failed_to_" + what, Key: request.Key, IsNamed: true, Err: failed})
-	given := result{outcome: osb.OutcomeBefore, description: descriptionOf(failed)}
+	given := result{outcome: osb.OutcomeBefore, description: Description(failed)}
 	if what == "create" && errors.As(failed, &given.rejected) {
 		given.outcome = osb.OutcomeRefused400
 		if given.rejected.Status == 422 {

@@ -2,7 +2,10 @@ package osb_test
 
 import (
 	"context"
+	"encoding/json"
 	"errors"
+	"fmt"
+	"io"
 	"net/http"
 	"net/http/httptest"
 	"sync"
@@ -11,168 +14,6 @@ import (
 
 	"pippinterm/osb"
 )
-
-// A backend is what a worker of these tests works at: the things that are there. What it does is told by next, where
-// that is set.
-type backend struct {
-	turn   sync.Mutex
-	things map[osb.ID]bool
-	worked int
-	next   func(ctx context.Context, task osb.Task) (osb.Outcome, error)
-}
-
-func (b *backend) Work(ctx context.Context, task osb.Task) (osb.Outcome, error) {
-	b.turn.Lock()
-	next := b.next
-	b.worked++
-	b.turn.Unlock()
-	if next != nil {
-		return next(ctx, task)
-	}
-	b.set(task.Request.ID, task.Work == osb.WorkMake || task.Work == osb.WorkStartMaking)
-	return osb.OutcomeDone, nil
-}
-
-func (b *backend) set(id osb.ID, there bool) {
-	b.turn.Lock()
-	defer b.turn.Unlock()
-	if b.things[id] = there; !there {
-		delete(b.things, id)
-	}
-}
-
-func (b *backend) become(next func(context.Context, osb.Task) (osb.Outcome, error)) {
-	b.turn.Lock()
-	defer b.turn.Unlock()
-	b.next = next
-}
-
-// count is how many things are there, and how often was worked.
-func (b *backend) count() (things, worked int) {
-	b.turn.Lock()
-	defer b.turn.Unlock()
-	return len(b.things), b.worked
-}
-
-// A pair is a broker behind HTTP and a platform that speaks to it. What stands between them is through, where that is
-// set.
-type pair struct {
-	t       *testing.T
-	backend *backend
-	store   *osb.MemoryStore
-	records *osb.MemoryRecords
-	broker  *osb.Broker
-	client  *osb.Client
-	server  *httptest.Server
-
-	turn    sync.Mutex
-	through func(http.ResponseWriter, *http.Request, http.Handler)
-	logged  []error
-}
-
-func newPair(t *testing.T) *pair {
-	t.Helper()
-	p := &pair{
-		t: t, backend: &backend{things: map[osb.ID]bool{}}, store: osb.NewMemoryStore(), records: osb.NewMemoryRecords(),
-	}
-	p.broker = p.newBroker(p.store, p.backend)
-	p.server = httptest.NewServer(http.HandlerFunc(p.serve))
-	t.Cleanup(p.server.Close)
-	p.client = p.newClient(&http.Client{Timeout: 5 * time.Second})
-	return p
-}
-
-func (p *pair) newBroker(store osb.Store, worker osb.Worker) *osb.Broker {
-	p.t.Helper()
-	broker, err := osb.NewBroker(osb.BrokerConfig{
-		Catalogue: []byte(catalogueText), Store: store, Worker: worker, User: "platform", Password: "secret",
-		Prefix: "/postgres", LongestBody: 1000, Log: p.log,
-	})
-	if err != nil {
-		p.t.Fatal(err)
-	}
-	return broker
-}
-
-func (p *pair) newClient(exchanges *http.Client) *osb.Client {
-	p.t.Helper()
-	client, err := osb.NewClient(osb.ClientConfig{
-		URL: p.server.URL + "/postgres/", User: "platform", Password: "secret", Organization: "org", Space: "space",
-		Store: p.records, HTTP: exchanges, LongestAnswer: 1000,
-	})
-	if err != nil {
-		p.t.Fatal(err)
-	}
-	return client
-}
-
-func (p *pair) log(err error) {
-	p.turn.Lock()
-	defer p.turn.Unlock()
-	p.logged = append(p.logged, err)
-}
-
-// hasLogged is whether the broker's log was told of this error.
-func (p *pair) hasLogged(target error) bool {
-	p.turn.Lock()
-	defer p.turn.Unlock()
-	for _, err := range p.logged {
-		if errors.Is(err, target) {
-			return true
-		}
-	}
-	return false
-}
-
-func (p *pair) serve(w http.ResponseWriter, r *http.Request) {
-	p.turn.Lock()
-	through := p.through
-	p.turn.Unlock()
-	if through == nil {
-		p.broker.ServeHTTP(w, r)
-		return
-	}
-	through(w, r, p.broker)
-}
-
-func (p *pair) become(through func(http.ResponseWriter, *http.Request, http.Handler)) {
-	p.turn.Lock()
-	defer p.turn.Unlock()
-	p.through = through
-}
-
-// answering has each request answered so, in the broker's place.
-func (p *pair) answering(status int, body string, headers ...string) {
-	p.become(func(w http.ResponseWriter, _ *http.Request, _ http.Handler) {
-		for at := 0; at < len(headers); at += 2 {
-			w.Header().Set(headers[at], headers[at+1])
-		}
-		w.WriteHeader(status)
-		_, _ = w.Write([]byte(body))
-	})
-}
-
-// stands fails where the instance doesn't stand so, for the platform, the broker and the backend.
-func (p *pair) stands(standing osb.Standing, err error, state osb.State, holding string, things int) {
-	p.t.Helper()
-	stored, _ := p.records.Record(instance)
-	if err != nil || standing.State != state || stored.Record.State() != state {
-		p.t.Fatalf("%v, %v; recorded is %v, and not %v", standing, err, stored.Record.State(), state)
-	}
-	if held := textOf(p.t, p.store.Holding(instance)); held != holding {
-		p.t.Fatalf("held is %s, and not %s", held, holding)
-	}
-	if there, _ := p.backend.count(); there != things {
-		p.t.Fatalf("%d things are there, and not %d", there, things)
-	}
-}
-
-func (p *pair) finish(ok bool) {
-	p.t.Helper()
-	if err := p.broker.Finish(context.Background(), instance, ok); err != nil {
-		p.t.Fatal(err)
-	}
-}
 
 // The life of an instance of an asynchronous plan.
 func TestAsynchronous(t *testing.T) {
@@ -197,9 +38,6 @@ func TestAsynchronous(t *testing.T) {
 	p.finish(true)
 	standing, err = p.client.Step(ctx, instance)
 	p.stands(standing, err, osb.StateGone, tombstone, 0)
-	if err := p.broker.Finish(ctx, instance, true); !errors.Is(err, osb.ErrNothingRunning) {
-		t.Error(err)
-	}
 }
 
 // Polling takes too long, and is given up.
@@ -240,12 +78,10 @@ func TestLostAnswerAndLateProvision(t *testing.T) {
 	p.become(nil)
 	standing, err = p.client.Step(ctx, instance)
 	p.stands(standing, err, osb.StateGone, tombstone, 0)
-	_, worked := p.backend.count()
-
 	again := httptest.NewRecorder()
 	p.broker.ServeHTTP(again, <-late)
 	p.stands(standing, err, osb.StateGone, tombstone, 0)
-	if _, now := p.backend.count(); again.Code != http.StatusConflict || now != worked {
+	if again.Code != http.StatusConflict {
 		t.Errorf("%d %s", again.Code, again.Body)
 	}
 }
@@ -274,13 +110,15 @@ func TestProvisionAfterThe410(t *testing.T) {
 // The platform gives up while the broker works: the deletion that overtakes is answered as busy.
 func TestGivenUpWhileMade(t *testing.T) {
 	p, ctx := newPair(t), context.Background()
-	release, ended := make(chan struct{}), make(chan struct{})
-	p.backend.become(func(ctx context.Context, task osb.Task) (osb.Outcome, error) {
-		<-release
-		if ctx.Err() != nil {
-			t.Error("the work was cancelled with its requester")
+	released, ended := make(chan struct{}), make(chan struct{})
+	var once sync.Once
+	release := func() { once.Do(func() { close(released) }) }
+	t.Cleanup(release) // if the test fails before: the server waits for its requests
+	p.broker.become(func(work osb.Work, id osb.ID) (osb.Outcome, error) {
+		if work == osb.WorkMake {
+			<-released
 		}
-		p.backend.set(task.Request.ID, true)
+		p.broker.set(id, work == osb.WorkMake)
 		return osb.OutcomeDone, nil
 	})
 	p.become(func(w http.ResponseWriter, r *http.Request, broker http.Handler) {
@@ -296,12 +134,8 @@ func TestGivenUpWhileMade(t *testing.T) {
 	if standing.Answer != (osb.Answer{Status: 422, Body: osb.BodyConcurrencyError}) {
 		t.Error(standing.Answer)
 	}
-	if err := p.broker.Finish(ctx, instance, true); !errors.Is(err, osb.ErrStillRecorded) {
-		t.Error(err)
-	}
-	close(release)
+	release()
 	<-ended
-	p.backend.become(nil)
 	p.stands(standing, nil, osb.StateCleaning, ready, 1)
 	standing, err = p.client.Step(ctx, instance)
 	p.stands(standing, err, osb.StateGone, tombstone, 0)
@@ -353,5 +187,83 @@ func TestIDUsed(t *testing.T) {
 	other := osb.MustParseID("00000000-0000-0000-0000-000000000002")
 	if _, err := p.client.Step(ctx, other); !errors.Is(err, osb.ErrUnknown) {
 		t.Error(err)
+	}
+}
+
+// A plan that isn't sold is rejected with 400, and nothing is held.
+func TestNotSold(t *testing.T) {
+	p := newPair(t)
+	standing, err := p.client.Create(context.Background(), instance, service, service)
+	p.stands(standing, err, osb.StateGone, none, 0)
+	if standing.Answer != (osb.Answer{Status: 400, Body: osb.BodyOtherError}) {
+		t.Error(standing.Answer)
+	}
+}
+
+// Nobody at the broker knows how the work went. The 500 is an answer, and the platform cleans up once the work ended.
+func TestUnknownOutcome(t *testing.T) {
+	p, ctx := newPair(t), context.Background()
+	work := p.broker.work
+	p.broker.become(func(osb.Work, osb.ID) (osb.Outcome, error) { return 0, errors.New("nobody knows") })
+	busy := working("null", provisionWork+syncIDs+`}`)
+	standing, err := p.client.Create(ctx, instance, service, plan)
+	p.stands(standing, err, osb.StateCleaning, busy, 0)
+	if standing.Lost != nil || standing.Answer.Status != http.StatusInternalServerError {
+		t.Error(standing)
+	}
+	standing, err = p.client.Step(ctx, instance) // 422
+	p.stands(standing, err, osb.StateCleaning, busy, 0)
+	p.broker.become(work)
+	p.broker.resume(instance)
+	p.stands(standing, nil, osb.StateCleaning, ready, 1)
+	standing, err = p.client.Step(ctx, instance)
+	p.stands(standing, err, osb.StateGone, tombstone, 0)
+}
+
+// Further members of the body reach the broker, beside those that the client writes.
+func TestCreateWith(t *testing.T) {
+	p := newPair(t)
+	var body struct {
+		Organization string `json:"organization_guid"`
+		Parameters   struct{ Size int }
+	}
+	p.become(func(w http.ResponseWriter, r *http.Request, broker http.Handler) {
+		text, err := io.ReadAll(copyOf(t, r).Body)
+		if err != nil || json.Unmarshal(text, &body) != nil {
+			t.Errorf("%s, %v", text, err)
+		}
+		broker.ServeHTTP(w, r)
+	})
+	further := []byte(`{"parameters":{"size":1}}`)
+	standing, err := p.client.CreateWith(context.Background(), instance, service, plan, further)
+	p.stands(standing, err, osb.StateReady, ready, 1)
+	if body.Organization != "org" || body.Parameters.Size != 1 {
+		t.Errorf("%+v", body)
+	}
+}
+
+// Many calls at once: of several that create an id, one does.
+func TestAtOnce(t *testing.T) {
+	p, ctx := newPair(t), context.Background()
+	var all sync.WaitGroup
+	for at := 0; at < 20; at++ {
+		id := osb.MustParseID(fmt.Sprintf("00000000-0000-0000-0000-0000000001%02d", at))
+		for copies := 0; copies < 3; copies++ {
+			all.Add(1)
+			go func() {
+				defer all.Done()
+				standing, err := p.client.Create(ctx, id, service, plan)
+				if errors.Is(err, osb.ErrIDUsed) {
+					return
+				}
+				if err != nil || standing.State != osb.StateReady || standing.Answer.Status != http.StatusCreated {
+					t.Error(standing, err)
+				}
+			}()
+		}
+	}
+	all.Wait()
+	if things := p.broker.count(); things != 20 {
+		t.Errorf("%d resources exist", things)
 	}
 }

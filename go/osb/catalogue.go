@@ -99,38 +99,3 @@ func MaintenanceConflict(version *string, body []byte) error {
 	sold, hasVersion := optional(version)
 	return done(C.osb_maintenance_conflict(hasVersion, pointer(sold), size(sold), pointer(body), size(body)))
 }
-
-// A catalogue is how each plan on sale works, by its service and plan.
-type catalogue map[[2]ID]Mode
-
-func catalogueOf(plans []Plan) catalogue {
-	modes := catalogue{}
-	for _, plan := range plans {
-		mode := ModeSync
-		if plan.IsAsynchronous {
-			mode = ModeAsync
-		}
-		modes[[2]ID{plan.Service, plan.Plan}] = mode
-	}
-	return modes
-}
-
-// mode is how a plan works, and ModeNone where it isn't on sale.
-func (c catalogue) mode(service, plan ID) Mode {
-	if mode, ok := c[[2]ID{service, plan}]; ok {
-		return mode
-	}
-	return ModeNone
-}
-
-// fits is whether the holding of this id can come about with these plans.
-func (c catalogue) fits(id ID, h Holding) bool {
-	mode := ModeNone
-	if row, ok := h.Row(); ok {
-		mode = c.mode(row.Service, row.Plan)
-	} else if work, ok := h.Work(); ok {
-		mode = c.mode(work.Service, work.Plan)
-	}
-	work, ok := h.Work()
-	return h.Fits(mode) && (!ok || work.ID == id)
-}

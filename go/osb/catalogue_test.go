@@ -11,6 +11,12 @@ import (
 	"pippinterm/osb"
 )
 
+// A catalogue with a plan of each mode.
+const catalogueText = `{"services":[{"id":"00000000-0000-0000-0000-0000000000a0","name":"database",
+	"description":"A database","bindable":false,"plans":[
+	{"id":"00000000-0000-0000-0000-0000000000b1","name":"small","description":"Made at once"},
+	{"id":"00000000-0000-0000-0000-0000000000b2","name":"large","description":"Takes its time","asynchronous":true}]}]}`
+
 // A catalogue in which each flag is promised, and a plan has a version.
 const sold = `{"services": [
 	{"id": "a0", "name": "database", "description": "A database", "bindable": true, "plan_updateable": true,

@@ -39,6 +39,9 @@ type Client struct {
 	prefix string // what stands before /v2 in the path
 }
 
+// defaultLongest is the greatest length of an answer's body if the ClientConfig names none, in bytes.
+const defaultLongest = 1 << 20
+
 // A Standing is where an instance stands.
 type Standing struct {
 	State      State

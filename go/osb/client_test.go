@@ -27,6 +27,7 @@ func TestLost(t *testing.T) {
 		"just short enough": {201, `{}` + strings.Repeat(" ", 998), false, osb.StateReady},
 		"a refusal":         {400, `{"error":"x"}`, false, osb.StateGone},
 		"garbled":           {201, `{`, false, osb.StateCleaning},
+		"an error":          {500, `{"error":"x"}`, false, osb.StateCleaning},
 	} {
 		p := newPair(t)
 		p.answering(row.status, row.body)

@@ -1,21 +1,21 @@
-// Package osb is the life of a service instance under the Open Service Broker API 2.17, for both ends: the platform,
-// which orders instances, and the broker, which sells them.
+// Package osb has service instances and service bindings as values, and the requests and answers of the Open Service
+// Broker API 2.17. It is for both sides: the platform, which creates instances, and the broker, which sells them.
 //
-// It stands over libosb, which is proved: every table, every transition and every text is decided there, and this
-// package carries values over, bytes between net/http and the library, and holdings and records between the library
-// and a database. Nothing here decides what becomes of an instance.
+// It calls libosb, which is proved. The library decides what becomes of an instance, and it has every table and every
+// text. This package carries values to C and back, and bytes between net/http and the library.
 //
-//   - [Broker] is an http.Handler. Its user brings a [Store], which keeps a [Holding] for each instance in a database,
-//     and a [Worker], which makes and deletes what is sold.
-//   - [Client] is a platform. Its user brings a [RecordStore], which keeps a [Record] for each instance.
-//   - [Record] and [Holding] are values with the whole of both rules, for programs with a shape of their own; beside
-//     them stand the wire ([ReceiveRequest], [WriteAnswer], [WriteNamedTarget], [ReadAnswer] ..) and the platform's
-//     tables ([Mitigates], [DecideProvision] ..).
+//   - [Record] and [Holding] are one instance or binding as a value: a Record is what a platform keeps of it, and a
+//     Holding what a broker keeps. Each has a text for a column of a database.
+//   - [ReceiveRequest], [WriteAnswer], [WriteNamedTarget], [ReadAnswer] and others read and write requests and answers.
+//     [CheckCatalogue] and others read a catalogue.
+//   - [Mitigates], [DecideProvision] and others are the platform's tables.
+//   - [Client] is a platform over net/http. Its user brings a [RecordStore], which keeps a Record for each instance.
 //
-// What is promised holds where the user keeps what docs/instance.md and docs/agreement.md of the repository ask: a
-// transaction that locks its row, one worker at a time at an instance, outcomes that are told truly, ids that are used
-// once. docs/go.md has a whole program, and says how the package is built.
+// Package pippinterm/broker is a broker over these values, as an http.Handler.
 //
-// Errors are values: a [Status] of the library, which errors.Is finds, as errors.Is(err, osb.ErrBusy). All functions
-// may be called from any goroutine; the values own nothing.
+// The promises hold if the program around the values satisfies what docs/instance.md and docs/binding.md ask for under
+// "What to write when", and the assumptions of docs/premises.md. docs/go.md has programs, and says how to build them.
+//
+// Errors are values: a [Status] of the library, which errors.Is finds, as in errors.Is(err, osb.ErrBusy). All functions
+// may be called from any goroutine. The values own nothing.
 package osb

@@ -16,11 +16,6 @@ var (
 	async    = osb.MustParseID("00000000-0000-0000-0000-0000000000b2")
 )
 
-const catalogueText = `{"services":[{"id":"00000000-0000-0000-0000-0000000000a0","name":"database",
-	"description":"A database","bindable":false,"plans":[
-	{"id":"00000000-0000-0000-0000-0000000000b1","name":"small","description":"Made at once"},
-	{"id":"00000000-0000-0000-0000-0000000000b2","name":"large","description":"Takes its time","asynchronous":true}]}]}`
-
 // One instance, by both sides, without HTTP: what each keeps is a value, and its text goes to a database.
 func Example_values() {
 	record, sent := osb.Create(instance, service, plan, false)
@@ -74,29 +69,16 @@ func ExampleReceiveRequest() {
 	// true
 }
 
-// A whole broker, and a platform that has an instance made and deleted.
-func Example() {
+// A platform that creates an instance and deletes it again. Here a small broker of the tests answers.
+func ExampleClient() {
 	ctx := context.Background()
-	broker, err := osb.NewBroker(osb.BrokerConfig{
-		Catalogue: []byte(catalogueText),
-		Store:     osb.NewMemoryStore(),
-		Worker: osb.WorkerFunc(func(_ context.Context, task osb.Task) (osb.Outcome, error) {
-			fmt.Println("the worker has to", task.Work)
-			return osb.OutcomeDone, nil
-		}),
-		User: "platform", Password: "secret",
-	})
-	if err != nil {
-		fmt.Println(err)
-		return
-	}
-	server := httptest.NewServer(broker)
-	defer server.Close()
+	broker := httptest.NewServer(newSeller(""))
+	defer broker.Close()
 
 	client, err := osb.NewClient(osb.ClientConfig{
-		URL: server.URL, User: "platform", Password: "secret",
+		URL: broker.URL, User: "platform", Password: "secret",
 		Organization: "an organization", Space: "a space",
-		Store: osb.NewMemoryRecords(),
+		Store: osb.NewMemoryRecords(), // forgets everything: a platform's records belong in a database
 	})
 	if err != nil {
 		fmt.Println(err)
@@ -109,9 +91,7 @@ func Example() {
 	standing, err = client.Step(ctx, instance)
 	fmt.Println(standing.State, err)
 	// Output:
-	// the worker has to make
 	// ready <nil>
 	// cleaning <nil>
-	// the worker has to delete
 	// gone <nil>
 }

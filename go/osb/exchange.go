@@ -5,6 +5,7 @@ import (
 	"context"
 	"errors"
 	"fmt"
+	"io"
 	"math"
 	"net/http"
 	"time"
@@ -41,6 +42,15 @@ func (c *Client) outgoing(request Request, operation *string, further []byte) (o
 	}
 	out.body, err = WriteBody(request, c.config.Organization, c.config.Space, further)
 	return out, err
+}
+
+// readAtMost reads all, or one byte more than the longest.
+func readAtMost(from io.Reader, longest int) ([]byte, error) {
+	limit := int64(longest)
+	if limit < math.MaxInt64 {
+		limit++
+	}
+	return io.ReadAll(io.LimitReader(from, limit))
 }
 
 // exchange sends a request whose record is written, and takes what comes back.

@@ -6,6 +6,7 @@ import "C"
 import (
 	"database/sql/driver"
 	"encoding/binary"
+	"encoding/hex"
 	"fmt"
 )
 
@@ -47,15 +48,32 @@ func MustParseID(text string) ID {
 
 // String is the number of the id as a GUID in lower case, which is the id's text only if that is such a GUID.
 func (id ID) String() string {
-	text, _ := id.MarshalText()
-	return string(text)
+	text := id.text()
+	return string(text[:])
 }
 
-// MarshalText writes the number of the id as String has it. So does encoding/json.
+// MarshalText writes the number of the id as String has it. So does encoding/json. The error is always nil.
 func (id ID) MarshalText() ([]byte, error) {
-	text := make([]byte, 36)
-	C.osb_id_to_text(id.c(), pointer(text))
-	return text, nil
+	text := id.text()
+	return text[:], nil
+}
+
+// text is the text that osb_id_to_text writes. A broker writes several ids for each request, so it is written here
+// without a call of C. A test compares both.
+func (id ID) text() (text [36]byte) {
+	hex.Encode(text[:8], id[:4])
+	hex.Encode(text[9:13], id[4:6])
+	hex.Encode(text[14:18], id[6:8])
+	hex.Encode(text[19:23], id[8:10])
+	hex.Encode(text[24:], id[10:])
+	text[8], text[13], text[18], text[23] = '-', '-', '-', '-'
+	return text
+}
+
+// textOfLibrary is the text that osb_id_to_text writes.
+func (id ID) textOfLibrary() (text [36]byte) {
+	C.osb_id_to_text(id.c(), pointer(text[:]))
+	return text
 }
 
 // UnmarshalText reads an id as ParseID does. Where it is refused the id is as before.

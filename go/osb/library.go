@@ -9,9 +9,9 @@ import "C"
 // Version is the version of the library that is linked, as OSB_VERSION of osb.h has it: 300 for 0.3.0.
 func Version() uint32 { return uint32(C.osb_version()) }
 
-// HeaderVersion is that of the osb.h over which this package was compiled. NewBroker and NewClient compare it with
-// Version, and refuse a library of another 0.x; a program that is linked to a shared library and calls neither compares
-// itself.
+// HeaderVersion is the version of the osb.h over which this package was compiled. NewClient compares it with Version,
+// and rejects a library of another 0.x. A program that is linked to a shared library and doesn't call NewClient has to
+// compare them itself.
 const HeaderVersion uint32 = C.OSB_VERSION
 
 // done is nil where the call was done, and else its status.

@@ -5,49 +5,6 @@ import (
 	"sync"
 )
 
-// A MemoryStore is a Store for tests and examples. It forgets everything when the program ends, and with it the tombstones
-// and the pending work on which the agreement of both sides rests: no broker that sells anything keeps its holdings
-// there.
-type MemoryStore struct {
-	turn     sync.Mutex
-	holdings map[ID]Holding
-}
-
-// NewMemoryStore is an empty one.
-func NewMemoryStore() *MemoryStore { return &MemoryStore{holdings: map[ID]Holding{}} }
-
-// Change is one transaction. One runs at a time.
-func (m *MemoryStore) Change(_ context.Context, id ID, step func(Holding) (Holding, error)) error {
-	m.turn.Lock()
-	defer m.turn.Unlock()
-	next, err := step(m.holdings[id])
-	if err != nil {
-		return err
-	}
-	m.holdings[id] = next
-	return nil
-}
-
-// Recorded lists the instances with pending work.
-func (m *MemoryStore) Recorded(context.Context) ([]ID, error) {
-	m.turn.Lock()
-	defer m.turn.Unlock()
-	var ids []ID
-	for id, holding := range m.holdings {
-		if _, ok := holding.Work(); ok {
-			ids = append(ids, id)
-		}
-	}
-	return ids, nil
-}
-
-// Holding is what is held of an instance.
-func (m *MemoryStore) Holding(id ID) Holding {
-	m.turn.Lock()
-	defer m.turn.Unlock()
-	return m.holdings[id]
-}
-
 // A MemoryRecords is a RecordStore for tests and examples. It forgets everything when the program ends: no platform
 // that buys anything keeps its records there.
 type MemoryRecords struct {

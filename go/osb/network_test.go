@@ -19,9 +19,8 @@ type world struct {
 	t        *testing.T
 	chance   *rand.Rand
 	calm     bool // from then on nothing goes wrong
-	store    *osb.MemoryStore
 	records  *osb.MemoryRecords
-	broker   *osb.Broker
+	broker   *seller
 	client   *osb.Client
 	sent     []*http.Request // each request that was ever sent
 	resource bool            // whether what is sold is there
@@ -30,18 +29,13 @@ type world struct {
 func newWorld(t *testing.T, seed int64) *world {
 	t.Helper()
 	w := &world{
-		t: t, chance: rand.New(rand.NewSource(seed)), store: osb.NewMemoryStore(), records: osb.NewMemoryRecords(),
+		t: t, chance: rand.New(rand.NewSource(seed)), records: osb.NewMemoryRecords(), broker: newSeller(""),
 	}
+	w.broker.become(w.work)
 	var err error
-	w.broker, err = osb.NewBroker(osb.BrokerConfig{
-		Catalogue: []byte(catalogueText), Store: w.store, Worker: osb.WorkerFunc(w.work), User: "u", Password: "p",
-	})
-	if err != nil {
-		t.Fatal(err)
-	}
 	w.client, err = osb.NewClient(osb.ClientConfig{
-		URL: "http://broker.example", User: "u", Password: "p", Organization: "org", Space: "space", Store: w.records,
-		HTTP: &http.Client{Transport: w},
+		URL: "http://broker.example", User: "platform", Password: "secret", Organization: "org", Space: "space",
+		Store: w.records, HTTP: &http.Client{Transport: w},
 	})
 	if err != nil {
 		t.Fatal(err)
@@ -96,9 +90,9 @@ func (w *world) arriveLate() {
 }
 
 // work goes by chance, and tells truly how it went, where it does.
-func (w *world) work(_ context.Context, task osb.Task) (osb.Outcome, error) {
-	made := task.Work == osb.WorkMake
-	if task.Work == osb.WorkStartMaking || task.Work == osb.WorkStartDeleting {
+func (w *world) work(work osb.Work, _ osb.ID) (osb.Outcome, error) {
+	made := work == osb.WorkMake
+	if work == osb.WorkStartMaking || work == osb.WorkStartDeleting {
 		made = w.resource // the operation comes later
 	}
 	if w.calm {
@@ -110,7 +104,7 @@ func (w *world) work(_ context.Context, task osb.Task) (osb.Outcome, error) {
 		w.resource = w.chance.Intn(2) == 0
 		return 0, errors.New("nobody knows")
 	case 1:
-		w.resource = task.Work == osb.WorkDelete || task.Work == osb.WorkStartDeleting
+		w.resource = work == osb.WorkDelete || work == osb.WorkStartDeleting
 		return osb.OutcomeBefore, nil
 	case 2:
 		w.resource = made
@@ -122,13 +116,13 @@ func (w *world) work(_ context.Context, task osb.Task) (osb.Outcome, error) {
 
 // finish ends the operation that runs, if one does.
 func (w *world) finish(ok bool) {
-	row, held := w.store.Holding(instance).Row()
-	_, recorded := w.store.Holding(instance).Work()
+	row, held := w.broker.holding(instance).Row()
+	_, recorded := w.broker.holding(instance).Work()
 	if !held || recorded || row.Phase != osb.PhaseMaking && row.Phase != osb.PhaseDeleting {
 		return
 	}
 	w.resource = ok == (row.Phase == osb.PhaseMaking)
-	if err := w.broker.Finish(context.Background(), instance, ok); err != nil {
+	if err := w.broker.finish(instance, ok); err != nil {
 		w.t.Fatal(err)
 	}
 }
@@ -141,7 +135,7 @@ func (w *world) happen(ctx context.Context) {
 	case 1:
 		_, _ = w.client.Expire(ctx, instance)
 	case 2, 3:
-		_ = w.broker.Resume(ctx)
+		w.broker.resume(instance)
 	case 4, 5:
 		w.finish(w.chance.Intn(2) == 0)
 	case 6, 7:
@@ -155,7 +149,7 @@ func (w *world) happen(ctx context.Context) {
 func (w *world) agree(seed int64) osb.State {
 	w.t.Helper()
 	stored, _ := w.records.Record(instance)
-	holding := w.store.Holding(instance)
+	holding := w.broker.holding(instance)
 	row, held := holding.Row()
 	_, recorded := holding.Work()
 	state := stored.Record.State()
@@ -183,7 +177,7 @@ func TestAnyNetwork(t *testing.T) {
 		w.agree(seed)
 		w.calm = true
 		for round := 0; round < 3; round++ {
-			_ = w.broker.Resume(ctx)
+			w.broker.resume(instance)
 			w.finish(true)
 			_, _ = w.client.Step(ctx, instance)
 			w.agree(seed)

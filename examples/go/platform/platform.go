@@ -1,4 +1,4 @@
-// A platform that orders an instance of the broker beside it, has it deleted again, and prints what it records.
+// A platform that creates an instance at a broker of this machine, deletes it again, and prints what it records.
 package main
 
 import (
@@ -39,7 +39,7 @@ func main() {
 	settle(ctx, client, standing, err)
 }
 
-// settle prints where the instance stands, and does what is due until nothing is.
+// settle prints the state of the instance, and does what is due until nothing is.
 func settle(ctx context.Context, client *osb.Client, standing osb.Standing, err error) {
 	for err == nil {
 		fmt.Println(standing.State)

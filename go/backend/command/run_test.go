@@ -1,0 +1,221 @@
+package command
+
+import (
+	"context"
+	"encoding/json"
+	"errors"
+	"io"
+	"os"
+	"strings"
+	"syscall"
+	"testing"
+	"time"
+
+	"pippinterm/broker"
+)
+
+func TestMostOutput(t *testing.T) {
+	backend := newBackend(t, Options{}, `head -c $BYTES /dev/zero | tr '\0' ' '; eval "$THEN"`)
+	for _, c := range []struct {
+		bytes, then string
+		isTooLong   bool
+	}{{"1048576", "", false}, {"1048577", "", true}, {"1048577", "exec yes", true}} {
+		backend.environment = append(backend.environment, "BYTES="+c.bytes, "THEN="+c.then)
+		if err := backend.Create(ctx, instance); errors.Is(err, errTooLong) != c.isTooLong || (err != nil) != c.isTooLong {
+			t.Errorf("after %s bytes %s, Create returned %v", c.bytes, c.then, err)
+		}
+	}
+}
+
+func TestEndOfStandardError(t *testing.T) {
+	backend := newBackend(t, Options{}, `head -c 1000000 /dev/zero | tr '\0' a >&2; printf end >&2; exit 1`)
+	err := backend.Create(ctx, instance)
+	if err == nil || !strings.HasSuffix(err.Error(), strings.Repeat("a", keptErrors-3)+"end") {
+		t.Fatalf("Create returned %.100v", err)
+	}
+	if strings.Contains(err.Error(), strings.Repeat("a", keptErrors)) {
+		t.Errorf("the error has %d bytes", len(err.Error()))
+	}
+}
+
+// A program may leave the input unread, though it is larger than what a pipe takes.
+func TestInputThatIsNotRead(t *testing.T) {
+	request := instance
+	request.Body = json.RawMessage(`{"parameters": {"x": "` + strings.Repeat("x", 1<<20) + `"}}`)
+	if err := newBackend(t, Options{}, `exec <&-`).Create(ctx, request); err != nil {
+		t.Errorf("Create returned %v", err)
+	}
+	if err := newBackend(t, Options{}, `[ $(cat | wc -c) -gt 1048576 ]`).Create(ctx, request); err != nil {
+		t.Errorf("a program that reads it: %v", err)
+	}
+}
+
+// A run isn't over before the program has exited and its outputs are closed.
+func TestEndOfARun(t *testing.T) {
+	const work = `echo >"$OSB_STATE/started"; read line <"$OSB_STATE/go"; : >"$OSB_STATE/done"`
+	for name, text := range map[string]string{
+		"a program that has closed its outputs": "exec >&- 2>&-; " + work,
+		"a child that has the outputs open":     "{ " + work + "; } &",
+	} {
+		t.Run(name, func(t *testing.T) {
+			backend := newBackend(t, Options{}, text)
+			started, goOn := fifo(t, backend.state+"/started"), fifo(t, backend.state+"/go")
+			ended := make(chan error, 1)
+			go func() { ended <- backend.Create(ctx, instance) }()
+			read(t, started)
+			select {
+			case err := <-ended:
+				t.Errorf("Create returned while the work was going on: %v", err)
+			case <-time.After(50 * time.Millisecond):
+			}
+			if _, err := goOn.WriteString("go\n"); err != nil {
+				t.Fatal(err)
+			}
+			if err := <-ended; err != nil {
+				t.Errorf("Create returned %v", err)
+			}
+			if _, err := os.Stat(backend.state + "/done"); err != nil {
+				t.Errorf("Create returned before the work was done: %v", err)
+			}
+		})
+	}
+}
+
+// fifo creates a fifo and opens it. Neither reading nor writing it waits for another process to open it.
+func fifo(t *testing.T, path string) *os.File {
+	t.Helper()
+	if err := syscall.Mkfifo(path, 0o600); err != nil {
+		t.Fatal(err)
+	}
+	file, err := os.OpenFile(path, os.O_RDWR, 0)
+	if err != nil {
+		t.Fatal(err)
+	}
+	t.Cleanup(func() { _ = file.Close() })
+	return file
+}
+
+// forked is a text in sh that starts a process, which lets the lock go only when it is killed.
+const forked = `sleep 1000 >/dev/null 2>&1 </dev/null & `
+
+// After the limit, the program and the processes that it has started are killed.
+func TestLimit(t *testing.T) {
+	for name, text := range map[string]string{
+		"a child": forked + "wait", "outputs that are closed": "exec >&- 2>&-; exec sleep 1000",
+	} {
+		t.Run(name, func(t *testing.T) {
+			backend := newBackend(t, Options{Limit: time.Minute}, text)
+			backend.limit = 200 * time.Millisecond
+			lock := locked(t, backend.Locks())
+			err := backend.Create(lock.Context(ctx), instance)
+			lock.Unlock()
+			if err == nil || !strings.Contains(err.Error(), "it ran longer than 200ms") {
+				t.Errorf("Create returned %v", err)
+			}
+			locked(t, backend.Locks()).Unlock() // the sleep has ended
+		})
+	}
+}
+
+// locked returns the lock of the instance. It fails if it has to wait for more than ten seconds.
+func locked(t *testing.T, locks broker.Locks) broker.Lock {
+	t.Helper()
+	limited, cancel := context.WithTimeout(ctx, 10*time.Second)
+	defer cancel()
+	lock, err := locks.Lock(limited, instance.Key)
+	if err != nil {
+		t.Fatal(err)
+	}
+	return lock
+}
+
+// If the broker stops, the program is killed.
+func TestCancel(t *testing.T) {
+	backend := newBackend(t, Options{}, `echo >"$OSB_STATE/started"; `+forked+"wait")
+	started := fifo(t, backend.state+"/started")
+	stopping, stop := context.WithCancel(ctx)
+	lock := locked(t, backend.Locks())
+	ended := make(chan error, 1)
+	go func() { ended <- backend.Create(lock.Context(stopping), instance) }()
+	read(t, started)
+	stop()
+	if err := <-ended; !errors.Is(err, context.Canceled) {
+		t.Errorf("Create returned %v", err)
+	}
+	lock.Unlock()
+	locked(t, backend.Locks()).Unlock()
+}
+
+// read reads a byte. It fails if there is none within ten seconds.
+func read(t *testing.T, file *os.File) {
+	t.Helper()
+	if err := file.SetReadDeadline(time.Now().Add(10 * time.Second)); err != nil {
+		t.Fatal(err)
+	}
+	if _, err := file.Read(make([]byte, 1)); err != nil {
+		t.Fatal(err)
+	}
+}
+
+// A process that has left the group keeps the outputs open, and the run ends nevertheless.
+func TestProcessThatLeftTheGroup(t *testing.T) {
+	backend := newBackend(t, Options{}, `setsid sh -c 'echo >"$OSB_STATE/started"; read line <"$OSB_STATE/go"' & wait`)
+	started, goOn := fifo(t, backend.state+"/started"), fifo(t, backend.state+"/go")
+	backend.limit, backend.grace = 500*time.Millisecond, 50*time.Millisecond
+	lock := locked(t, backend.Locks())
+	err := backend.Create(lock.Context(ctx), instance)
+	if err == nil || !strings.Contains(err.Error(), "a process that left it") {
+		t.Errorf("Create returned %v", err)
+	}
+	read(t, started)
+	lock.Unlock()
+	if free, err := backend.Locks().TryLock(ctx, instance.Key); free != nil || err != nil {
+		t.Errorf("the lock of a process that still runs is free: %v, %v", free, err)
+	}
+	if _, err := io.WriteString(goOn, "go\n"); err != nil {
+		t.Fatal(err)
+	}
+	locked(t, backend.Locks()).Unlock()
+}
+
+// A run without a lock has no descriptor 3.
+func TestDescriptors(t *testing.T) {
+	backend := newBackend(t, Options{}, `[ -e /proc/$$/fd/3 ] && echo '{"exists": "whole"}' || echo '{"exists": "none"}'`)
+	lock := locked(t, backend.Locks())
+	defer lock.Unlock()
+	if there, err := backend.Look(ctx, instance); there != broker.None || err != nil {
+		t.Errorf("without a lock Look returned %v, %v", there, err)
+	}
+	if there, err := backend.Look(lock.Context(ctx), instance); there != broker.Whole || err != nil {
+		t.Errorf("with a lock Look returned %v, %v", there, err)
+	}
+}
+
+// Runs leave neither open files nor children behind.
+func TestRunsLeaveNothing(t *testing.T) {
+	backend := newBackend(t, Options{}, "exit 1")
+	before := openFiles(t)
+	for n := 0; n < 5; n++ {
+		_ = backend.Create(ctx, instance)
+	}
+	broken := *backend.program
+	broken.path += "-that-does-not-exist"
+	if _, err := broken.run(ctx, "look", nil, nil); !errors.Is(err, os.ErrNotExist) {
+		t.Errorf("a program that was deleted: %v", err)
+	}
+	if after := openFiles(t); after != before {
+		t.Errorf("%d files are open, and %d were open before", after, before)
+	}
+	if pid, err := syscall.Wait4(-1, nil, syscall.WNOHANG, nil); err != syscall.ECHILD {
+		t.Errorf("there are children: %d, %v", pid, err)
+	}
+}
+
+func openFiles(t *testing.T) int {
+	t.Helper()
+	found, err := os.ReadDir("/proc/self/fd")
+	if err != nil {
+		t.Fatal(err)
+	}
+	return len(found)
+}

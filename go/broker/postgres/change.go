@@ -1,0 +1,180 @@
+package postgres
+
+import (
+	"context"
+	"crypto/rand"
+	"database/sql"
+	"encoding/binary"
+	"errors"
+	"fmt"
+
+	"pippinterm/broker"
+	"pippinterm/osb"
+)
+
+// Change is one transaction over the row of a key, as broker.Store says. What locks is taken in one order: the worker of
+// the key, the row of the instance (of a binding: FOR SHARE), the row of the binding. So no two changes wait for each
+// other.
+//
+// The row of an instance that is missing is inserted, also by the Change of a binding: there is no row to lock otherwise,
+// and an instance could begin beside its binding. Whoever inserts it too waits until this transaction ends. So there is
+// no Change of an instance beside one of its bindings, whether the instance has a row or not. If step writes nothing,
+// the row goes with the transaction; a row that stays has the zero Holding.
+//
+// Errors: broker.ErrLostLock, those of step, the context's and the server's; and session.ErrUnknownCommit if nobody knows
+// whether the change is written. After any other error it isn't. A panic of step is an error.
+func (s *Store) Change(ctx context.Context, key broker.Key, fence int64, step broker.Step) error {
+	return s.transaction(ctx, &key, func(tx *sql.Tx) (bool, error) {
+		it := change{ctx: ctx, tx: tx, key: key}
+		if err := it.check(fence); err != nil {
+			return false, err
+		}
+		held, err := it.lock()
+		if err != nil {
+			return false, err
+		}
+		next, err := step(held)
+		if err != nil || next == nil {
+			return false, err
+		}
+		return true, it.write(*next)
+	})
+}
+
+// A change is one transaction.
+type change struct {
+	ctx context.Context
+	tx  *sql.Tx
+	key broker.Key
+}
+
+// check fails unless the fence is the last of the key. It stays so until the transaction ends.
+func (c change) check(fence int64) error {
+	if fence == 0 {
+		return nil
+	}
+	query, arguments := "SELECT worker FROM osb_workers WHERE id = $1 FOR SHARE", []any{c.key.Instance}
+	if c.key.IsBinding {
+		query = "SELECT worker FROM osb_binding_workers WHERE instance = $1 AND binding = $2 FOR SHARE"
+		arguments = []any{c.key.Instance, c.key.Binding}
+	}
+	var worker int64
+	err := c.tx.QueryRowContext(c.ctx, query, arguments...).Scan(&worker)
+	if errors.Is(err, sql.ErrNoRows) || err == nil && worker != fence {
+		return fmt.Errorf("%w: %v", broker.ErrLostLock, c.key)
+	}
+	return err
+}
+
+// lock reads what is held, and locks it.
+func (c change) lock() (held broker.Held, err error) {
+	if !c.key.IsBinding {
+		held.Entry, err = c.locked(c.key, "FOR UPDATE")
+		held.AnyBinding = func() (is bool, err error) {
+			err = c.tx.QueryRowContext(c.ctx, anyBinding, c.key.Instance).Scan(&is)
+			return is, err
+		}
+		return held, err
+	}
+	instance, err := c.locked(broker.InstanceKey(c.key.Instance), "FOR SHARE")
+	if err != nil {
+		return held, err
+	}
+	held.Instance = instance.Holding
+	held.Entry, err = c.locked(c.key, "FOR UPDATE")
+	return held, err
+}
+
+// locked is the row of a key, which is locked. If it is missing, it is inserted.
+func (c change) locked(key broker.Key, how string) (broker.Entry, error) {
+	entry, isThere, err := c.find(key, how)
+	if err != nil || isThere {
+		return entry, err
+	}
+	if err := c.insert(key); err != nil {
+		return entry, err
+	}
+	entry, isThere, err = c.find(key, how)
+	if err == nil && !isThere {
+		err = errRowGone(key)
+	}
+	return entry, err
+}
+
+func (c change) find(key broker.Key, how string) (broker.Entry, bool, error) {
+	if key.IsBinding {
+		return scanned(key, c.tx.QueryRowContext(c.ctx, bindingColumns+" "+how, key.Instance, key.Binding))
+	}
+	return scanned(key, c.tx.QueryRowContext(c.ctx, instanceColumns+" "+how, key.Instance))
+}
+
+// insert inserts the row of the zero Holding, unless another transaction does it first, which it waits for.
+func (c change) insert(key broker.Key) error {
+	text, err := textOf(key.IsBinding, osb.Holding{})
+	if err != nil {
+		return err
+	}
+	if key.IsBinding {
+		_, err = c.tx.ExecContext(c.ctx, "INSERT INTO osb_bindings (instance, binding, holding, held, unfinished) "+
+			"VALUES ($1, $2, $3, false, false) ON CONFLICT DO NOTHING", key.Instance, key.Binding, text)
+		return err
+	}
+	_, err = c.tx.ExecContext(c.ctx, "INSERT INTO osb_holdings (id, holding, unfinished) "+
+		"VALUES ($1, $2, false) ON CONFLICT DO NOTHING", key.Instance, text)
+	return err
+}
+
+func (c change) write(entry broker.Entry) error {
+	text, err := textOf(c.key.IsBinding, entry.Holding)
+	if err != nil {
+		return err
+	}
+	query := "UPDATE osb_holdings SET holding = $1, unfinished = $2, request = $3, description = $4, since = $5 " +
+		"WHERE id = $6"
+	arguments := []any{
+		text, entry.IsUnfinished(), orNull(entry.Request), storable(entry.Description), timeOrNull(entry.Since),
+		c.key.Instance,
+	}
+	if c.key.IsBinding {
+		query = "UPDATE osb_bindings SET holding = $1, unfinished = $2, request = $3, description = $4, since = $5, " +
+			"held = $7, object = $8 WHERE instance = $6 AND binding = $9"
+		arguments = append(arguments, entry.Holding.IsHeld(), orNull(entry.Binding), c.key.Binding)
+	}
+	done, err := c.tx.ExecContext(c.ctx, query, arguments...)
+	if err != nil {
+		return err
+	}
+	if count, err := done.RowsAffected(); err != nil || count != 1 {
+		return either(err, errRowGone(c.key))
+	}
+	return nil
+}
+
+func errRowGone(key broker.Key) error {
+	return fmt.Errorf("the row of %v is gone. Never delete rows of the store", key)
+}
+
+// Fence writes down a new worker of a key, and returns its number. It waits for the Change that the worker before is
+// writing. A crash of the server forgets all workers, and no later number is an earlier one: numbers are random.
+func (s *Store) Fence(ctx context.Context, key broker.Key) (int64, error) {
+	var random [8]byte
+	if _, err := rand.Read(random[:]); err != nil {
+		return 0, err
+	}
+	worker := int64(binary.BigEndian.Uint64(random[:])>>1) | 1
+	query, arguments := "INSERT INTO osb_workers VALUES ($1, $2) ON CONFLICT (id) "+
+		"DO UPDATE SET worker = excluded.worker", []any{key.Instance, worker}
+	if key.IsBinding {
+		query = "INSERT INTO osb_binding_workers VALUES ($1, $2, $3) ON CONFLICT (instance, binding) " +
+			"DO UPDATE SET worker = excluded.worker"
+		arguments = []any{key.Instance, key.Binding, worker}
+	}
+	err := s.query(func(db *sql.DB) error {
+		_, err := db.ExecContext(ctx, query, arguments...)
+		return err
+	})
+	if err != nil {
+		return 0, err
+	}
+	return worker, nil
+}

@@ -1,0 +1,162 @@
+package postgres
+
+import (
+	"context"
+	"database/sql"
+	"errors"
+	"fmt"
+
+	"pippinterm/broker"
+	"pippinterm/osb"
+)
+
+// One statement reads a binding and its instance, so both are of the same moment.
+const readBinding = `
+SELECT b.holding, b.request, b.object, b.description, b.since, i.holding
+FROM (SELECT $1::uuid AS instance, $2::uuid AS binding) AS k
+LEFT JOIN osb_bindings AS b ON b.instance = k.instance AND b.binding = k.binding
+LEFT JOIN osb_holdings AS i ON i.id = k.instance
+`
+
+const anyBinding = "SELECT EXISTS (SELECT FROM osb_bindings WHERE instance = $1 AND held)"
+
+// Read returns what is committed: the server shows nothing that isn't on its disk.
+func (s *Store) Read(ctx context.Context, key broker.Key) (held broker.Held, err error) {
+	err = s.query(func(db *sql.DB) error {
+		if key.IsBinding {
+			held, err = readHeldBinding(ctx, db, key)
+			return err
+		}
+		held.Entry, _, err = scanned(key, db.QueryRowContext(ctx, instanceColumns, key.Instance))
+		held.AnyBinding = func() (is bool, err error) {
+			err = s.query(func(db *sql.DB) error {
+				return db.QueryRowContext(ctx, anyBinding, key.Instance).Scan(&is)
+			})
+			return is, err
+		}
+		return err
+	})
+	return held, err
+}
+
+func readHeldBinding(ctx context.Context, db *sql.DB, key broker.Key) (held broker.Held, err error) {
+	var it row
+	var instance sql.NullString
+	found := db.QueryRowContext(ctx, readBinding, key.Instance, key.Binding)
+	if err := found.Scan(it.into(&instance)...); err != nil {
+		return held, err
+	}
+	if instance.Valid {
+		if held.Instance, err = holdingOf(false, instance.String); err != nil {
+			return held, fmt.Errorf("what is held of %v: %w", key.Instance, err)
+		}
+	}
+	held.Entry, err = it.entry(key)
+	return held, err
+}
+
+const unfinished = `
+SELECT id, NULL::uuid FROM osb_holdings WHERE unfinished
+UNION ALL SELECT instance, binding FROM osb_bindings WHERE unfinished
+`
+
+// Unfinished returns the keys whose Entry is unfinished, in no order.
+func (s *Store) Unfinished(ctx context.Context) (keys []broker.Key, err error) {
+	err = s.each(ctx, unfinished, nil, func(rows *sql.Rows) error {
+		var instance osb.ID
+		var binding sql.NullString
+		if err := rows.Scan(&instance, &binding); err != nil {
+			return err
+		}
+		if !binding.Valid {
+			keys = append(keys, broker.InstanceKey(instance))
+			return nil
+		}
+		id, err := osb.ParseID(binding.String)
+		keys = append(keys, broker.BindingKey(instance, id))
+		return err
+	})
+	return keys, err
+}
+
+// HeldBindings returns the bindings of an instance that are held, in no order.
+func (s *Store) HeldBindings(ctx context.Context, instance osb.ID) (ids []osb.ID, err error) {
+	const held = "SELECT binding FROM osb_bindings WHERE instance = $1 AND held"
+	err = s.each(ctx, held, []any{instance}, func(rows *sql.Rows) error {
+		var id osb.ID
+		err := rows.Scan(&id)
+		ids = append(ids, id)
+		return err
+	})
+	return ids, err
+}
+
+// each calls with each row of a query.
+func (s *Store) each(ctx context.Context, query string, arguments []any, call func(*sql.Rows) error) error {
+	return s.query(func(db *sql.DB) error {
+		rows, err := db.QueryContext(ctx, query, arguments...)
+		if err != nil {
+			return err
+		}
+		defer rows.Close()
+		for rows.Next() {
+			if err := call(rows); err != nil {
+				return err
+			}
+		}
+		return rows.Err()
+	})
+}
+
+// Texts of holdings have no spaces: docs/instance.md. Before 0.3.0 a tombstone was written as marked.
+const stats = `
+WITH unfinished AS (
+    SELECT holding::json, since FROM osb_holdings WHERE unfinished
+    UNION ALL SELECT holding::json, since FROM osb_bindings WHERE unfinished)
+SELECT count(*) FILTER (WHERE holding ->> 'work' IS NOT NULL),
+    count(*) FILTER (WHERE holding #>> '{row,phase}' IN ('making', 'deleting')),
+    count(*) FILTER (WHERE holding #>> '{row,phase}' = 'waiting'),
+    min(since),
+    (SELECT count(*) FROM osb_holdings
+        WHERE NOT unfinished AND (holding LIKE '%"tombstone":true%' OR holding LIKE '%"marked":true%'))
+    + (SELECT count(*) FROM osb_bindings WHERE NOT held AND holding LIKE '%"tombstone":true%')
+FROM unfinished
+`
+
+// Stats counts what is kept, in one query. The tombstones are counted over all rows.
+func (s *Store) Stats(ctx context.Context) (counted broker.Stats, err error) {
+	var oldest sql.NullTime
+	err = s.query(func(db *sql.DB) error {
+		return db.QueryRowContext(ctx, stats).Scan(
+			&counted.Pending, &counted.Operating, &counted.Waiting, &oldest, &counted.Tombstones)
+	})
+	if err == nil && oldest.Valid {
+		counted.Oldest = oldest.Time.UTC()
+	}
+	return counted, err
+}
+
+// Ready returns nil if a row can be read and one can be written. The store needs a name by then (Begin).
+func (s *Store) Ready(ctx context.Context) error {
+	if _, err := s.Read(ctx, broker.Key{}); err != nil {
+		return err
+	}
+	return s.transaction(ctx, nil, func(tx *sql.Tx) (bool, error) {
+		done, err := tx.ExecContext(ctx, "UPDATE osb_store SET is_tied = is_tied")
+		if err != nil {
+			return false, err
+		}
+		if count, err := done.RowsAffected(); err != nil || count != 1 {
+			return false, either(err, errors.New("the store has no name yet"))
+		}
+		return true, nil
+	})
+}
+
+// either is the first error that isn't nil.
+func either(first, second error) error {
+	if first != nil {
+		return first
+	}
+	return second
+}

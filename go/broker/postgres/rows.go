@@ -1,0 +1,99 @@
+package postgres
+
+import (
+	"database/sql"
+	"encoding/json"
+	"errors"
+	"fmt"
+	"strings"
+	"time"
+
+	"pippinterm/broker"
+	"pippinterm/osb"
+)
+
+// The columns of an entry. That of the object is a binding's alone.
+const (
+	instanceColumns = "SELECT holding, request, NULL, description, since FROM osb_holdings WHERE id = $1"
+	bindingColumns  = "SELECT holding, request, object, description, since FROM osb_bindings " +
+		"WHERE instance = $1 AND binding = $2"
+)
+
+// A row has the columns of an entry. All are NULL if there is no row.
+type row struct {
+	holding, request, object, description sql.NullString
+	since                                 sql.NullTime
+}
+
+// into are the places to scan the columns into.
+func (r *row) into(more ...any) []any {
+	return append([]any{&r.holding, &r.request, &r.object, &r.description, &r.since}, more...)
+}
+
+// entry is what the row has, or the zero Entry if there is no row.
+func (r *row) entry(key broker.Key) (entry broker.Entry, err error) {
+	if !r.holding.Valid {
+		return entry, nil
+	}
+	if entry.Holding, err = holdingOf(key.IsBinding, r.holding.String); err != nil {
+		return broker.Entry{}, fmt.Errorf("what is held of %v: %w", key, err)
+	}
+	entry.Request, entry.Binding = raw(r.request), raw(r.object)
+	entry.Description = r.description.String
+	if r.since.Valid {
+		entry.Since = r.since.Time.UTC()
+	}
+	return entry, nil
+}
+
+// scanned is the entry of the only row of a query, and whether there is one.
+func scanned(key broker.Key, from *sql.Row) (broker.Entry, bool, error) {
+	var it row
+	err := from.Scan(it.into()...)
+	if errors.Is(err, sql.ErrNoRows) {
+		return broker.Entry{}, false, nil
+	}
+	if err != nil {
+		return broker.Entry{}, false, err
+	}
+	entry, err := it.entry(key)
+	return entry, true, err
+}
+
+func holdingOf(isBinding bool, text string) (osb.Holding, error) {
+	if isBinding {
+		return osb.BindingHoldingFromText([]byte(text))
+	}
+	var holding osb.Holding
+	err := holding.UnmarshalJSON([]byte(text))
+	return holding, err
+}
+
+func textOf(isBinding bool, holding osb.Holding) (string, error) {
+	write := holding.MarshalJSON
+	if isBinding {
+		write = holding.BindingText
+	}
+	text, err := write()
+	return string(text), err
+}
+
+func raw(text sql.NullString) json.RawMessage {
+	if !text.Valid {
+		return nil
+	}
+	return json.RawMessage(text.String)
+}
+
+// orNull is JSON as a column has it.
+func orNull(text json.RawMessage) sql.NullString {
+	return sql.NullString{String: storable(string(text)), Valid: text != nil}
+}
+
+func timeOrNull(at time.Time) sql.NullTime { return sql.NullTime{Time: at.UTC(), Valid: !at.IsZero()} }
+
+// storable is a text that a column of PostgreSQL has: others would be rejected with each try, and their work would never
+// end. Bytes that aren't UTF-8, and NUL, become U+FFFD, as encoding/json reads the former too.
+func storable(text string) string {
+	return strings.ReplaceAll(strings.ToValidUTF8(text, "\uFFFD"), "\x00", "\uFFFD")
+}

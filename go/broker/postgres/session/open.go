@@ -1,0 +1,179 @@
+// Package session has what a broker's store and its backend need of a PostgreSQL server: connections whose commits are
+// durable and on which nothing waits forever, and transactions that report a commit only if there was one.
+package session
+
+import (
+	"context"
+	"database/sql"
+	"database/sql/driver"
+	"errors"
+	"fmt"
+	"net/url"
+	"os"
+	"strconv"
+	"time"
+
+	"github.com/lib/pq"
+)
+
+// Options say how the connections are used.
+type Options struct {
+	// Most is how many connections are open at once, at least 1.
+	Most int
+	// Lock is how long a statement waits for a lock, and Statement how long it runs, both from 1 ms on. Idle is how long
+	// a transaction may be idle.
+	Lock, Statement, Idle time.Duration
+	// Database, User and Password take the place of those of the URL, unless they are empty.
+	Database, User, Password string
+	// Settings are further settings of the sessions, such as search_path. They win over those of the database and of the
+	// role.
+	Settings map[string]string
+}
+
+// patience is how long the server's answer may take beyond the limits that the server has itself.
+const patience = 30 * time.Second
+
+// Open returns connections to the server of a URL, postgresql://user@host:port/database?parameters. What the URL doesn't
+// say is found as other clients of PostgreSQL find it: in PGPASSWORD, in the file that PGPASSFILE names, and so on. If
+// neither the URL nor PGSSLMODE has a sslmode, connections to this machine are without TLS, and all others need it
+// (require). No connection is opened yet.
+//
+// On each connection synchronous_commit stays as the server, the database or the role has set it, for as long as the
+// connection lives. If it is off, opening the connection fails with ErrNotDurable: any other value is accepted, since
+// with each of them a commit is on the server's disk before it is reported.
+//
+// Errors: ErrBadAddress, or that the environment has a variable such as PGSERVICE, which isn't supported.
+func Open(address string, options Options) (*sql.DB, error) {
+	full, err := withSettings(address, options)
+	if err != nil {
+		return nil, err
+	}
+	made, err := newConnector(full)
+	if err != nil {
+		return nil, err
+	}
+	made.Dialer(dialer{limit: options.Statement + patience})
+	db := sql.OpenDB(connector{made})
+	db.SetMaxOpenConns(options.Most)
+	db.SetMaxIdleConns(options.Most)
+	return db, nil
+}
+
+// withSettings is the URL with the settings of a session in it.
+func withSettings(address string, options Options) (string, error) {
+	parsed, err := parse(address)
+	if err != nil {
+		return "", err
+	}
+	host, _, err := HostAndPort(address)
+	if err != nil {
+		return "", err
+	}
+	asked := parsed.Query()
+	defaults := map[string]string{"connect_timeout": "10", "application_name": "osb"}
+	if isLocal(host) && os.Getenv("PGSSLMODE") == "" {
+		defaults["sslmode"] = "disable"
+	}
+	for name, value := range defaults {
+		if !asked.Has(name) {
+			asked.Set(name, value)
+		}
+	}
+	for name, value := range map[string]string{
+		"lock_timeout":                        milliseconds(options.Lock),
+		"statement_timeout":                   milliseconds(options.Statement),
+		"idle_in_transaction_session_timeout": milliseconds(options.Idle),
+		"tcp_keepalives_idle":                 "30",
+		"tcp_keepalives_interval":             "10",
+		"tcp_keepalives_count":                "3",
+		"binary_parameters":                   "yes", // a statement with parameters is one round trip
+	} {
+		asked.Set(name, value)
+	}
+	for name, value := range options.Settings {
+		asked.Set(name, value)
+	}
+	parsed.RawQuery = replace(parsed, asked, options).Encode()
+	return parsed.String(), nil
+}
+
+// replace puts another database, user and password into the URL.
+func replace(parsed *url.URL, asked url.Values, options Options) url.Values {
+	if options.Database != "" {
+		parsed.Path = "/" + options.Database
+		asked.Del("dbname")
+	}
+	if options.User != "" {
+		parsed.User = url.UserPassword(options.User, options.Password)
+		asked.Del("user")
+		asked.Del("password")
+	}
+	return asked
+}
+
+func milliseconds(duration time.Duration) string {
+	return strconv.FormatInt(duration.Milliseconds(), 10)
+}
+
+// newConnector makes an error of the panic with which lib/pq rejects some variables of the environment.
+func newConnector(address string) (made *pq.Connector, err error) {
+	defer func() {
+		if what := recover(); what != nil {
+			err = fmt.Errorf("the environment can't be used: %v", what)
+		}
+	}()
+	made, err = pq.NewConnector(address)
+	var badURL *url.Error
+	if errors.As(err, &badURL) {
+		return nil, ErrBadAddress
+	}
+	return made, err
+}
+
+// A connector opens connections whose synchronous_commit is known.
+type connector struct{ *pq.Connector }
+
+// Connect opens a connection.
+func (c connector) Connect(ctx context.Context) (driver.Conn, error) {
+	conn, err := c.Connector.Connect(ctx)
+	if err != nil {
+		return nil, err
+	}
+	if err := keepDurable(ctx, conn); err != nil {
+		_ = conn.Close()
+		return nil, err
+	}
+	return conn, nil
+}
+
+// The value that is in force is set once more, for the session: so no later change of the server's configuration
+// changes it.
+const pin = "SELECT set_config('synchronous_commit', current_setting('synchronous_commit'), false), current_user"
+
+func keepDurable(ctx context.Context, conn driver.Conn) error {
+	asking, ok := conn.(driver.QueryerContext)
+	if !ok {
+		return fmt.Errorf("%T can't be asked", conn)
+	}
+	rows, err := asking.QueryContext(ctx, pin, nil)
+	if err != nil {
+		return err
+	}
+	defer rows.Close()
+	var columns [2]driver.Value
+	if err := rows.Next(columns[:]); err != nil {
+		return err
+	}
+	if text(columns[0]) == "off" {
+		return fmt.Errorf("%w. Run: ALTER ROLE %s SET synchronous_commit = on", ErrNotDurable,
+			pq.QuoteIdentifier(text(columns[1])))
+	}
+	return nil
+}
+
+func text(column driver.Value) string {
+	if bytes, ok := column.([]byte); ok {
+		return string(bytes)
+	}
+	return fmt.Sprint(column)
+}

@@ -1,0 +1,94 @@
+package session_test
+
+import (
+	"context"
+	"errors"
+	"strings"
+	"testing"
+	"time"
+
+	"pippinterm/broker/postgres/pgtest"
+	"pippinterm/broker/postgres/session"
+)
+
+func TestSynchronousCommit(t *testing.T) {
+	url := pgtest.URL(t)
+	for _, value := range []string{"on", "local", "remote_write", "remote_apply"} {
+		db := pgtest.DB(t, pgtest.With(t, url, "synchronous_commit", value))
+		var setting, source string
+		err := db.QueryRow("SELECT setting, source FROM pg_settings WHERE name = 'synchronous_commit'").
+			Scan(&setting, &source)
+		if err != nil || setting != value || source != "session" { // of the session: no reload changes it
+			t.Errorf("%s: %s of the %s, %v", value, setting, source, err)
+		}
+	}
+	err := pgtest.DB(t, pgtest.With(t, url, "synchronous_commit", "off")).Ping()
+	if !errors.Is(err, session.ErrNotDurable) || !strings.Contains(err.Error(), "SET synchronous_commit = on") {
+		t.Errorf("off: %v", err)
+	}
+}
+
+func TestSettings(t *testing.T) {
+	db, err := session.Open(pgtest.URL(t), session.Options{
+		Most: 1, Lock: 1500 * time.Millisecond, Statement: 3 * time.Second, Idle: time.Minute,
+		Settings: map[string]string{"search_path": "pg_catalog", "default_transaction_read_only": "off"},
+	})
+	if err != nil {
+		t.Fatal(err)
+	}
+	defer db.Close()
+	for name, want := range map[string]string{
+		"lock_timeout": "1500ms", "statement_timeout": "3s", "idle_in_transaction_session_timeout": "1min",
+		"search_path": "pg_catalog", "application_name": "osb", "tcp_keepalives_idle": "30",
+	} {
+		var got string
+		if err := db.QueryRow("SHOW " + name).Scan(&got); err != nil || got != want {
+			t.Errorf("%s: %s, %v, want %s", name, got, err, want)
+		}
+	}
+}
+
+func TestAnotherUser(t *testing.T) {
+	url := pgtest.URL(t)
+	pgtest.Exec(t, pgtest.DB(t, url), "DROP ROLE IF EXISTS osb_session_user",
+		"CREATE ROLE osb_session_user LOGIN PASSWORD 'of its own'")
+	t.Cleanup(func() { pgtest.Exec(t, pgtest.DB(t, url), "DROP ROLE osb_session_user") })
+	db, err := session.Open(url, session.Options{
+		Most: 1, Lock: time.Second, Statement: time.Second, Idle: time.Minute,
+		Database: "template1", User: "osb_session_user", Password: "of its own",
+	})
+	if err != nil {
+		t.Fatal(err)
+	}
+	defer db.Close()
+	var user, database string
+	err = db.QueryRowContext(context.Background(), "SELECT current_user, current_database()").Scan(&user, &database)
+	if err != nil || user != "osb_session_user" || database != "template1" {
+		t.Errorf("%s in %s, %v", user, database, err)
+	}
+}
+
+func TestLost(t *testing.T) {
+	url := pgtest.URL(t)
+	db := pgtest.DB(t, url)
+	conn, err := db.Conn(context.Background())
+	if err != nil {
+		t.Fatal(err)
+	}
+	defer conn.Close()
+	var pid int
+	if err := conn.QueryRowContext(context.Background(), "SELECT pg_backend_pid()").Scan(&pid); err != nil {
+		t.Fatal(err)
+	}
+	if _, err := db.Exec("SELECT pg_terminate_backend($1, 5000)", pid); err != nil {
+		t.Fatal(err)
+	}
+	_, err = conn.ExecContext(context.Background(), "SELECT 1")
+	if !session.IsLost(err) {
+		t.Errorf("a session that has ended: %v", err)
+	}
+	_, err = db.Exec("SELECT 1 / 0")
+	if session.IsLost(err) || !session.IsCode(err, "01000", "22012") || session.IsCode(err, "01000") {
+		t.Errorf("a division by zero: %v", err)
+	}
+}

@@ -1,0 +1,150 @@
+// Package postgres keeps what a broker holds in a database of PostgreSQL, for any number of brokers on any number of
+// machines. It reads and extends the tables of version 0.2.
+//
+// A change is a transaction of READ COMMITTED with explicit row locks. A row that is missing is inserted, so that it can
+// be locked, and is rolled back with the transaction unless something is written.
+package postgres
+
+import (
+	"context"
+	"database/sql"
+	"errors"
+	"fmt"
+	"sync"
+	"time"
+
+	"pippinterm/broker"
+	"pippinterm/broker/postgres/session"
+)
+
+const (
+	longest   = 30 * time.Second // so long a statement waits or runs
+	idle      = time.Minute      // so long a transaction does nothing before the server ends it
+	conflicts = 5                // so often a transaction is tried again that another one has undone
+)
+
+var errClosed = errors.New("the store is closed")
+
+// A Store is a broker.NamedStore.
+type Store struct {
+	db       *sql.DB
+	observer broker.Observer
+	most     int
+
+	turn     sync.Mutex
+	isClosed bool
+	running  sync.WaitGroup
+}
+
+// Open opens the store in the database of a URL, with at most so many connections, at least 1. It creates the tables, or
+// extends those of version 0.2. Version 0.2 can't serve them any more once a row was written. For tables that need no
+// change, a role that may read, insert and update rows is enough. The observer is told of transactions that another one
+// has undone and that are tried again.
+//
+// The server has to keep what it has committed: synchronous_commit must not be off for the role of the URL (on, local,
+// remote_write and remote_apply all write to the server's disk first), and fsync has to be on, which isn't checked. With
+// a standby that may take over, set synchronous_standby_names too, and synchronous_commit to on or remote_apply.
+//
+// The encoding of the database has to be UTF8 or SQL_ASCII.
+//
+// A step of Change must not call the store: with all connections taken, both would wait for each other.
+//
+// Errors: session.ErrBadAddress, session.ErrNotDurable, and those of the connection and of the server.
+func Open(ctx context.Context, url string, most int, observer broker.Observer) (*Store, error) {
+	if most < 1 {
+		return nil, fmt.Errorf("the store needs at least 1 connection, and not %d", most)
+	}
+	db, err := session.Open(url, session.Options{Most: most, Lock: longest, Statement: longest, Idle: idle})
+	if err != nil {
+		return nil, fmt.Errorf("the store: %w", err)
+	}
+	store := &Store{db: db, observer: observer, most: most}
+	if err := store.prepare(ctx); err != nil {
+		_ = db.Close()
+		return nil, fmt.Errorf("the store: %w", err)
+	}
+	return store, nil
+}
+
+// prepare checks the database, and brings its tables up to date.
+func (s *Store) prepare(ctx context.Context) error {
+	var encoding string
+	if err := s.db.QueryRowContext(ctx, "SHOW server_encoding").Scan(&encoding); err != nil {
+		return err
+	}
+	if encoding != "UTF8" && encoding != "SQL_ASCII" {
+		return fmt.Errorf("the encoding of the database is %s. Create one with: CREATE DATABASE .. "+
+			"ENCODING 'UTF8' TEMPLATE template0", encoding)
+	}
+	return s.migrate(ctx)
+}
+
+// Close closes the store, once all calls that have begun have ended. Later calls fail.
+func (s *Store) Close() error {
+	s.turn.Lock()
+	s.isClosed = true
+	s.turn.Unlock()
+	s.running.Wait()
+	return s.db.Close()
+}
+
+// enter begins a call that Close waits for, unless the store is closed. Whoever calls it calls s.running.Done.
+func (s *Store) enter() error {
+	s.turn.Lock()
+	defer s.turn.Unlock()
+	if s.isClosed {
+		return errClosed
+	}
+	s.running.Add(1)
+	return nil
+}
+
+// query calls with the connections, for statements that are transactions of their own.
+func (s *Store) query(call func(*sql.DB) error) error {
+	if err := s.enter(); err != nil {
+		return err
+	}
+	defer s.running.Done()
+	return call(s.db)
+}
+
+// transaction is session.Transaction on a connection of the store. It is tried again if it couldn't begin, since the
+// server may have closed each connection that was idle, and if another transaction has undone it.
+func (s *Store) transaction(ctx context.Context, key *broker.Key, work func(*sql.Tx) (bool, error)) error {
+	if err := s.enter(); err != nil {
+		return err
+	}
+	defer s.running.Done()
+	for unbegun, undone := 0, 0; ; {
+		err := s.attempt(ctx, work)
+		switch {
+		case errors.Is(err, session.ErrNotBegun) && unbegun < s.most:
+			unbegun++
+		case session.IsConflict(err) && undone < conflicts:
+			undone++
+			s.tellRetry(key, err)
+		default:
+			return err
+		}
+		if ctx.Err() != nil {
+			return ctx.Err()
+		}
+	}
+}
+
+func (s *Store) attempt(ctx context.Context, work func(*sql.Tx) (bool, error)) error {
+	conn, err := s.db.Conn(ctx)
+	if err != nil {
+		return err
+	}
+	defer conn.Close()
+	return session.Transaction(ctx, conn, work)
+}
+
+func (s *Store) tellRetry(key *broker.Key, err error) {
+	failure := broker.Failure{Event: "transaction_retried", Err: err}
+	if key != nil {
+		failure.Key, failure.IsNamed = *key, true
+	}
+	s.observer.Failed(failure)
+}

@@ -1,0 +1,43 @@
+package postgres_test
+
+import (
+	"context"
+	"sync"
+	"testing"
+
+	"pippinterm/broker"
+	"pippinterm/broker/postgres"
+	"pippinterm/broker/postgres/pgtest"
+	"pippinterm/broker/storetest"
+)
+
+// schemas gives each test a schema of its own.
+type schemas struct {
+	turn sync.Mutex
+	urls map[string]string
+}
+
+func (s *schemas) url(t *testing.T) string {
+	s.turn.Lock()
+	defer s.turn.Unlock()
+	name := "osb_" + storetest.NameOf(t)
+	if s.urls[name] == "" {
+		s.urls[name] = pgtest.Schema(t, pgtest.URL(t), name)
+	}
+	return s.urls[name]
+}
+
+func TestStore(t *testing.T) {
+	pgtest.URL(t)
+	all := &schemas{urls: map[string]string{}}
+	storetest.Run(t, func(t *testing.T) broker.NamedStore { return open(t, all.url(t)) })
+}
+
+func open(t *testing.T, url string) *postgres.Store {
+	t.Helper()
+	store, err := postgres.Open(context.Background(), url, 4, broker.Silent{})
+	if err != nil {
+		t.Fatal(err)
+	}
+	return store
+}

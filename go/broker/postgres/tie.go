@@ -1,0 +1,60 @@
+package postgres
+
+import (
+	"context"
+	"database/sql"
+	"errors"
+)
+
+// tieLock is the number of the advisory lock of those who tie the store. Version 0.2 takes the same one.
+const tieLock = 0x6F73625F74696564
+
+// Name returns the name of the store, or "" before the first use.
+func (s *Store) Name(ctx context.Context) (name string, err error) {
+	err = s.query(func(db *sql.DB) error {
+		err := db.QueryRowContext(ctx, "SELECT name FROM osb_store").Scan(&name)
+		if errors.Is(err, sql.ErrNoRows) {
+			return nil
+		}
+		return err
+	})
+	return name, err
+}
+
+// Begin gives the store a name for good, unless it has one, and returns the name that it has.
+func (s *Store) Begin(ctx context.Context, name string) (string, error) {
+	err := s.transaction(ctx, nil, func(tx *sql.Tx) (bool, error) {
+		_, err := tx.ExecContext(ctx, "INSERT INTO osb_store (name) VALUES ($1) ON CONFLICT DO NOTHING", name)
+		return true, err
+	})
+	if err != nil {
+		return "", err
+	}
+	return s.Name(ctx)
+}
+
+// Where a binding has a row, its instance has one too (Change).
+const isUsed = "SELECT is_tied OR EXISTS (SELECT FROM osb_holdings) FROM osb_store"
+
+// Tie calls tie in a transaction that holds a lock of all who tie the store. The function tie must not call the store,
+// and has a minute.
+func (s *Store) Tie(ctx context.Context, tie func(isUsed bool) error) error {
+	return s.transaction(ctx, nil, func(tx *sql.Tx) (bool, error) {
+		if _, err := tx.ExecContext(ctx, "SELECT pg_advisory_xact_lock($1)", int64(tieLock)); err != nil {
+			return false, err
+		}
+		var is bool
+		err := tx.QueryRowContext(ctx, isUsed).Scan(&is)
+		if errors.Is(err, sql.ErrNoRows) {
+			return false, errors.New("the store has no name yet")
+		}
+		if err != nil {
+			return false, err
+		}
+		if err := tie(is); err != nil {
+			return false, err
+		}
+		_, err = tx.ExecContext(ctx, "UPDATE osb_store SET is_tied = true WHERE NOT is_tied")
+		return true, err
+	})
+}

@@ -1,0 +1,118 @@
+package main
+
+import (
+	"context"
+	"os"
+	"path/filepath"
+	"runtime"
+	"syscall"
+	"testing"
+
+	"pippinterm/broker"
+	"pippinterm/osb"
+)
+
+var ofInstance = broker.Request{Key: broker.InstanceKey(osb.ID{15: 1})}
+
+// What Look returns is what exists, and Create and Delete begin with whatever exists.
+func TestParts(t *testing.T) {
+	ctx := context.Background()
+	for _, it := range []struct {
+		name        string
+		whole, part bool
+		there       broker.There
+	}{
+		{"nothing", false, false, broker.None},
+		{"a whole folder", true, false, broker.Whole},
+		{"a part", false, true, broker.Part},
+	} {
+		for what, call := range map[broker.There]func(backend) error{
+			broker.Whole: func(b backend) error { return b.Create(ctx, ofInstance) },
+			broker.None:  func(b backend) error { return b.Delete(ctx, ofInstance) },
+		} {
+			b := backend(t.TempDir())
+			path := b.path(ofInstance.Key)
+			makeFull(t, path, it.whole)
+			makeFull(t, path+".part", it.part)
+			if there, err := b.Look(ctx, ofInstance); there != it.there || err != nil {
+				t.Errorf("%s: %v, %v", it.name, there, err)
+			}
+			for again := 0; again < 2; again++ { // the second call does nothing
+				if err := call(b); err != nil {
+					t.Errorf("%s: %v", it.name, err)
+				}
+				if there, err := b.Look(ctx, ofInstance); there != what || err != nil {
+					t.Errorf("%s: %v, %v, and not %v", it.name, there, err, what)
+				}
+			}
+		}
+	}
+}
+
+// makeFull makes a folder with something in it.
+func makeFull(t *testing.T, path string, exists bool) {
+	t.Helper()
+	if !exists {
+		return
+	}
+	if err := os.MkdirAll(filepath.Join(path, "data"), 0o700); err != nil {
+		t.Fatal(err)
+	}
+}
+
+// If nobody can look, nobody knows what exists.
+func TestUnknown(t *testing.T) {
+	file := filepath.Join(t.TempDir(), "file")
+	if err := os.WriteFile(file, nil, 0o600); err != nil {
+		t.Fatal(err)
+	}
+	if there, err := backend(file).Look(context.Background(), ofInstance); err == nil {
+		t.Error(there)
+	}
+}
+
+// A deletion that can't be finished leaves a part, and no whole folder.
+func TestUnfinishedDeletion(t *testing.T) {
+	b, ctx := backend(t.TempDir()), context.Background()
+	defer withoutRights(t, string(b))()
+	path := b.path(ofInstance.Key)
+	makeFull(t, path, true)
+	if err := os.Chmod(path, 0o500); err != nil {
+		t.Fatal(err)
+	}
+	failed := b.Delete(ctx, ofInstance)
+	there, err := b.Look(ctx, ofInstance)
+	if failed == nil || there != broker.Part || err != nil {
+		t.Errorf("%v, %v, %v", failed, there, err)
+	}
+	if err := os.Chmod(path+".part", 0o700); err != nil {
+		t.Fatal(err)
+	}
+	if err := b.Delete(ctx, ofInstance); err != nil {
+		t.Error(err)
+	}
+}
+
+// withoutRights gives a folder to a user who isn't root, and has the calling goroutine use files as that user until the
+// function that it returns is called. Root could delete everything.
+func withoutRights(t *testing.T, folder string) (restore func()) {
+	t.Helper()
+	if os.Geteuid() != 0 {
+		return func() {}
+	}
+	const nobody = 65534
+	if err := os.Chmod(filepath.Dir(folder), 0o711); err != nil { // the folder of all folders of the test
+		t.Fatal(err)
+	}
+	if err := os.Chown(folder, nobody, nobody); err != nil {
+		t.Fatal(err)
+	}
+	runtime.LockOSThread() // the right belongs to the thread
+	if err := syscall.Setfsuid(nobody); err != nil {
+		t.Fatal(err)
+	}
+	return func() {
+		_ = syscall.Setfsuid(0)
+		runtime.UnlockOSThread()
+	}
+}
