@@ -46,6 +46,9 @@ func (h *Handler) readInstance(x *exchange, body []byte) (asked Asked, err error
 		return asked, err
 	}
 	asked.Asked, asked.Key = received.Asked, InstanceKey(received.Asked.ID)
+	if asked.Attributes, err = osb.AttributesDigest(body); err != nil {
+		return asked, err
+	}
 	if err := h.conflict(plan{asked.Asked.Service, asked.Asked.Plan}, body); err != nil {
 		return asked, err
 	}
@@ -92,6 +95,9 @@ func (h *Handler) readBinding(x *exchange, body []byte) (asked Asked, err error)
 	}
 	asked.Asked = received.Asked.Asked
 	asked.Key = BindingKey(received.Asked.Instance, asked.Asked.ID)
+	if asked.Attributes, err = bindingDigest(received.Parts, body); err != nil {
+		return asked, err
+	}
 	return h.creation(x, asked, body, Request{
 		InstanceID: received.Names.Instance, BindingID: received.Names.Binding,
 		ServiceID: received.Names.Service, PlanID: received.Names.Plan,
@@ -106,11 +112,24 @@ var bindingRoutes = map[osb.Kind]string{
 func (h *Handler) creation(x *exchange, asked Asked, body []byte, request Request) (Asked, error) {
 	request.Body, request.Origin = body, h.origin(x)
 	var err error
-	if asked.Attributes, err = osb.AttributesDigest(body); err != nil {
-		return asked, err
-	}
 	asked.Request, err = json.Marshal(request)
 	return asked, err
+}
+
+// bindingDigest is the digest of what a Bind asks for: of its parameters, and of its bind_resource if there is one. That
+// bind_resource counts is this project's choice.
+func bindingDigest(parts osb.BindingParts, body []byte) (osb.Digest, error) {
+	if parts.BindResource == nil {
+		return osb.AttributesDigest(body)
+	}
+	both, err := json.Marshal(struct {
+		BindResource json.RawMessage `json:"bind_resource"`
+		Parameters   json.RawMessage `json:"parameters,omitempty"`
+	}{parts.BindResource, parts.Parameters})
+	if err != nil {
+		return osb.Digest{}, err
+	}
+	return osb.ParametersDigest(both)
 }
 
 // origin is who sent a request. A header that can't be read names nobody.
@@ -147,15 +166,35 @@ func (h *Handler) told(x *exchange, answered Answered) reply {
 		}
 		h.report(x, "description_not_sent", err)
 	}
-	if body, isKnown := h.bodies.Load(answered.Answer); isKnown {
-		return reply{status, body.([]byte)}
-	}
-	body, err := osb.WriteAnswer(answered.Answer, nil)
+	body, err := h.written(answered.Answer)
 	if err != nil {
 		return h.failed(x, err)
 	}
-	h.bodies.Store(answered.Answer, body)
+	if status >= http.StatusBadRequest && x.Reason == "" {
+		x.Reason = reasonIn(body)
+	}
 	return reply{status, body}
+}
+
+// written is the body of an answer without a description.
+func (h *Handler) written(answer osb.Answer) ([]byte, error) {
+	if body, isKnown := h.bodies.Load(answer); isKnown {
+		return body.([]byte), nil
+	}
+	body, err := osb.WriteAnswer(answer, nil)
+	if err == nil {
+		h.bodies.Store(answer, body)
+	}
+	return body, err
+}
+
+// reasonIn is the description that a body has, or empty.
+func reasonIn(body []byte) string {
+	details, err := osb.ReadDetails(body)
+	if err != nil || details.Description == nil {
+		return ""
+	}
+	return *details.Description
 }
 
 // isOwnCode is whether a code is the backend's own: the others are the standard's, by which a platform decides.

@@ -13,9 +13,8 @@ func TestBindWithoutAvailable(t *testing.T) {
 		t.Setenv("OSB_WITHOUT", without)
 		s := newSite(t, setting{})
 		target := instances + "1/service_bindings/b1"
-		given := message{method: http.MethodPut, target: target, body: []byte(bodyOf(now, ""))}.serve(s)
-		if given.status != status {
-			t.Errorf("without %q: %d %s, want %d", without, given.status, given.body, status)
+		if given, body := s.ask(http.MethodPut, target, bodyOf(now, "")); given.StatusCode != status {
+			t.Errorf("without %q: %d %s, want %d", without, given.StatusCode, body, status)
 		}
 	}
 }

@@ -51,11 +51,15 @@ func NewHandler(ctx context.Context, service *Service, config Config) (*Handler,
 	}
 	return &Handler{
 		Config: config, ctx: ctx, service: service,
-		reading: make(chan struct{}, config.AtOnce),
+		reading: make(chan struct{}, config.AtOnce+slowBodies),
 		slots:   make(chan struct{}, config.AtOnce),
 		first:   rand.New(rand.NewSource(time.Now().UnixNano())).Uint64(),
 	}, nil
 }
+
+// slowBodies is how many bodies may be read at once, besides those of the requests that are carried out. So some platforms
+// that send slowly don't keep others waiting.
+const slowBodies = 256
 
 // Stop has every request from now on answered with 503.
 func (h *Handler) Stop() { h.isStopping.Store(true) }

@@ -261,6 +261,8 @@ func TestLives(t *testing.T) {
 			if again := s.expect(t, 200, "PUT", bound+query, bodyOf(plan, "")); again != first {
 				t.Errorf("other credentials: %s, %s", first, again)
 			}
+			s.expect(t, 409, "PUT", bound+query, bodyOf(plan, `,"parameters":{"a":1}`))
+			s.expect(t, 409, "PUT", bound+query, bodyOf(plan, `,"bind_resource":{"app_guid":"a"}`))
 			body := s.expect(t, 422, "DELETE", one+names(plan)+"&accepts_incomplete=true", "")
 			if !strings.Contains(body, "ConcurrencyError") || !strings.Contains(body, "has bindings") {
 				t.Error(body)
@@ -522,6 +524,10 @@ func TestObserved(t *testing.T) {
 	}
 	if got != want {
 		t.Errorf("%+v, and %+v is wanted", got, want)
+	}
+	s.expect(t, 503, "PUT", instances+"j/service_bindings/b", bodyOf(now, ""))
+	if reason := s.observed.last().Reason; reason == "" {
+		t.Error("a Bind that was put off has no reason in the log")
 	}
 	s.expect(t, 400, "PUT", instances+"i", bodyOf("ff", "")[1:])
 	if reason := s.observed.last().Reason; !strings.Contains(reason, "isn't JSON") {

@@ -103,9 +103,9 @@ func (w *world) start() {
 }
 
 // arrive is a request at the broker. If that is killed meanwhile, nobody is answered, and it is started again.
-func (w *world) arrive(it message) *reply {
+func (w *world) arrive(it outgoing) *answer {
 	w.walk.arrives(&it)
-	given := it.serve(w.handler)
+	given := &answer{reply: it.serve(w.handler)}
 	if w.isDead {
 		w.restart()
 		return nil
@@ -123,7 +123,7 @@ func (w *world) restart() {
 func (w *world) happened(it *life, event string) { w.walk.event(it.key, event) }
 
 // deliver sends a request over the network: it may be lost, its answer may be lost, or an old one may arrive first.
-func (w *world) deliver(it message) *reply {
+func (w *world) deliver(it outgoing) *answer {
 	how := 9
 	if !w.calm {
 		how = w.chance.Intn(12)

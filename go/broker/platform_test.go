@@ -1,12 +1,11 @@
+//go:build crashpoints
+
 package broker_test
 
 import (
-	"bytes"
+	"context"
 	"encoding/json"
 	"fmt"
-	"net/http"
-	"net/http/httptest"
-	"strings"
 
 	"pippinterm/broker"
 	"pippinterm/osb"
@@ -14,47 +13,30 @@ import (
 
 // A network carries a request to the broker, and returns nil if no answer comes back. It is told what the platform does.
 type network interface {
-	deliver(message) *reply
+	deliver(outgoing) *answer
 	happened(it *life, event string)
 }
 
-// A message is a request over HTTP.
-type message struct {
-	method, target string
-	body           []byte
-
+// An outgoing request is one of a life.
+type outgoing struct {
+	message
 	of      broker.Key
 	attempt uint64 // of a request but a Fetch
 	isFetch bool
 }
 
-// A reply is an answer over HTTP.
-type reply struct {
-	status int
-	header http.Header
-	body   []byte
-	at     int // its number among the answers of the life, or among those to a Fetch
-}
-
-// serve has a handler answer the request.
-func (m message) serve(handler http.Handler) *reply { return m.as(handler, "u", "p") }
-
-func (m message) as(handler http.Handler, user, password string) *reply {
-	request := httptest.NewRequest(m.method, m.target, bytes.NewReader(m.body))
-	request.SetBasicAuth(user, password)
-	request.Header.Set(osb.VersionHeader, osb.VersionSent)
-	given := httptest.NewRecorder()
-	handler.ServeHTTP(given, request)
-	return &reply{status: given.Code, header: given.Header(), body: given.Body.Bytes()}
+// An answer has its number among the answers of the life, or among those to a Fetch.
+type answer struct {
+	*reply
+	at int
 }
 
 // A life is what a platform records of an instance or of a binding.
 type life struct {
-	key       broker.Key
-	record    osb.Record
-	isThere   bool   // whether there is a record
-	object    []byte // of a binding that is ready
-	operation *string
+	key     broker.Key
+	record  osb.Record
+	isThere bool   // whether there is a record
+	object  []byte // of a binding that is ready
 }
 
 func (l *life) state() osb.State {
@@ -72,7 +54,7 @@ type platform struct {
 	bindings  []*life
 	isUnruly  bool // whether it keeps none of its rules
 	isRemoved bool // whether the instance is to be removed: no binding is created any more
-	sent      []message
+	sent      []outgoing
 }
 
 func newPlatform(network network, plan osb.Plan) *platform {
@@ -81,11 +63,6 @@ func newPlatform(network network, plan osb.Plan) *platform {
 		p.bindings = append(p.bindings, &life{key: broker.BindingKey(id("1"), id(it))})
 	}
 	return p
-}
-
-// id is an id with these last digits.
-func id(last string) osb.ID {
-	return osb.MustParseID("00000000-0000-0000-0000-000000000000"[:36-len(last)] + last)
 }
 
 func (p *platform) all() []*life { return append([]*life{p.instance}, p.bindings...) }
@@ -186,7 +163,7 @@ func (p *platform) timeout(it *life, attempt uint64) {
 }
 
 // fetch is the answer to a Fetch that has the object of the binding, or nil.
-func (p *platform) fetch(it *life, poll osb.Sent) *reply {
+func (p *platform) fetch(it *life, poll osb.Sent) *answer {
 	given := p.send(p.message(it, poll, true))
 	if given == nil {
 		return nil
@@ -197,14 +174,14 @@ func (p *platform) fetch(it *life, poll osb.Sent) *reply {
 	return given
 }
 
-func (p *platform) send(it message) *reply {
+func (p *platform) send(it outgoing) *answer {
 	p.sent = append(p.sent, it)
 	return p.network.deliver(it)
 }
 
-func (p *platform) message(it *life, sent osb.Sent, isFetch bool) message {
+func (p *platform) message(it *life, sent osb.Sent, isFetch bool) outgoing {
 	request := sent.Request
-	made := message{of: it.key, attempt: sent.Attempt, isFetch: isFetch}
+	made := outgoing{of: it.key, attempt: sent.Attempt, isFetch: isFetch}
 	var err error
 	made.method, err = osb.WriteMethod(request.Kind)
 	must(err)
@@ -263,19 +240,31 @@ func (p *platform) expire(it *life) {
 	}
 }
 
-func must(err error) {
-	if err != nil {
-		panic(err)
-	}
+var sold = []osb.Plan{
+	{Service: id("a0"), Plan: id("c1")}, {Service: id("a0"), Plan: id("c2")},
+	{Service: id("a0"), Plan: id("c3")}, {Service: id("a0"), Plan: id("c4")},
 }
 
-// credentialsOf are the credentials in the object of a binding.
-func credentialsOf(object []byte) string {
-	var read struct {
-		Credentials string `json:"credentials"`
-	}
-	if json.Unmarshal(object, &read) != nil {
-		return ""
-	}
-	return strings.TrimSpace(read.Credentials)
+// credentials are those of a binding that exists, or empty.
+func (s *shelf) credentials(key broker.Key) string {
+	s.turn.Lock()
+	defer s.turn.Unlock()
+	return s.things[key].credentials
+}
+
+// isCredentials is whether the object of a binding has the credentials that work.
+func (s *shelf) isCredentials(key broker.Key, object []byte) bool {
+	s.turn.Lock()
+	defer s.turn.Unlock()
+	it := s.things[key]
+	return it.there == broker.Whole && it.credentials == credentialsOf(object)
+}
+
+// A knowing shelf can tell the credentials of what exists.
+type knowing struct{ *shelf }
+
+func (k knowing) Credentials(_ context.Context, r broker.Request) (json.RawMessage, error) {
+	k.turn.Lock()
+	defer k.turn.Unlock()
+	return json.Marshal(k.things[r.Key].credentials)
 }

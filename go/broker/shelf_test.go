@@ -1,10 +1,14 @@
 package broker_test
 
 import (
+	"bytes"
 	"context"
 	"encoding/json"
 	"errors"
+	"net/http"
+	"net/http/httptest"
 	"strconv"
+	"strings"
 	"sync"
 	"testing"
 
@@ -24,11 +28,6 @@ const catalogue = `{"services": [{
 		"x-osb-asynchronous-bindings": true},
 	{"id": "00000000-0000-0000-0000-0000000000c4", "name": "make-later", "description": "instances later",
 		"x-osb-asynchronous": true}]}]}`
-
-var sold = []osb.Plan{
-	{Service: id("a0"), Plan: id("c1")}, {Service: id("a0"), Plan: id("c2")},
-	{Service: id("a0"), Plan: id("c3")}, {Service: id("a0"), Plan: id("c4")},
-}
 
 func catalogueFor(t *testing.T, document string) *broker.Catalogue {
 	t.Helper()
@@ -73,25 +72,10 @@ func newShelf(mood func() int) *shelf {
 	return &shelf{mood: mood, worked: worked, things: map[broker.Key]thing{}}
 }
 
-// credentials are those of a binding that exists, or empty.
-func (s *shelf) credentials(key broker.Key) string {
-	s.turn.Lock()
-	defer s.turn.Unlock()
-	return s.things[key].credentials
-}
-
 func (s *shelf) there(key broker.Key) broker.There {
 	s.turn.Lock()
 	defer s.turn.Unlock()
 	return s.things[key].there
-}
-
-// isCredentials is whether the object of a binding has the credentials that work.
-func (s *shelf) isCredentials(key broker.Key, object []byte) bool {
-	s.turn.Lock()
-	defer s.turn.Unlock()
-	it := s.things[key]
-	return it.there == broker.Whole && it.credentials == credentialsOf(object)
 }
 
 func (s *shelf) set(key broker.Key, to thing) {
@@ -169,15 +153,6 @@ func (s *shelf) DeleteBinding(_ context.Context, r broker.Request) error {
 	}, false)
 }
 
-// A knowing shelf can tell the credentials of what exists.
-type knowing struct{ *shelf }
-
-func (k knowing) Credentials(_ context.Context, r broker.Request) (json.RawMessage, error) {
-	k.turn.Lock()
-	defer k.turn.Unlock()
-	return json.Marshal(k.things[r.Key].credentials)
-}
-
 // memoryLocks are broker.Locks of one process.
 type memoryLocks struct {
 	turn  sync.Mutex
@@ -229,4 +204,51 @@ func (m memoryLock) Unlock() {
 	defer m.locks.turn.Unlock()
 	close(m.locks.taken[m.key])
 	delete(m.locks.taken, m.key)
+}
+
+// id is an id with these last digits.
+func id(last string) osb.ID {
+	return osb.MustParseID("00000000-0000-0000-0000-000000000000"[:36-len(last)] + last)
+}
+
+func must(err error) {
+	if err != nil {
+		panic(err)
+	}
+}
+
+// A message is a request over HTTP.
+type message struct {
+	method, target string
+	body           []byte
+}
+
+// A reply is an answer over HTTP.
+type reply struct {
+	status int
+	header http.Header
+	body   []byte
+}
+
+// serve has a handler answer the request.
+func (m message) serve(handler http.Handler) *reply { return m.as(handler, "u", "p") }
+
+func (m message) as(handler http.Handler, user, password string) *reply {
+	request := httptest.NewRequest(m.method, m.target, bytes.NewReader(m.body))
+	request.SetBasicAuth(user, password)
+	request.Header.Set(osb.VersionHeader, osb.VersionSent)
+	given := httptest.NewRecorder()
+	handler.ServeHTTP(given, request)
+	return &reply{status: given.Code, header: given.Header(), body: given.Body.Bytes()}
+}
+
+// credentialsOf are the credentials in the object of a binding.
+func credentialsOf(object []byte) string {
+	var read struct {
+		Credentials string `json:"credentials"`
+	}
+	if json.Unmarshal(object, &read) != nil {
+		return ""
+	}
+	return strings.TrimSpace(read.Credentials)
 }

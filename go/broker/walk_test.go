@@ -21,8 +21,8 @@ type walk struct {
 	world *world
 	to    *bufio.Writer
 	lives map[broker.Key]*course
-	now   *message // the request that is at the broker
-	began bool     // whether it has changed what is held
+	now   *outgoing // the request that is at the broker
+	began bool      // whether it has changed what is held
 }
 
 // A course is what the model numbers of a life.
@@ -149,10 +149,10 @@ func numberOf(credentials string) string {
 // ---- what happens at the broker
 
 // arrives is called before a request is handled.
-func (w *walk) arrives(it *message) { w.now, w.began = it, false }
+func (w *walk) arrives(it *outgoing) { w.now, w.began = it, false }
 
 // answered is called after a request was handled and the broker wasn't killed. It numbers the answer.
-func (w *walk) answered(given *reply) {
+func (w *walk) answered(given *answer) {
 	course := w.lives[w.now.of]
 	switch {
 	case w.now.isFetch:

@@ -49,23 +49,27 @@ func opened(ctx context.Context, path string, isFirst bool) (c *connection, err 
 		return nil, err
 	}
 	c = &connection{SQLiteConn: made.(*sqlite3.SQLiteConn)}
-	defer func() {
-		if err != nil {
-			_ = c.Close()
-		}
-	}()
+	if err := c.begun(ctx, isFirst); err != nil {
+		_ = c.Close()
+		return nil, err
+	}
+	return c, nil
+}
+
+// begun prepares a connection that was opened.
+func (c *connection) begun(ctx context.Context, isFirst bool) error {
 	for _, statement := range []string{"PRAGMA journal_mode = WAL", "PRAGMA synchronous = FULL"} {
 		statement := statement
 		if err := patiently(ctx, func() error { return c.exec(statement) }); err != nil {
-			return nil, err
+			return err
 		}
 	}
 	if isFirst {
 		if err := c.makeTables(ctx); err != nil {
-			return nil, err
+			return err
 		}
 	}
-	return c, c.prepare(ctx)
+	return c.prepare(ctx)
 }
 
 // prepare prepares the statements.
@@ -97,7 +101,7 @@ func (c *connection) prepare(ctx context.Context) error {
 // commit writes these jobs in one transaction. One that fails, panics or was cancelled is left out of it, and has its
 // error. If the transaction itself fails, none is written.
 func (c *connection) commit(batch []*job) error {
-	begin := func() error { _, err := c.begin.Exec(nil); return err }
+	begin := func() error { return run(c.begin) }
 	if err := patiently(context.Background(), begin); err != nil {
 		return fmt.Errorf("sqlite: %w", err)
 	}
@@ -109,7 +113,7 @@ func (c *connection) commit(batch []*job) error {
 			return fmt.Errorf("%w: %v", errNoTransaction, it.err)
 		}
 	}
-	if _, err := c.end.Exec(nil); err != nil {
+	if err := run(c.end); err != nil {
 		if !c.AutoCommit() {
 			_ = c.exec("ROLLBACK")
 		}
@@ -230,9 +234,9 @@ func (c *connection) put(key broker.Key, entry broker.Entry) error {
 	}
 	if key.IsBinding {
 		values = append([]driver.Value{key.Instance.String(), key.Binding.String()}, values...)
-		_, err = c.putBinding.Exec(append(values, column(entry.Binding), entry.Holding.IsHeld()))
+		err = run(c.putBinding, append(values, column(entry.Binding), entry.Holding.IsHeld())...)
 	} else {
-		_, err = c.putInstance.Exec(append([]driver.Value{key.Instance.String()}, values...))
+		err = run(c.putInstance, append([]driver.Value{key.Instance.String()}, values...)...)
 	}
 	if err != nil {
 		return fmt.Errorf("sqlite: %w", err)
@@ -248,8 +252,16 @@ func column(text json.RawMessage) driver.Value {
 	return string(text)
 }
 
+// run executes a prepared statement.
+func run(statement driver.Stmt, values ...driver.Value) error {
+	//lint:ignore SA1019 with a context that can be cancelled, the driver would start a goroutine for each step
+	_, err := statement.Exec(values)
+	return err
+}
+
 // one is the first row of a query, or nil if there is none.
 func one(query driver.Stmt, columns int, arguments ...driver.Value) ([]driver.Value, error) {
+	//lint:ignore SA1019 with a context that can be cancelled, the driver would start a goroutine for each step
 	rows, err := query.Query(arguments)
 	if err != nil {
 		return nil, fmt.Errorf("sqlite: %w", err)

@@ -195,11 +195,24 @@ func TestMigration(t *testing.T) {
 	}
 }
 
-// A file that isn't a database is an error that names it.
-func TestNoDatabase(t *testing.T) {
-	path := t.TempDir()
-	if _, err := Open(context.Background(), path, broker.Silent{}); err == nil || !strings.Contains(err.Error(), path) {
-		t.Error(err)
+// A file that isn't a database, or one of another program, is an error that names it.
+func TestNoStore(t *testing.T) {
+	folder := t.TempDir()
+	foreign := filepath.Join(folder, "foreign")
+	made, err := (&sqlite3.SQLiteDriver{}).Open("file:" + foreign)
+	if err != nil {
+		t.Fatal(err)
+	}
+	if _, err := made.(*sqlite3.SQLiteConn).Exec("CREATE TABLE bindings (x)", nil); err != nil {
+		t.Fatal(err)
+	}
+	if err := made.Close(); err != nil {
+		t.Fatal(err)
+	}
+	for _, path := range []string{folder, foreign} {
+		if _, err := Open(context.Background(), path, broker.Silent{}); err == nil || !strings.Contains(err.Error(), path) {
+			t.Errorf("%s: %v", path, err)
+		}
 	}
 }
 

@@ -32,7 +32,7 @@ func (s *Store) Begin(ctx context.Context, name string) (string, error) {
 // Tie calls tie in a transaction, beside which nothing is written.
 func (s *Store) Tie(ctx context.Context, tie func(isUsed bool) error) error {
 	return s.read(ctx, func(c *connection) (err error) { // the writer isn't for calls of others
-		if err := patiently(ctx, func() error { _, err := c.begin.Exec(nil); return err }); err != nil {
+		if err := patiently(ctx, func() error { return run(c.begin) }); err != nil {
 			return err
 		}
 		defer func() {

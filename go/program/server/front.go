@@ -2,6 +2,7 @@ package server
 
 import (
 	"errors"
+	"io"
 	"net/http"
 	"strings"
 	"time"
@@ -38,6 +39,20 @@ func (f front) ServeHTTP(w http.ResponseWriter, r *http.Request) {
 	}
 	r.TLS = c.state() // as net/http does for a *tls.Conn
 	f.next.ServeHTTP(w, r)
+	drain(w, r)
+}
+
+// drained is how many bytes of a body are read that the handler left.
+const drained = 256 << 10
+
+// drain reads what the handler left of the body if the connection is closed after the answer. net/http does so on a
+// connection that stays open. Otherwise the kernel may reset the connection while the client still sends, and the client
+// never sees the answer.
+func drain(w http.ResponseWriter, r *http.Request) {
+	isClosed := r.Close || w.Header().Get("Connection") == "close"
+	if isClosed && r.Header.Get("Expect") == "" { // a client that expects 100-continue sends nothing
+		_, _ = io.CopyN(io.Discard, r.Body, drained)
+	}
 }
 
 // reject answers a request with a bad head. The answer isn't JSON, so a platform doesn't take it for a decision of the

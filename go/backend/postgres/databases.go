@@ -1,0 +1,147 @@
+// Package postgres sells databases of a PostgreSQL server, each with a role and a password of its own. Each binding has a
+// role of its own too, which acts as the role of its database.
+//
+// The server is for nothing else: a customer's load and disk usage reach everybody on it, and the broker's role may do
+// much there (Warnings).
+package postgres
+
+import (
+	"context"
+	"database/sql"
+	"encoding/json"
+	"fmt"
+	"net"
+	"net/url"
+	"strconv"
+	"time"
+
+	"pippinterm/broker"
+	"pippinterm/broker/postgres/session"
+)
+
+const (
+	oldest    = 140000           // the oldest version of the server, as server_version_num has it
+	lockWait  = 2 * time.Second  // so long a statement waits for a lock that a customer holds
+	statement = 10 * time.Minute // so long a statement runs: CREATE DATABASE takes long on a busy disk
+	idle      = 5 * time.Minute  // so long a transaction of the broker does nothing
+)
+
+// Databases is a broker.BindingBackend, and a LockBackend, TiedBackend, SyncBackend and CredentialsBackend.
+//
+// A statement that the server runs goes on if its client is killed. So the lock of a key is held by the very session that
+// runs the key's statements: the server releases it once the last of them has ended. Every call for a key needs the
+// context of its lock (broker.Lock).
+//
+// Whose a database is, is told by a label: the comment on the role that owns it, which no customer can change. The role is
+// created with its label in one transaction, before the database, and is dropped after it.
+type Databases struct {
+	db      *sql.DB
+	url     string
+	options Options
+	server  server
+}
+
+// Open returns the backend that sells databases of the server of a URL. The database that the URL names is the brokers'
+// own: it has the locks, the name of the store and a fingerprint of the key, so all brokers of the store name the same.
+// The role of the URL needs CREATEDB and CREATEROLE. It becomes a member of each role that it creates. It connects to the
+// databases that were sold too, to take away what a role owns there: pg_hba.conf has to allow that.
+//
+// Errors: ErrWrongKey, session.ErrBadAddress, session.ErrNotDurable, that an option can't be used or the server is older
+// than PostgreSQL 14, and those of the connection and the server.
+func Open(ctx context.Context, url string, options Options) (*Databases, error) {
+	options, err := options.withDefaults(url)
+	if err != nil {
+		return nil, err
+	}
+	db, err := session.Open(url, session.Options{
+		Most: options.Sessions, Lock: lockWait, Statement: statement, Idle: idle,
+	})
+	if err != nil {
+		return nil, fmt.Errorf("the backend: %w", err)
+	}
+	d := &Databases{db: db, url: url, options: options}
+	if err := d.prepare(ctx); err != nil {
+		_ = db.Close()
+		return nil, fmt.Errorf("the backend: %w", err)
+	}
+	return d, nil
+}
+
+// prepare looks at the server, and checks the key if the backend has an owner.
+func (d *Databases) prepare(ctx context.Context) (err error) {
+	if d.server, err = readServer(ctx, d.db); err != nil {
+		return err
+	}
+	if err := migrate(ctx, d.db); err != nil {
+		return err
+	}
+	kept, err := readOwner(ctx, d.db)
+	if err != nil {
+		return err
+	}
+	return kept.check(d.options.Key)
+}
+
+// Close closes the sessions. Work that the server has begun goes on, and keeps its lock until it has ended.
+func (d *Databases) Close() error { return d.db.Close() }
+
+// Sync returns once what Look and LookBinding say would outlive a power cut, or the loss of the server if it waits for a
+// standby: that of the commit of a record of the log, behind which are all earlier ones.
+func (d *Databases) Sync(ctx context.Context, request broker.Request) error {
+	conn, err := sessionOf(ctx, request.Key)
+	if err != nil {
+		return err
+	}
+	return session.Transaction(ctx, conn, func(tx *sql.Tx) (bool, error) {
+		_, err := tx.ExecContext(ctx, "SELECT pg_logical_emit_message(true, 'osb', '')")
+		return true, err
+	})
+}
+
+// Credentials returns the credentials of a binding, as CreateBinding does.
+//
+// Errors: ErrWrongKey if the key has been changed by Rekey; those of the server.
+func (d *Databases) Credentials(ctx context.Context, request broker.Request) (json.RawMessage, error) {
+	conn, err := sessionOf(ctx, request.Key)
+	if err != nil {
+		return nil, err
+	}
+	kept, err := readOwner(ctx, conn)
+	if err != nil {
+		return nil, err
+	}
+	if err := kept.check(d.options.Key); err != nil {
+		return nil, err
+	}
+	return d.credentials(request.Key)
+}
+
+// credentials are what an application needs to use a binding.
+func (d *Databases) credentials(key broker.Key) (json.RawMessage, error) {
+	database, username := NameOf(broker.InstanceKey(key.Instance)), NameOf(key)
+	password := PasswordOf(d.options.Key, key)
+	uri := url.URL{
+		Scheme: "postgresql",
+		User:   url.UserPassword(username, password),
+		Host:   net.JoinHostPort(d.options.Host, strconv.Itoa(d.options.Port)),
+		Path:   "/" + database,
+	}
+	return json.Marshal(struct {
+		URI      string `json:"uri"`
+		Host     string `json:"host"`
+		Port     int    `json:"port"`
+		Database string `json:"database"`
+		Username string `json:"username"`
+		Password string `json:"password"`
+	}{uri.String(), d.options.Host, d.options.Port, database, username, password})
+}
+
+// exec runs statements, each in a transaction of its own.
+func exec(ctx context.Context, conn *sql.Conn, statements ...string) error {
+	for _, it := range statements {
+		if _, err := conn.ExecContext(ctx, it); err != nil {
+			return err
+		}
+	}
+	return nil
+}

@@ -1,0 +1,195 @@
+package postgres_test
+
+import (
+	"context"
+	"database/sql"
+	"strings"
+	"sync"
+	"testing"
+	"time"
+
+	"pippinterm/backend/postgres"
+	"pippinterm/broker"
+	"pippinterm/broker/postgres/pgtest"
+)
+
+// Findings H1: nothing that a customer leaves open or changes keeps its database from being deleted, or created anew.
+func TestWhatACustomerHolds(t *testing.T) {
+	r := newRig(t)
+	d := r.open()
+	for _, it := range []struct {
+		name       string
+		statements []string
+	}{
+		{"the lock of the database", []string{"BEGIN", "COMMENT ON DATABASE $name IS 'x'"}},
+		{"the row of the database", []string{"BEGIN", "ALTER DATABASE $name CONNECTION LIMIT 1"}},
+		{"the row of the role", []string{"BEGIN", "ALTER ROLE $name PASSWORD 'x'"}},
+		{"a table", []string{"CREATE TABLE t (x integer)", "BEGIN", "LOCK TABLE t"}},
+		{"a database that is a template", []string{"ALTER DATABASE $name IS_TEMPLATE true"}},
+		{"settings of the database", []string{"ALTER DATABASE $name SET default_transaction_read_only = on"}},
+		{"a large object", []string{"SELECT lo_create(0)"}},
+	} {
+		t.Run(it.name, func(t *testing.T) {
+			deleted, anew := created(t, d), created(t, d)
+			for _, of := range []locked{deleted, anew} {
+				hold(t, r.customer(of.request.Key), named(it.statements, of.request.Key)...)
+			}
+			wantQuick(t, "Delete", func() error { return d.Delete(deleted.ctx, deleted.request) })
+			wantThere(t, d, deleted, broker.None)
+			wantQuick(t, "Create", func() error { return d.Create(anew.ctx, anew.request) })
+			wantThere(t, d, anew, broker.Whole)
+		})
+	}
+}
+
+// named are statements about the database of a key.
+func named(statements []string, key broker.Key) (of []string) {
+	for _, it := range statements {
+		of = append(of, strings.ReplaceAll(it, "$name", postgres.NameOf(key)))
+	}
+	return of
+}
+
+// wantQuick fails if a call has to wait for a lock, as it does for 2 s each.
+func wantQuick(t *testing.T, what string, call func() error) {
+	t.Helper()
+	begin := time.Now()
+	if err := call(); err != nil {
+		t.Errorf("%s: %v", what, err)
+	}
+	if took := time.Since(begin); took > 8*time.Second {
+		t.Errorf("%s took %v", what, took)
+	}
+}
+
+// Finding H1b: a prepared transaction keeps the database, but not its customer, and holds up no worker.
+func TestAPreparedTransaction(t *testing.T) {
+	r := newRig(t)
+	if r.exists("pg_settings WHERE name = 'max_prepared_transactions' AND setting = '0'") {
+		t.Skip("max_prepared_transactions is 0 on this server")
+	}
+	d := r.open()
+	it := created(t, d)
+	name := postgres.NameOf(it.request.Key)
+	hold(t, r.customer(it.request.Key), "BEGIN", "CREATE TABLE t ()", "PREPARE TRANSACTION '"+name+"'")
+	begin := time.Now()
+	err := d.Delete(it.ctx, it.request)
+	if took := time.Since(begin); err == nil || !strings.Contains(err.Error(), "ROLLBACK PREPARED") || took > 8*time.Second {
+		t.Errorf("Delete: %v after %v", err, took)
+	}
+	wantThere(t, d, it, broker.Part)
+	if err := r.customer(it.request.Key).Ping(); err == nil {
+		t.Error("the customer still logs in")
+	}
+	pgtest.Exec(t, r.admin, "ALTER DATABASE "+name+" ALLOW_CONNECTIONS true")
+	pgtest.Exec(t, pgtest.DB(t, pgtest.In(t, pgtest.URL(t), name)), "ROLLBACK PREPARED '"+name+"'")
+	if err := d.Delete(it.ctx, it.request); err != nil {
+		t.Errorf("Delete once it has ended: %v", err)
+	}
+	r.wantNothing(it.request.Key)
+}
+
+// What another customer grants to the role, in its own database, keeps nothing either: done, or in an open transaction.
+func TestWhatAnotherCustomerHolds(t *testing.T) {
+	r := newRig(t)
+	d := r.open()
+	for _, it := range []struct {
+		name       string
+		statements []string
+	}{
+		{"granted", []string{"GRANT SELECT ON t TO $name", "GRANT CONNECT ON DATABASE $other TO $name"}},
+		{"granted by default", []string{"ALTER DEFAULT PRIVILEGES GRANT SELECT ON TABLES TO $name"}},
+		{"in a transaction", []string{"BEGIN", "GRANT SELECT ON t TO $name"}},
+		{"and its settings are in the way", []string{"GRANT SELECT ON t TO $name",
+			"ALTER DATABASE $other SET role = '$other'", "ALTER DATABASE $other SET default_transaction_read_only = on"}},
+	} {
+		t.Run(it.name, func(t *testing.T) {
+			of, other := created(t, d), created(t, d)
+			statements := named(append([]string{"CREATE TABLE t (x integer)"}, it.statements...), of.request.Key)
+			for n := range statements {
+				statements[n] = strings.ReplaceAll(statements[n], "$other", postgres.NameOf(other.request.Key))
+			}
+			hold(t, r.customer(other.request.Key), statements...)
+			wantQuick(t, "Delete", func() error { return d.Delete(of.ctx, of.request) })
+			r.wantNothing(of.request.Key)
+			wantThere(t, d, other, broker.Whole)
+		})
+	}
+}
+
+// A customer that connects again and again, and holds up what it can, keeps nothing.
+func TestACustomerThatComesAgain(t *testing.T) {
+	r := newRig(t)
+	d := r.open()
+	it := created(t, d)
+	ctx, cancel := context.WithCancel(context.Background())
+	var all sync.WaitGroup
+	defer all.Wait()
+	defer cancel()
+	entered := make(chan struct{}, 100)
+	for _, statement := range named([]string{
+		"COMMENT ON DATABASE $name IS 'x'", "ALTER ROLE $name PASSWORD 'x'", "ALTER DATABASE $name CONNECTION LIMIT 9",
+	}, it.request.Key) {
+		for n := 0; n < 3; n++ {
+			db := r.customer(it.request.Key)
+			all.Add(1)
+			go func(statement string) {
+				defer all.Done()
+				for ctx.Err() == nil {
+					holdOnce(ctx, db, statement, entered)
+				}
+			}(statement)
+		}
+	}
+	<-entered
+	if err := d.Delete(it.ctx, it.request); err != nil {
+		t.Errorf("Delete: %v", err)
+	}
+	wantThere(t, d, it, broker.None)
+}
+
+// holdOnce keeps a transaction open for a while, or until its session is ended.
+func holdOnce(ctx context.Context, db *sql.DB, statement string, entered chan<- struct{}) {
+	conn, err := db.Conn(ctx)
+	if err != nil {
+		return
+	}
+	defer conn.Close()
+	if _, err := conn.ExecContext(ctx, "BEGIN; "+statement); err != nil {
+		return
+	}
+	select {
+	case entered <- struct{}{}:
+	default:
+	}
+	_, _ = conn.ExecContext(ctx, "SELECT pg_sleep(1)")
+	_, _ = conn.ExecContext(ctx, "ROLLBACK")
+}
+
+// What the role has made in the brokers' database, should it have got there, goes too.
+func TestInTheBrokersDatabase(t *testing.T) {
+	r := newRig(t)
+	d := r.open()
+	it := created(t, d)
+	name := postgres.NameOf(it.request.Key)
+	pgtest.Exec(t, r.admin, "GRANT CONNECT ON DATABASE "+r.role+" TO "+name)
+	pgtest.Exec(t, r.login(name, postgres.PasswordOf(secret, it.request.Key), r.role), "SELECT lo_create(0)")
+	if err := d.Delete(it.ctx, it.request); err != nil {
+		t.Errorf("Delete: %v", err)
+	}
+	r.wantNothing(it.request.Key)
+}
+
+// Bindings that nobody has unbound go with the instance.
+func TestBindingsGoToo(t *testing.T) {
+	r := newRig(t)
+	d := r.open()
+	it := created(t, d)
+	_, one := bound(t, d, it.request.Key)
+	hold(t, r.login(one.Username, one.Password, one.Database), "SET ROLE NONE", "CREATE TABLE t (x integer)", "BEGIN",
+		"LOCK TABLE t")
+	if err := d.Delete(it.ctx, it.request); err != nil {
+		t.Errorf("Delete: %v", err)
+	}
+	r.wantNothing(it.request.Key)
+}

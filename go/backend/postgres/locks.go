@@ -1,0 +1,108 @@
+package postgres
+
+import (
+	"context"
+	"database/sql"
+	"errors"
+	"time"
+
+	"pippinterm/broker"
+	"pippinterm/broker/postgres/session"
+)
+
+// locks are advisory locks of the server, each held by a session of its own.
+type locks struct {
+	db   *sql.DB
+	most int
+}
+
+// Locks returns the locks of the keys. A lock is an advisory lock of the session that runs the statements of its key. It
+// can be lost while the work goes on, if the server ends the session. No more than Options.Sessions are held at once:
+// whoever asks for one more waits.
+//
+// A pooler that gives a session to several clients in turn, as PgBouncer does by transaction, breaks them.
+func (d *Databases) Locks() broker.Locks { return locks{d.db, d.options.Sessions} }
+
+// CanBeLost returns true.
+func (l locks) CanBeLost() bool { return true }
+
+// Lock waits for the lock, until the context is done.
+func (l locks) Lock(ctx context.Context, key broker.Key) (broker.Lock, error) {
+	for {
+		lock, err := l.take(ctx, key, "SELECT true FROM pg_advisory_lock($1)")
+		if !session.IsCode(err, session.LockNotAvailable) {
+			return lock, err
+		}
+	}
+}
+
+// TryLock returns nil if somebody else has the lock.
+func (l locks) TryLock(ctx context.Context, key broker.Key) (broker.Lock, error) {
+	return l.take(ctx, key, "SELECT pg_try_advisory_lock($1)")
+}
+
+// take takes the lock with a statement that returns whether it has. If the server has ended a session that was idle,
+// another one is taken.
+func (l locks) take(ctx context.Context, key broker.Key, statement string) (broker.Lock, error) {
+	for tries := 0; ; tries++ {
+		lock, err := l.attempt(ctx, key, statement)
+		if ctx.Err() != nil || !session.IsLost(err) || tries >= l.most {
+			return lock, err
+		}
+	}
+}
+
+func (l locks) attempt(ctx context.Context, key broker.Key, statement string) (broker.Lock, error) {
+	conn, err := l.db.Conn(ctx)
+	if err != nil {
+		return nil, err
+	}
+	var isTaken bool
+	err = conn.QueryRowContext(ctx, statement, numberOf(key)).Scan(&isTaken)
+	switch {
+	case err == nil && isTaken:
+		return &lock{conn: conn, key: key}, nil
+	case err == nil || session.IsCode(err, session.LockNotAvailable):
+		_ = conn.Close() // it goes back to the others
+	default:
+		session.Discard(conn) // it may have the lock
+	}
+	return nil, err
+}
+
+// A lock is a session that holds the lock of a key.
+type lock struct {
+	conn *sql.Conn
+	key  broker.Key
+}
+
+type lockKey struct{}
+
+// Context returns a context with the session.
+func (l *lock) Context(ctx context.Context) context.Context {
+	return context.WithValue(ctx, lockKey{}, l)
+}
+
+// Unlock releases the lock. If that fails, the session is closed, and the lock ends with it.
+func (l *lock) Unlock() {
+	ctx, cancel := context.WithTimeout(context.Background(), 10*time.Second)
+	defer cancel()
+	var wasHeld bool
+	err := l.conn.QueryRowContext(ctx, "SELECT pg_advisory_unlock($1)", numberOf(l.key)).Scan(&wasHeld)
+	if err != nil || !wasHeld {
+		session.Discard(l.conn)
+		return
+	}
+	_ = l.conn.Close() // it goes back to the others
+}
+
+var errNoLock = errors.New("the call has no context of the key's lock")
+
+// sessionOf is the session that holds the lock of a key.
+func sessionOf(ctx context.Context, key broker.Key) (*sql.Conn, error) {
+	held, ok := ctx.Value(lockKey{}).(*lock)
+	if !ok || held.key != key {
+		return nil, errNoLock
+	}
+	return held.conn, nil
+}

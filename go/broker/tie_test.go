@@ -1,0 +1,234 @@
+package broker_test
+
+import (
+	"context"
+	"errors"
+	"os"
+	"path/filepath"
+	"strings"
+	"testing"
+	"time"
+
+	"pippinterm/backend/folders"
+	"pippinterm/broker"
+	"pippinterm/broker/sqlite"
+	"pippinterm/osb"
+)
+
+// A ground is a folder with the stores and the folders of a test.
+type ground struct {
+	t   *testing.T
+	top string
+}
+
+func newGround(t *testing.T) ground { return ground{t, t.TempDir()} }
+
+func (g ground) store(name string) *sqlite.Store {
+	g.t.Helper()
+	store, err := sqlite.Open(context.Background(), filepath.Join(g.top, name), broker.Silent{})
+	g.check(err)
+	g.t.Cleanup(func() { _ = store.Close() })
+	return store
+}
+
+func (g ground) folders(name string) *folders.Folders {
+	g.t.Helper()
+	made, err := folders.New(filepath.Join(g.top, name))
+	g.check(err)
+	return made
+}
+
+func (g ground) check(err error) {
+	g.t.Helper()
+	if err != nil {
+		g.t.Fatal(err)
+	}
+}
+
+func (g ground) tie(store broker.NamedStore, backend broker.Backend) {
+	g.t.Helper()
+	g.check(broker.Tie(context.Background(), store, backend, false))
+}
+
+// parted checks that a store and a backend don't belong together.
+func (g ground) parted(store broker.NamedStore, backend broker.Backend, says string) {
+	g.t.Helper()
+	err := broker.Tie(context.Background(), store, backend, false)
+	if !errors.Is(err, broker.ErrParted) || !strings.Contains(err.Error(), says) {
+		g.t.Errorf("%v, and %q is wanted", err, says)
+	}
+}
+
+func (g ground) name(store broker.NamedStore) string {
+	g.t.Helper()
+	name, err := store.Name(context.Background())
+	g.check(err)
+	return name
+}
+
+func (g ground) owner(backend broker.TiedBackend) string {
+	g.t.Helper()
+	owner, err := backend.Owner(context.Background())
+	g.check(err)
+	return owner
+}
+
+// fill puts an instance into a store.
+func (g ground) fill(store broker.NamedStore) {
+	g.t.Helper()
+	key := keyOf("i")
+	request := osb.Request{Kind: osb.KindProvision, ID: key.Instance, Service: id("a0"), Plan: id("c1")}
+	g.check(store.Change(context.Background(), key, 0, func(broker.Held) (*broker.Entry, error) {
+		holding, _, err := osb.Holding{}.Begin(osb.ModeSync, request, osb.Rules{})
+		return &broker.Entry{Holding: holding}, err
+	}))
+}
+
+// A new store and new folders are tied for good.
+func TestTie(t *testing.T) {
+	g := newGround(t)
+	g.tie(g.store("a"), g.folders("here"))
+	name := g.name(g.store("a"))
+	if owner := g.owner(g.folders("here")); name == "" || owner != name {
+		t.Fatalf("the store is %q, and the owner %q", name, owner)
+	}
+	g.fill(g.store("a"))
+	for _, mustExist := range []bool{false, true} {
+		g.check(broker.Tie(context.Background(), g.store("a"), g.folders("here"), mustExist))
+	}
+	if again := g.name(g.store("a")); again != name {
+		t.Errorf("the name is %q, and was %q", again, name)
+	}
+}
+
+// Folders of one store are refused to any other: a new one, and one with folders and instances of its own.
+func TestTieOfAnotherStore(t *testing.T) {
+	g := newGround(t)
+	g.tie(g.store("a"), g.folders("here"))
+	name := g.name(g.store("a"))
+	g.parted(g.store("b"), g.folders("here"), "belong to the store "+name)
+	g.tie(g.store("c"), g.folders("there"))
+	g.fill(g.store("c"))
+	g.parted(g.store("c"), g.folders("here"), "belong to the store "+name)
+	if owner := g.owner(g.folders("here")); owner != name {
+		t.Errorf("the owner is %q, and was %q", owner, name)
+	}
+}
+
+// A store is tied to one backend alone, also while it has no instances.
+func TestTieOfAnotherBackend(t *testing.T) {
+	g := newGround(t)
+	g.tie(g.store("a"), g.folders("here"))
+	for round := 0; round < 2; round++ {
+		g.parted(g.store("a"), g.folders("there"), "has begun with other resources")
+		if owner := g.owner(g.folders("there")); owner != "" {
+			t.Errorf("the folders are owned by %q", owner)
+		}
+		g.fill(g.store("a"))
+	}
+}
+
+// A tie that was interrupted goes on: the store has its name, and perhaps the folders have it.
+func TestTieThatWasInterrupted(t *testing.T) {
+	for _, isOwned := range []bool{false, true} {
+		g, ctx := newGround(t), context.Background()
+		name, err := g.store("a").Begin(ctx, "a-name")
+		g.check(err)
+		if isOwned {
+			_, err := g.folders("here").Own(ctx, name)
+			g.check(err)
+		}
+		g.check(broker.Tie(ctx, g.store("a"), g.folders("here"), true))
+		if owner := g.owner(g.folders("here")); owner != "a-name" || g.name(g.store("a")) != owner {
+			t.Errorf("the owner is %q", owner)
+		}
+		g.parted(g.store("a"), g.folders("there"), "has begun with other resources") // it is noted that they are tied
+	}
+}
+
+// A slow backend waits when it is asked whose it is.
+type slow struct {
+	*folders.Folders
+	asked, goOn chan struct{}
+}
+
+func (s slow) Owner(ctx context.Context) (string, error) {
+	owner, err := s.Folders.Owner(ctx)
+	s.asked <- struct{}{}
+	<-s.goOn
+	return owner, err
+}
+
+// Of two brokers that tie a new store to two backends at once, one waits for the other, and is refused.
+func TestTwoTiesAtOnce(t *testing.T) {
+	g := newGround(t)
+	first := slow{g.folders("here"), make(chan struct{}), make(chan struct{})}
+	second := slow{g.folders("there"), make(chan struct{}, 1), make(chan struct{})}
+	close(second.goOn)
+	tied, refused := make(chan error, 1), make(chan error, 1)
+	one, other := g.store("a"), g.store("a")
+	go func() { tied <- broker.Tie(context.Background(), one, first, false) }()
+	soon(t, first.asked)
+	go func() { refused <- broker.Tie(context.Background(), other, second, false) }()
+	select {
+	case <-second.asked:
+		t.Error("two are being tied at once")
+	case <-time.After(30 * time.Millisecond):
+	}
+	close(first.goOn)
+	if err := soon(t, tied); err != nil {
+		t.Error(err)
+	}
+	if err := soon(t, refused); !errors.Is(err, broker.ErrParted) {
+		t.Errorf("%v, and the other has tied the store", err)
+	}
+	if owner := g.owner(g.folders("there")); owner != "" {
+		t.Errorf("the second folders are owned by %q", owner)
+	}
+}
+
+// A store with instances that was never tied, and folders of which nobody knows whose they are, as those of a copy.
+func TestTieOfUnknownOwners(t *testing.T) {
+	g := newGround(t)
+	g.fill(g.store("a"))
+	g.parted(g.store("a"), g.folders("here"), "has begun with other resources")
+	here, instance := g.folders("here"), filepath.Join(g.top, "here", id("1").String())
+	g.check(os.Mkdir(instance, 0o700))
+	for round := 0; round < 2; round++ { // the first has given the store its name
+		if err := broker.Tie(context.Background(), g.store("b"), here, false); err == nil {
+			t.Error("the folders of an unknown owner are taken")
+		}
+		if owner := g.owner(here); owner != "" {
+			t.Errorf("the folders are owned by %q", owner)
+		}
+	}
+	g.check(os.Remove(instance))
+	g.tie(g.store("b"), here) // it wasn't noted that the store is tied
+}
+
+// A backend that keeps no name can't be told from others like it, and doesn't replace one that does.
+func TestUntied(t *testing.T) {
+	g := newGround(t)
+	for _, store := range []string{"a", "a", "b"} {
+		g.tie(g.store(store), newShelf(calm))
+	}
+	if name := g.name(g.store("a")); name != broker.Untied {
+		t.Errorf("the name is %q", name)
+	}
+	g.parted(g.store("a"), g.folders("here"), "another backend's")
+	g.tie(g.store("c"), g.folders("here"))
+	g.parted(g.store("c"), newShelf(calm), "another backend's")
+}
+
+// --existing refuses a new store, and changes neither it nor the backend.
+func TestTieThatMustExist(t *testing.T) {
+	g := newGround(t)
+	for _, backend := range []broker.Backend{g.folders("here"), newShelf(calm)} {
+		if err := broker.Tie(context.Background(), g.store("a"), backend, true); !errors.Is(err, broker.ErrParted) {
+			t.Errorf("%v, and the store is new", err)
+		}
+	}
+	if name, owner := g.name(g.store("a")), g.owner(g.folders("here")); name != "" || owner != "" {
+		t.Errorf("the store is %q, and the owner %q", name, owner)
+	}
+}

@@ -1,0 +1,234 @@
+package main
+
+import (
+	"context"
+	"errors"
+	"fmt"
+	"io/fs"
+	"net"
+	"os"
+	"path/filepath"
+	"strconv"
+	"strings"
+
+	"pippinterm/backend/command"
+	"pippinterm/backend/folders"
+	"pippinterm/backend/postgres"
+	"pippinterm/broker"
+	"pippinterm/broker/filelock"
+	pgstore "pippinterm/broker/postgres"
+	"pippinterm/broker/postgres/session"
+	"pippinterm/broker/sqlite"
+	"pippinterm/program"
+	"pippinterm/program/logs"
+	"pippinterm/program/secrets"
+)
+
+// parts are what a broker is made of.
+type parts struct {
+	backend broker.Backend
+	store   broker.NamedStore
+	locks   broker.Locks
+	sells   string // what an instance is called in the standard catalogue
+	close   []func()
+}
+
+// partsOf opens what the settings name. If it fails, nothing stays open.
+//
+// Errors: program.Unusable for what an operator has to change, and program.Unavailable for a server that is away.
+func partsOf(ctx context.Context, s *settings, log *logs.Logger, observer broker.Observer) (p *parts, err error) {
+	p = &parts{}
+	defer func() {
+		if err != nil {
+			p.closeAll()
+		}
+	}()
+	if err := os.MkdirAll(s.state, 0o700); err != nil {
+		return p, program.Unusable(fmt.Errorf("the state folder can't be created: %w", err))
+	}
+	if err := p.openBackend(ctx, s, log); err != nil {
+		return p, err
+	}
+	if err := p.openStore(ctx, s, observer); err != nil {
+		return p, err
+	}
+	if err := p.openLocks(s); err != nil {
+		return p, err
+	}
+	if err := p.forStorm(ctx, s); err != nil {
+		return p, err
+	}
+	err = broker.Tie(ctx, p.store, p.backend, s.existing)
+	if errors.Is(err, broker.ErrParted) {
+		err = program.Unusable(err)
+	}
+	return p, err
+}
+
+func (p *parts) closeAll() {
+	for at := len(p.close) - 1; at >= 0; at-- {
+		p.close[at]()
+	}
+	p.close = nil
+}
+
+// openBackend opens what is sold.
+func (p *parts) openBackend(ctx context.Context, s *settings, log *logs.Logger) (err error) {
+	if name := strings.TrimPrefix(s.backend, "command:"); name != s.backend {
+		p.sells = "resource"
+		options := command.Options{State: filepath.Join(s.state, "command"), Limit: s.commandTime}
+		p.backend, err = command.New(ctx, name, options)
+		return program.Unusable(wrapped("the backend can't be used", err))
+	}
+	if session.IsAddress(s.backend) {
+		p.sells = "database"
+		return p.openDatabases(ctx, s, log)
+	}
+	p.sells = "folder"
+	top := s.backend
+	if top == "" {
+		top = filepath.Join(s.state, "instances")
+	}
+	p.backend, err = folders.New(top)
+	return program.Unusable(wrapped("the backend can't be used", err))
+}
+
+func (p *parts) openDatabases(ctx context.Context, s *settings, log *logs.Logger) error {
+	if err := withoutPassword(s.backend); err != nil {
+		return err
+	}
+	key, err := keyOf(s.keyFile, log)
+	if err != nil {
+		return err
+	}
+	options := postgres.Options{Key: key, ConnectionsPerInstance: s.perInstance, Sessions: s.threads + s.workers}
+	if options.Host, options.Port, err = customersOf(s.customers); err != nil {
+		return program.Unusable(fmt.Errorf("--customer-address: %w", err))
+	}
+	databases, err := postgres.Open(ctx, s.backend, options)
+	if err != nil {
+		return away("the backend can't be used", err)
+	}
+	p.close = append(p.close, func() { _ = databases.Close() })
+	p.backend = databases
+	warnings, err := databases.Warnings(ctx)
+	if err != nil {
+		return away("the backend can't be used", err)
+	}
+	for _, warning := range warnings {
+		log.Warning("backend").Str("warning", warning).Send()
+	}
+	return nil
+}
+
+// customersOf is the address at which applications reach the databases, or an empty host and 0 for that of the backend.
+func customersOf(address string) (string, int, error) {
+	if address == "" {
+		return "", 0, nil
+	}
+	host, text, err := net.SplitHostPort(address)
+	if err != nil {
+		return "", 0, err
+	}
+	port, err := strconv.ParseUint(text, 10, 16)
+	return host, int(port), err
+}
+
+// openStore opens where the holdings are.
+func (p *parts) openStore(ctx context.Context, s *settings, observer broker.Observer) error {
+	if session.IsAddress(s.store) {
+		if err := withoutPassword(s.store); err != nil {
+			return err
+		}
+		store, err := pgstore.Open(ctx, s.store, atMost(s.threads+s.workers, 8), observer)
+		if err != nil {
+			return away("the store can't be used", err)
+		}
+		p.store = store
+	} else {
+		store, err := openFile(ctx, s, observer)
+		if err != nil {
+			return program.Unusable(wrapped("the store can't be used", err))
+		}
+		p.store = store
+	}
+	p.close = append(p.close, func() { _ = p.store.Close() })
+	return nil
+}
+
+func openFile(ctx context.Context, s *settings, observer broker.Observer) (*sqlite.Store, error) {
+	path := s.store
+	if path == "" {
+		path = filepath.Join(s.state, "holdings.sqlite")
+	}
+	if _, err := os.Lstat(path); s.existing && errors.Is(err, fs.ErrNotExist) {
+		return nil, fmt.Errorf("there is no %s, and --existing wants a store that has been used before", path)
+	}
+	if err := os.MkdirAll(filepath.Dir(path), 0o700); err != nil {
+		return nil, err
+	}
+	return sqlite.Open(ctx, path, observer)
+}
+
+// openLocks are the backend's locks, or locks in a file of the state folder.
+func (p *parts) openLocks(s *settings) (err error) {
+	if backend, ok := p.backend.(broker.LockBackend); ok {
+		p.locks = backend.Locks()
+		return nil
+	}
+	p.locks, err = filelock.New(filepath.Join(s.state, ".locks"))
+	return program.Unusable(wrapped("the locks can't be used", err))
+}
+
+// keyOf is the key of the databases' passwords.
+func keyOf(file string, log *logs.Logger) ([]byte, error) {
+	key, warning, err := secrets.Secret("OSB_BACKEND_KEY", file)
+	if err != nil {
+		return nil, program.Unusable(fmt.Errorf("the key of the databases' passwords: %w", err))
+	}
+	if len(key) < postgres.ShortestKey {
+		return nil, program.Unusable(fmt.Errorf(
+			"the key of the databases' passwords has %d bytes, and needs at least %d. Make one with: osb-broker key",
+			len(key), postgres.ShortestKey))
+	}
+	if warning != "" && log != nil {
+		log.Warning("secret").Str("warning", warning).Send()
+	}
+	return []byte(key), nil
+}
+
+// withoutPassword refuses a URL with a password, which everybody could read who lists processes.
+func withoutPassword(url string) error {
+	has, err := session.HasPassword(url)
+	if err != nil {
+		return program.Unusable(fmt.Errorf("the URL of PostgreSQL can't be read: %w", err))
+	}
+	if has {
+		return program.Unusable(errors.New(
+			"a URL must not have a password: put it into PGPASSWORD, or into a file that PGPASSFILE names"))
+	}
+	return nil
+}
+
+// away is the error of a server: it may be back later, unless an operator has to change something.
+func away(what string, err error) error {
+	err = wrapped(what, err)
+	if errors.Is(err, postgres.ErrWrongKey) || errors.Is(err, session.ErrBadAddress) || errors.Is(err, session.ErrNotDurable) {
+		return program.Unusable(err)
+	}
+	return program.Unavailable(err)
+}
+
+func wrapped(what string, err error) error {
+	if err == nil {
+		return nil
+	}
+	return fmt.Errorf("%s: %w", what, err)
+}
+
+func atMost(number, greatest int) int {
+	if number > greatest {
+		return greatest
+	}
+	return number
+}

@@ -1,0 +1,249 @@
+package main
+
+import (
+	"context"
+	"errors"
+	"fmt"
+	"io"
+	"os"
+	"os/signal"
+	"runtime/debug"
+	"strings"
+	"syscall"
+	"time"
+
+	"pippinterm/broker"
+	"pippinterm/program"
+	"pippinterm/program/health"
+	"pippinterm/program/limiter"
+	"pippinterm/program/logs"
+	"pippinterm/program/metrics"
+	"pippinterm/program/secrets"
+	"pippinterm/program/server"
+)
+
+// A running is a broker that serves, or is about to.
+type running struct {
+	settings *settings
+	log      *logs.Logger
+	observer broker.Observer
+	metrics  *metrics.Metrics
+	parts    *parts
+	main     *server.Listener
+	handler  *broker.Handler
+	health   *health.Handler
+	sweeper  *broker.Sweeper
+}
+
+// serve serves until SIGTERM or SIGINT. It writes the log to standard error.
+func serve(ctx context.Context, s *settings, stderr io.Writer) error {
+	debug.SetGCPercent(400) // it has little in memory, and makes much that is short-lived
+	syscall.Umask(0o077)
+	stop, forget := signal.NotifyContext(ctx, syscall.SIGTERM, syscall.SIGINT)
+	defer forget()
+	queue := logs.NewQueue(stderr)
+	defer func() {
+		until, cancel := context.WithTimeout(ctx, time.Second)
+		defer cancel()
+		_ = queue.Close(until)
+	}()
+	r := &running{settings: s, log: logs.New(queue)}
+	if err := r.open(ctx, stop, queue); err != nil {
+		return err
+	}
+	defer r.parts.closeAll()
+	return r.serve(ctx, stop)
+}
+
+// open opens everything but what serve begins.
+func (r *running) open(ctx, stop context.Context, queue *logs.Queue) (err error) {
+	s := r.settings
+	users, err := usersOf(s, r.log)
+	if err != nil {
+		return err
+	}
+	late := &lateStore{}
+	r.metrics = metrics.New(ctx, metrics.Options{Store: late, DroppedLines: queue.Dropped, Connections: r.connections})
+	r.observer = program.Observers(logs.Observer(r.log), r.metrics)
+	if r.parts, err = partsOf(stop, s, r.log, r.observer); err != nil {
+		return err
+	}
+	late.store = r.parts.store
+	defer func() {
+		if err != nil {
+			r.parts.closeAll()
+		}
+	}()
+	_, sellsBindings := r.parts.backend.(broker.BindingBackend)
+	catalogue, err := catalogueOf(s.catalogue, r.parts.sells, sellsBindings)
+	if err != nil {
+		return err
+	}
+	if ids := inUpperCase(catalogue.Document()); len(ids) > 0 {
+		r.log.Warning("guid_in_upper_case").Strs("ids", ids).Send()
+	}
+	rules := broker.Rules{FirstPoll: s.firstPoll, WaitForPoll: s.waitForPoll}
+	service := broker.NewService(catalogue, r.parts.store, r.parts.backend, r.parts.locks, rules, r.observer)
+	r.sweeper = broker.NewSweeper(service, r.observer)
+	r.handler, err = broker.NewHandler(ctx, service, broker.Config{
+		Users: users, LongestBody: s.longestBody, AtOnce: s.threads, Limiter: limiter.New(), Touch: r.sweeper.Touch,
+		Observer: r.observer,
+	})
+	return program.Unusable(err)
+}
+
+// A lateStore is a store for the metrics, which are made before the store.
+type lateStore struct{ store broker.Store }
+
+func (l *lateStore) Stats(ctx context.Context) (broker.Stats, error) {
+	if l.store == nil {
+		return broker.Stats{}, errors.New("the store isn't open")
+	}
+	return l.store.Stats(ctx)
+}
+
+func (r *running) connections() int {
+	if r.main == nil {
+		return 0
+	}
+	return r.main.Connections()
+}
+
+// serve listens, and serves until stop is done.
+func (r *running) serve(ctx, stop context.Context) error {
+	sites, err := r.sites(ctx)
+	if err != nil {
+		return err
+	}
+	sweeping, endSweeps := context.WithCancel(ctx)
+	defer endSweeps()
+	swept := make(chan struct{})
+	go func() {
+		defer close(swept)
+		r.sweeper.Run(ctx, sweeping, r.settings.workers, r.settings.sweepTime)
+	}()
+	var stopped time.Time
+	served := server.Server{
+		Sites: sites, Request: r.settings.requestTime, Stop: r.settings.stopTime, Stopping: func() {
+			stopped = time.Now()
+			r.log.Info("stopping").Send()
+			r.handler.Stop()
+			r.health.Stop()
+			endSweeps()
+		},
+	}
+	r.log.Info("serving").Str("url", r.main.URL()).Send()
+	failed := served.Serve(stop)
+	hasEnded := r.wait(swept, time.Until(stopped.Add(r.settings.stopTime)))
+	isCut := errors.Is(failed, server.ErrCut)
+	r.log.Info("stopped").Bool("all_work_ended", hasEnded && !isCut).Send()
+	if isCut || !hasEnded { // the work uses them still. It is taken up at the next start, as after a crash
+		r.parts.close = nil
+	}
+	if isCut {
+		return nil
+	}
+	return failed
+}
+
+// wait waits for the sweeper, and returns whether it has ended in time.
+func (r *running) wait(swept <-chan struct{}, within time.Duration) bool {
+	late := time.NewTimer(within)
+	defer late.Stop()
+	select {
+	case <-swept:
+		return true
+	case <-late.C:
+	}
+	select { // both may be the case
+	case <-swept:
+		return true
+	default:
+		return false
+	}
+}
+
+// sites are where it listens, and what answers there.
+func (r *running) sites(ctx context.Context) ([]server.Site, error) {
+	s := r.settings
+	certificates, err := r.certificates(ctx)
+	if err != nil {
+		return nil, err
+	}
+	r.main, err = server.Listen(ctx, s.listen, server.Options{
+		Connections: s.connections, Share: s.sharePort, Certificates: certificates, Observer: r.observer,
+	})
+	if err != nil {
+		return nil, program.Unusable(fmt.Errorf("--listen %s: %w", s.listen, err))
+	}
+	if err := server.CheckFiles(uint64(s.connections) + 100); err != nil {
+		return nil, program.Unusable(err)
+	}
+	options := health.Options{Ready: r.parts.store.Ready, Metrics: r.metrics.Handler(), Observer: r.observer}
+	if s.healthListen != "" {
+		r.health = health.New(ctx, options)
+		other, err := server.Listen(ctx, s.healthListen, server.Options{Connections: 100, Observer: r.observer})
+		if err != nil {
+			return nil, program.Unusable(fmt.Errorf("--health-listen %s: %w", s.healthListen, err))
+		}
+		return []server.Site{{Listener: r.main, Handler: r.handler}, {Listener: other, Handler: r.health}}, nil
+	}
+	options.Next = r.handler
+	r.health = health.New(ctx, options)
+	return []server.Site{{Listener: r.main, Handler: r.health}}, nil
+}
+
+// certificates are those of TLS, or nil. They are read again at SIGHUP.
+func (r *running) certificates(ctx context.Context) (*server.Certificates, error) {
+	s := r.settings
+	if s.certificate == "" && s.key == "" && s.clientCA == "" {
+		signal.Ignore(syscall.SIGHUP)
+		return nil, nil
+	}
+	made, err := server.LoadCertificates(server.CertificateFiles{
+		Certificate: s.certificate, Key: s.key, ClientCA: s.clientCA,
+	})
+	if err != nil {
+		return nil, program.Unusable(err)
+	}
+	again := make(chan os.Signal, 1)
+	signal.Notify(again, syscall.SIGHUP)
+	go func() {
+		defer signal.Stop(again)
+		made.ReloadAt(ctx, again, func(err error) {
+			if err != nil {
+				r.log.Error("certificates_not_reloaded").Err(err).Send()
+				return
+			}
+			r.log.Info("certificates_reloaded").Send()
+		})
+	}()
+	return made, nil
+}
+
+// usersOf are the users that may log in.
+func usersOf(s *settings, log *logs.Logger) (*broker.Users, error) {
+	all, warning, err := passwordsOf(s)
+	if err != nil {
+		return nil, program.Unusable(err)
+	}
+	if warning != "" {
+		log.Warning("secret").Str("warning", warning).Send()
+	}
+	users, err := broker.NewUsers(all)
+	return users, program.Unusable(err)
+}
+
+func passwordsOf(s *settings) (map[string][]string, string, error) {
+	if s.usersFile != "" {
+		if s.passwordFile != "" {
+			return nil, "", errors.New("give --users-file or --password-file, and not both")
+		}
+		return secrets.Users(s.usersFile)
+	}
+	if s.user == "" || strings.Contains(s.user, ":") {
+		return nil, "", errors.New("--user wants a name without a colon")
+	}
+	passwords, warning, err := secrets.Passwords("OSB_BROKER_PASSWORD", s.passwordFile)
+	return map[string][]string{s.user: passwords}, warning, wrapped("the platform's password", err)
+}

@@ -1,0 +1,131 @@
+package main
+
+import (
+	"bytes"
+	"net"
+	"os"
+	"os/exec"
+	"path/filepath"
+	"strings"
+	"testing"
+)
+
+// unusable runs the program, and checks that it ends with status 2 and this text.
+func unusable(t *testing.T, says string, arguments ...string) {
+	t.Helper()
+	var stderr bytes.Buffer
+	command := osbBroker([]string{password}, arguments...)
+	command.Stderr = &stderr
+	_ = command.Run()
+	if command.ProcessState.ExitCode() != 2 || !strings.Contains(stderr.String(), says) {
+		t.Errorf("%v: status %d, %q; 2 and %q are wanted", arguments, command.ProcessState.ExitCode(), stderr.String(), says)
+	}
+}
+
+// An address that another process uses ends it, whichever of the two addresses that is.
+func TestAddressInUse(t *testing.T) {
+	used, err := net.Listen("tcp", "127.0.0.1:0")
+	if err != nil {
+		t.Fatal(err)
+	}
+	defer used.Close()
+	address := used.Addr().String()
+	says := ": can't listen: listen tcp " + address + ": bind: address already in use"
+	unusable(t, "--listen "+address+says, "serve", "--state", t.TempDir(), "--listen", address)
+	unusable(t, "--health-listen "+address+says, "serve", "--state", t.TempDir(), "--listen", "127.0.0.1:0",
+		"--health-listen", address)
+}
+
+// Folders of another store, and a store of other folders, end it. The broker whose they are starts again.
+func TestTiedToAnother(t *testing.T) {
+	state, other := t.TempDir(), t.TempDir()
+	s := start(t, []string{password}, "--state", state)
+	s.expect(201, "PUT", one, order)
+	s.stop()
+	const says = "the store and the backend don't belong together"
+	unusable(t, says, "serve", "--state", other, "--backend", filepath.Join(state, "instances"))
+	unusable(t, says, "serve", "--state", state, "--backend", filepath.Join(other, "folders"))
+	unusable(t, says, "serve", "--state", state, "--backend", "command:/bin/true")
+	s = start(t, []string{password}, "--state", state, "--existing")
+	s.expect(200, "PUT", one, order)
+	s.stop()
+}
+
+// --existing begins no store, and leaves nothing behind by which a later start would find one.
+func TestExistingBeginsNothing(t *testing.T) {
+	state := t.TempDir()
+	for round := 0; round < 2; round++ {
+		unusable(t, "--existing", "serve", "--state", state, "--existing")
+	}
+	for _, name := range []string{"holdings.sqlite", "instances/.owner"} {
+		if _, err := os.Lstat(filepath.Join(state, name)); err == nil {
+			t.Errorf("there is %s", name)
+		}
+	}
+}
+
+// The password of a database depends on the key and on the id, and on nothing else.
+func TestPassword(t *testing.T) {
+	const key = "a key that is long enough for a broker"
+	file := filepath.Join(t.TempDir(), "key")
+	if err := os.WriteFile(file, []byte(key+"\n"), 0o600); err != nil {
+		t.Fatal(err)
+	}
+	of := func(key, id string, arguments ...string) string {
+		t.Helper()
+		out, err := osbBroker([]string{"OSB_BACKEND_KEY=" + key}, append([]string{"password", id}, arguments...)...).Output()
+		if err != nil || len(bytes.TrimSpace(out)) < 40 || bytes.Count(out, []byte("\n")) != 1 {
+			t.Errorf("of %q: %q, %v", id, out, err)
+		}
+		return string(out)
+	}
+	const lower, upper = "aaaaaaaa-0000-0000-0000-000000000001", "AAAAAAAA-0000-0000-0000-000000000001"
+	first := of(key, lower)
+	for name, again := range map[string]string{
+		"the key of a file": of("", lower, "--backend-key-file", file),
+		"once more":         of(key, lower),
+	} {
+		if again != first {
+			t.Errorf("%s: the password is %q, and was %q", name, again, first)
+		}
+	}
+	others := map[string]string{first: lower}
+	for id, given := range map[string]string{
+		"another key":            of(key+"!", lower),
+		upper:                    of(key, upper),
+		"a text":                 of(key, "a text"),
+		"../é/":                  of(key, "../é/"),
+		strings.Repeat("a", 255): of(key, strings.Repeat("a", 255)),
+	} {
+		if other, isSame := others[given]; isSame {
+			t.Errorf("%q and %q have the same password", id, other)
+		}
+		others[given] = id
+	}
+	for _, id := range []string{"", strings.Repeat("a", 256)} {
+		unusable(t, "can't be the id of an instance", "password", id, "--backend-key-file", file)
+	}
+}
+
+// Many processes open a new store at once: all can, and one store comes of it. None can listen, so each ends then.
+func TestManyOpenANewStore(t *testing.T) {
+	state := t.TempDir()
+	errors := make([]bytes.Buffer, 12)
+	running := make([]*exec.Cmd, len(errors))
+	for n := range running {
+		running[n] = osbBroker([]string{password}, "serve", "--state", state, "--listen", "192.0.2.1:1")
+		running[n].Stderr = &errors[n]
+		if err := running[n].Start(); err != nil {
+			t.Fatal(err)
+		}
+	}
+	for n, it := range running {
+		_ = it.Wait()
+		if !strings.HasPrefix(errors[n].String(), "osb-broker: --listen 192.0.2.1:1: ") {
+			t.Errorf("status %d: %s", it.ProcessState.ExitCode(), errors[n].String())
+		}
+	}
+	s := start(t, []string{password}, "--state", state, "--existing")
+	s.expect(201, "PUT", one, order)
+	s.stop()
+}

@@ -1,0 +1,3 @@
+// Package storm has what the storm (checks/storm) puts into osb-broker: folders that are slow and fail, and stores and
+// locks that lack a part of the design. Without the build tag storm it is empty.
+package storm
