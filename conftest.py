@@ -1,4 +1,4 @@
-"""What all tests share: the library, the program osb-replay, and a PostgreSQL server that lives as long as the run."""
+"""What all tests share: the library, the programs, and a PostgreSQL server that lives as long as the run."""
 from __future__ import annotations
 
 import contextlib
@@ -34,7 +34,7 @@ def pytest_configure(config: pytest.Config) -> None:
             config.stash[PORT] = _choose_server()
 
 
-# ---- The library and the program osb-replay.
+# ---- The library and the programs.
 
 
 def _where(variable: str, what: str) -> Path:
@@ -60,6 +60,20 @@ def library() -> Path:
 def replay() -> Path:
     """The program osb-replay."""
     return _where("OSB_REPLAY", "replay")
+
+
+@pytest.fixture(scope="session")
+def broker() -> Path:
+    """The program that ./osb-broker runs: the one that OSB_BROKER names. If it names none, the launcher builds the
+    program, and OSB_BROKER names that one from then on.
+    """
+    if not os.environ.get("OSB_BROKER"):
+        ran = subprocess.run([TOP / "osb-broker", "--help"], stdin=subprocess.DEVNULL, capture_output=True, text=True)
+        if "apt-get install" in ran.stderr:
+            pytest.skip(ran.stderr.strip())
+        assert ran.returncode == 0, ran.stderr
+        os.environ["OSB_BROKER"] = str(TOP / "out" / "go" / "osb-broker")
+    return Path(os.environ["OSB_BROKER"]).resolve()
 
 
 # ---- PostgreSQL. Each process of pytest chooses an address, and its first test that needs the server starts it.

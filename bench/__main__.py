@@ -15,7 +15,6 @@ import re
 import signal
 import socket
 import subprocess
-import sys
 import tempfile
 import time
 import urllib.request
@@ -89,17 +88,9 @@ def brokers(asked: argparse.Namespace) -> Iterator[Brokers]:
     """Started, and ended at the end of the block."""
     with tempfile.TemporaryDirectory() as folder, contextlib.ExitStack() as stack:
         port = _free_port()
-        line = [
-            sys.executable,
-            "-m",
-            "osb_broker",
-            "serve",
-            "--state",
-            folder,
-            "--share-port",
-            "--listen",
-            f"127.0.0.1:{port}",
-        ]
+        program = f"{_TOP}/osb-broker"
+        subprocess.run([program, "--help"], check=True, stdout=subprocess.DEVNULL)  # builds it, if it must be built
+        line = [program, "serve", "--state", folder, "--share-port", "--listen", f"127.0.0.1:{port}"]
         log = stack.enter_context(open(Path(folder) / "log", "ab"))
         running = []
         for _ in range(asked.brokers):

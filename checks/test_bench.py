@@ -12,6 +12,7 @@ RUN = Path(__file__).resolve().parents[1] / "bench" / "run"
 
 
 @pytest.mark.slow
+@pytest.mark.usefixtures("broker")
 def test_a_short_load(library: Path) -> None:
     if shutil.which("wrk") is None:
         pytest.skip("wrk isn't installed (Debian: apt-get install wrk)")

@@ -41,6 +41,7 @@ KEPT = "begins with what a check kept"
 NAMED = (
     "LIBOSB",
     "LIBOSB_FOLDER",
+    "OSB_BROKER",
     "OSB_CRATES",
     "OSB_REPLAY",
     "OSB_TEST_POSTGRESQL",

@@ -40,6 +40,12 @@ def block(page: str, beginning: str) -> str:
     return found
 
 
+def packages(text: str) -> set[str]:
+    """The packages that the text names after apt-get install."""
+    found = re.findall(r"apt-get install((?: -\S+)*)((?: [a-z0-9.+-]+)+)", re.sub(r"\\\n *", "", text))
+    return {name for _, names in found for name in names.split()}
+
+
 def covers(page: str, *beginnings: str) -> pytest.MarkDecorator:
     """Give a test the texts of these blocks of a page."""
     return pytest.mark.parametrize("texts", [[block(page, it) for it in beginnings]], ids=[page])

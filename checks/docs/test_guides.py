@@ -1,27 +1,23 @@
-"""The commands of the two guides, run as they stand there, but for ports and names of databases."""
+"""The commands of the two guides, run as they stand there, but for ports and for databases."""
 from __future__ import annotations
 
-import os
+import json
 import re
 import shlex
-import uuid
-from typing import Callable, Iterator
-from urllib.parse import quote, urlencode
+import subprocess
+from typing import Callable
 
-import osb_broker.words
 import osb_platform.words
 import pytest
 import storm.arguments
-from docs.pages import block, blocks, covers, pages
+from docs.guides import BROKER, CREATE, PLATFORM, healthy, moved, statuses
+from docs.pages import TOP, block, blocks, covers, packages, pages, read
 from docs.workdir import Workdir, needs
-from osb_program.pg import Sessions
+from osb import Id
 
-BROKER, PLATFORM = "docs/broker-guide.md", "docs/platform-guide.md"
-ONE = "00000000-0000-0000-0000-000000000001"
-SERVE = "OSB_BROKER_PASSWORD=secret ./osb-broker serve --state build/broker\n"
-CREATE = "ask() { curl -i "
+FIRST = str(Id.of_text("my-first"))
 
-pytestmark = pytest.mark.slow
+pytestmark = [pytest.mark.slow, pytest.mark.usefixtures("broker")]
 
 
 @pytest.fixture(autouse=True)
@@ -30,33 +26,70 @@ def curl() -> None:
     needs("curl")
 
 
-def moved(commands: str, port: int, page: int = 0) -> str:
-    """The commands, with ports of the test's own."""
-    served = commands.replace("osb-broker serve", f"osb-broker serve --listen 127.0.0.1:{port}")
-    return served.replace(":8080", f":{port}").replace(":8090", f":{page}")
+@covers(BROKER, "apt-get install golang-go ")
+def test_packages(texts: list[str]) -> None:
+    """They are those that the launcher asks for."""
+    assert packages(texts[0]) == packages(read("osb-broker"))
 
 
-def healthy(port: int) -> str:
-    """The commands that wait until the broker answers."""
-    return f"until curl -sf http://127.0.0.1:{port}/healthz >/dev/null; do sleep 0.05; done\n"
+def test_first_start(workdir: Workdir) -> None:
+    """It builds the program, which the second start runs. Both print what they were asked for, and nothing else."""
+    cache = subprocess.run(["go", "env", "GOCACHE"], capture_output=True, text=True, check=True).stdout.strip()
+    given = {"OSB_BROKER": "", "GOCACHE": cache, "GOFLAGS": ""}
+    assert re.fullmatch(r"[\w-]{43}\n", workdir.run("./osb-broker key", **given))
+    assert workdir.errors().startswith("osb-broker: building the program ") and workdir.errors().count("\n") == 1
+    assert re.fullmatch(r"[\w-]{43}\n", workdir.run("./osb-broker key", **given))
+    assert workdir.errors() == ""
 
 
-@covers(BROKER, SERVE, CREATE, "two=${one%1}2 ")
+@covers(BROKER, "OSB_BROKER_PASSWORD=secret ./osb-broker serve --state build/broker\n", CREATE, "two=http:")
 def test_broker(texts: list[str], workdir: Workdir, port: int) -> None:
-    """An instance of each plan is created and deleted."""
+    """An instance of each plan is created and deleted, one of them with a binding. No id is used again."""
     serve, synchronous, asynchronous = (moved(it, port) for it in texts)
     poll = "ask $two/last_operation"
-    assert poll in asynchronous
-    polled = asynchronous.replace(poll, f"until {poll} | grep succeeded; do sleep 0.1; done")
-    out = workdir.run(f"{serve.strip()} &\n{healthy(port)}{synchronous}\n{polled}\nkill %1; wait $!\n")
-    assert re.findall(r"HTTP/1.1 (\d+)", out) == ["201", "200", "202", "202"]
-    assert out.count(f"{ONE}\n") == 1  # what ls lists
+    before, _, delete = asynchronous.partition(f"{poll}\n")
+    life = (
+        f"{before}until {poll} | grep succeeded; do sleep 0.1; done\n{delete}"
+        f"until {poll} | grep -q ' 410 '; do sleep 0.1; done\n{before}"
+    )
+    out = workdir.run(f"{serve.strip()} &\n{healthy(port)}{synchronous}echo --\n{life}kill %1; wait $!\n")
+    first, _, second = out.partition("--\n")
+    assert statuses(first) == ["201", "201", "200", "200"]
+    assert first.count(f"{FIRST}\n") == 1  # what ls lists
+    assert '"credentials":' in first
+    assert statuses(second) == ["202", "202", "409"]
 
 
 @covers(BROKER, "OSB_BROKER_PASSWORD=secret ./osb-broker serve --state build/databases ")
 def test_backend_of_a_reader(texts: list[str], workdir: Workdir, port: int) -> None:
-    workdir.run(f"{moved(texts[0], port).strip()} &\n{healthy(port)}kill %1; wait $!\n")
-    assert (workdir.top / "build" / "databases" / "holdings.sqlite").exists()
+    """It sells a database, with a binding."""
+    own = re.sub(r"\b0{8}(-0000-0000-0000-0000000000[ab]\d)", r"11111111\1", moved(block(BROKER, CREATE), port))
+    listed = own.replace("ls build/broker/instances", f"ls build/databases/command/{FIRST}*")
+    out = workdir.run(f"{moved(texts[0], port).strip()} &\n{healthy(port)}{listed}kill %1; wait $!\n")
+    assert statuses(out) == ["201", "201", "200", "200"]
+    assert "data.sqlite\n" in out and '"token"' in out
+
+
+# A Bind of an instance that doesn't exist, and one whose body lacks the ids.
+BINDS = """\
+for ids in '"service_id":"00000000-0000-0000-0000-0000000000a0","plan_id":"00000000-0000-0000-0000-0000000000b1"' ''; do
+    curl -s -u platform:secret -X PUT http://127.0.0.1:8080/v2/service_instances/one/service_bindings/two \
+        -H 'X-Broker-API-Version: 2.17' -H 'X-Vcap-Request-Id: v' -H 'Traceparent: t' \
+        -H "X-Broker-API-Originating-Identity: cloudfoundry $(printf '{}' | base64)" -d "{$ids}"
+done
+"""
+
+
+@covers(BROKER, "OSB_BROKER_PASSWORD=secret ./osb-broker serve --state build/broker\n")
+def test_log(texts: list[str], workdir: Workdir, port: int) -> None:
+    """The guide names the members of the lines about requests."""
+    workdir.run(f"{moved(texts[0], port).strip()} &\n{healthy(port)}{moved(BINDS, port)}kill %1; wait $!\n")
+    lines = [json.loads(line) for line in workdir.errors().splitlines() if line.startswith("{")]
+    found = [set(it) for it in lines if it["event"] == "request" and it["route"] == "bind"]
+    assert len(found) == 2
+    row = re.search(r"^\| `request` \| one for each request:(.*)$", read(BROKER), re.MULTILINE)
+    assert row is not None
+    assert set.union(*found) - {"time", "level", "event"} == set(re.findall("`([a-z_]+)`", row[1]))
 
 
 @covers(PLATFORM, "export OSB_BROKER_PASSWORD=secret ", "curl -u platform:secret ")
@@ -80,12 +113,25 @@ def test_page(texts: list[str], workdir: Workdir, port: int, other_port: int) ->
 
 # ---- arguments of all commands, also of those that aren't run here
 
+
+def help_of(*arguments: str) -> str:
+    """What osb-broker prints for these arguments and --help. It judges the options before it prints."""
+    ran = subprocess.run([TOP / "osb-broker", *arguments, "--help"], capture_output=True, text=True)
+    assert ran.returncode == 0, ran.stderr
+    return ran.stdout
+
+
+def read_by_broker(arguments: list[str]) -> None:
+    """Fails if the first argument isn't a command of osb-broker, or the others aren't options of this command."""
+    assert f"\n  osb-broker {arguments[0]}" in help_of(*arguments).partition("\nUsage:")[2].partition("\n\n")[0]
+
+
 READERS: dict[str, Callable[[list[str]], object]] = {
-    "./osb-broker": osb_broker.words.read,
+    "./osb-broker": read_by_broker,
     "./osb-platform": osb_platform.words.read,
     "checks/storm/run": storm.arguments.read,
 }
-COMMAND = re.compile(rf"(?:^|[\s(])({'|'.join(map(re.escape, READERS))})((?: +[^\s&|;#)]+)+)", re.MULTILINE)
+COMMAND = re.compile(rf"(?:^|[\s(])({'|'.join(map(re.escape, READERS))})((?: +[^\s&|;#)>]+)+)", re.MULTILINE)
 
 
 @pytest.mark.parametrize("page", pages())
@@ -93,86 +139,19 @@ def test_arguments(page: str) -> None:
     """The programs take the arguments of every command in the documents. Two points at its end stand for a broker."""
     for text in blocks(page):
         for program, words in COMMAND.findall(text.replace("\\\n", " ")):
-            whole = re.sub(r"\$\w+", ONE, re.sub(r" \.\.$", " --broker http://127.0.0.1:8080", words))
+            whole = re.sub(r"\$\w+", FIRST, re.sub(r" \.\.$", " --broker http://127.0.0.1:8080", words))
             READERS[program](shlex.split(whole))
 
 
-# ---- PostgreSQL
+@pytest.mark.parametrize("arguments", ["serve --pass x", "serve --threads 0", "sell", "serve --listen"])
+def test_wrong_arguments_are_found(arguments: str) -> None:
+    with pytest.raises(AssertionError):
+        read_by_broker(arguments.split())
 
 
-class Server:
-    """A server of PostgreSQL, with a role and a database of the test's own."""
-
-    def __init__(self, url: str) -> None:
-        self.url, self.instance = url, f"{str(uuid.uuid4())[:-1]}1"
-        self.name = f"osbguide{os.getpid()}"
-        self._sessions = Sessions(url, 1)
-
-    def execute(self, statement: str) -> None:
-        with self._sessions.session() as session, session.cursor() as cursor:
-            cursor.execute(statement)
-
-    def prepare(self, statements: str, role: str) -> str:
-        """Run the guide's statements under other names, and return the database's URL, quoted for a shell."""
-        for statement in re.sub("--.*", "", statements).replace("'..'", "'secret'").split(";"):
-            words = re.sub(r"\bDATABASE \w+", f"DATABASE {self.name}s", statement)
-            words = re.sub(rf"\b(ROLE|OWNER) {role}\b", rf"\1 {self.name}", words).strip()
-            if words and "CONNECT" not in words:  # that statement is for each database of the server
-                self.execute(words)
-        from psycopg2.extensions import parse_dsn  # it is installed where there is a server
-
-        parts: dict[str, str] = {**parse_dsn(self.url), "user": self.name, "dbname": f"{self.name}s"}
-        parts.pop("password", None)
-        return shlex.quote(f"postgresql://?{urlencode(parts, quote_via=quote)}")
-
-    def clear(self) -> None:
-        """Drop what the test has created."""
-        sold = "osb_" + self.instance.replace("-", "")
-        for role, database in ((sold, sold), (self.name, f"{self.name}s")):
-            self.execute(f"DROP DATABASE IF EXISTS {database} WITH (FORCE)")
-            self.execute(f"DROP ROLE IF EXISTS {role}")
-
-
-@pytest.fixture
-def server(postgresql: str) -> Iterator[Server]:
-    """A server, until the end of the test."""
-    made = Server(postgresql)
-    yield made
-    made.clear()
-
-
-@pytest.mark.postgres
-@covers(BROKER, "export OSB_BROKER_PASSWORD=.. OSB_BACKEND_KEY=..", "./osb-broker password ", "CREATE ROLE broker ")
-def test_broker_over_postgresql(texts: list[str], workdir: Workdir, port: int, server: Server) -> None:
-    """It sells a database, and prints its password."""
-    serve, password, statements = texts
-    url = server.prepare(statements, "broker")
-    exports, _, start = serve.partition("\n")
-    assert exports == "export OSB_BROKER_PASSWORD=.. OSB_BACKEND_KEY=.. PGPASSFILE=.."
-    started = moved(start, port).replace("postgresql://broker@db/brokers", url).strip()
-    create = moved(block(BROKER, CREATE), port).replace("ls build/broker/instances", password)
-    given = {"OSB_BROKER_PASSWORD": "secret", "OSB_BACKEND_KEY": "a key", "PGPASSWORD": "secret"}
-    script = f"{started} &\n{healthy(port)}{create}\nkill %1; wait $!\n".replace(ONE, server.instance)
-    out = workdir.run(script, **given)
-    assert re.findall(r"HTTP/1.1 (\d+)", out) == ["201", "200"]
-    assert re.search(r"(?m)\{\}[\w-]{43}$", out)
-
-
-@pytest.mark.postgres
-@covers(PLATFORM, "./osb-platform run --store postgresql:", "CREATE ROLE platform ")
-def test_platform_over_postgresql(texts: list[str], workdir: Workdir, port: int, server: Server) -> None:
-    """It orders an instance of a broker, which becomes ready."""
-    run, statements = texts
-    store = f"--store {server.prepare(statements, 'platform')}"
-    assert "--store postgresql://platform@db/platform --broker https://broker.example" in run
-    started = run.replace("--store postgresql://platform@db/platform", store).strip()
-    started = started.replace("https://broker.example", f"http://127.0.0.1:{port}")
-    order = (
-        f"one=$(./osb-platform create {store} --service 00000000-0000-0000-0000-0000000000a0 "
-        "--plan 00000000-0000-0000-0000-0000000000b1)"
-    )
-    serve = f"OSB_BROKER_PASSWORD=x ./osb-broker serve --listen 127.0.0.1:{port} &\n{healthy(port)}"
-    out = workdir.run(
-        f"{serve}{order}\n{started} --once\nkill %1; wait $!\n", OSB_PLATFORM_PASSWORD="x", PGPASSWORD="secret"
-    )
-    assert re.search(r"\tready\n", out)
+def test_options_of_the_broker() -> None:
+    """Each option that the guide names is one of the program's."""
+    options = set(re.findall(r"^ +(?:-\w, )?(--[\w-]+)", "".join(map(help_of, ("serve", "rekey"))), re.MULTILINE))
+    named = set(re.findall(r"(?<![\w-])--[a-z][a-z-]*", read(BROKER)))
+    assert len(named) > 20
+    assert named - options == set()

@@ -85,6 +85,10 @@ class Repository:
     def _fill_prebuilt(self) -> None:
         for name, text in (("osb-replay", PROGRAM), ("libosb.so", "prebuilt\n"), ("libosb.a", "prebuilt\n")):
             self.write(str(self.prebuilt.relative_to(self.top) / name), text)
+        self.record_prebuilt()
+
+    def record_prebuilt(self) -> None:
+        """Writes into MANIFEST what the prebuilt files are now."""
         each = 'record "$prebuilt" $it "$(digest_of_sources $it)" "kit 1"'
         script = f". scripts/artifacts.sh && for it in replay library; do {each}; done"
         subprocess.run(["bash", "-c", f"top=$PWD who=test; {script}"], cwd=self.top, check=True)
@@ -95,11 +99,11 @@ class Repository:
         path = [*([str(self.kit / "bin")] if has_rt else []), str(self.kit), *inherited]
         return {**os.environ, "PATH": ":".join(path)}
 
-    def run(self, *command: str, has_rt: bool = True) -> subprocess.CompletedProcess[str]:
+    def run(self, *command: str, has_rt: bool = True, **variables: str) -> subprocess.CompletedProcess[str]:
         return subprocess.run(
             [str(self.top / command[0]), *command[1:]],
             cwd=self.folder,
-            env=self.environment(has_rt),
+            env={**self.environment(has_rt), **variables},
             input="a schedule",
             capture_output=True,
             text=True,

@@ -1,4 +1,4 @@
-"""A platform that orders a folder and has it deleted: `BROKER_PASSWORD=.. python3 order.py RECORDS URL`."""
+"""A platform that creates an instance and has it deleted: `BROKER_PASSWORD=.. python3 order.py RECORDS URL`."""
 import os
 import sys
 import time

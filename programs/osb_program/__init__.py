@@ -1,3 +1,3 @@
-"""What osb_broker and osb_platform share: PostgreSQL's sessions, secrets, addresses, the command line's words, crash
-points.
+"""Parts of osb_platform that know nothing of instances: PostgreSQL's sessions, secrets, addresses, the arguments of the
+command line, crash points.
 """

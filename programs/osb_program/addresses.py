@@ -1,4 +1,4 @@
-"""Addresses at which the programs listen, as the command line names them and as a URL has them."""
+"""Addresses to listen at, as the command line names them and as a URL has them."""
 from __future__ import annotations
 
 import argparse

@@ -38,11 +38,6 @@ def has_password(url: str) -> bool:
     return not {"password", "sslpassword"}.isdisjoint(parts)
 
 
-def scram(session: Any, role: str, password: str) -> str:
-    """What stands for the password in a statement: the server's log may have the statement."""
-    return str(_psycopg2().extensions.encrypt_password(password, role, session, "scram-sha-256"))
-
-
 def is_error(error: Exception) -> bool:
     """Whether PostgreSQL, or the way to it, has raised it."""
     try:
@@ -54,17 +49,6 @@ def is_error(error: Exception) -> bool:
 def reason(error: Exception) -> str:
     """What an error of PostgreSQL's says, on one line."""
     return " ".join(str(error).split())
-
-
-def make_tables(cursor: Any, last: str, tables: str, lock: int) -> None:
-    """Makes these tables where the last of them isn't there yet, under the advisory lock of this number."""
-    cursor.execute("SELECT to_regclass(%s) IS NOT NULL", [last])
-    if cursor.fetchone() == (True,):
-        return
-    cursor.execute("BEGIN")
-    cursor.execute("SELECT pg_advisory_xact_lock(%s)", [lock])
-    cursor.execute(tables)
-    cursor.execute("COMMIT")
 
 
 def _psycopg2() -> Any:

@@ -1,4 +1,4 @@
-"""What the words of both command lines share: how ids, counts and seconds are read, and how a word is refused."""
+"""Reads ids, counts and seconds on the command line, and rejects arguments."""
 from __future__ import annotations
 
 import argparse
@@ -20,14 +20,6 @@ def id_of(text: str) -> Id:
         return Id.of(text)
     except OsbError as error:
         raise argparse.ArgumentTypeError(f"{text!r} is no GUID") from error
-
-
-def any_id_of(text: str) -> Id:
-    """Reads an id as a request has it: any text of 1 to 255 bytes."""
-    try:
-        return Id.of_text(text)
-    except OsbError as error:
-        raise argparse.ArgumentTypeError(f"{text!r} is no id of 1 to 255 bytes of UTF-8") from error
 
 
 def count_up_to(most: int, told: str) -> Callable[[str], int]:

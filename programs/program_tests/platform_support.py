@@ -19,7 +19,7 @@ from osb_platform.pace import Pace
 from osb_platform.plans import Longest
 from osb_platform.sqlite_database import SqliteDatabase
 from osb_platform.steps import Parts
-from program_tests.broker_support import TOP
+from program_tests.support import TOP
 
 WORKER = "a-worker"
 

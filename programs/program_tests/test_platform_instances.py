@@ -11,7 +11,7 @@ from osb.records import IdUsed, Kept, UnknownId
 from osb_platform.instances import Database, Instance, Instances, Lease
 from osb_platform.pg_database import PgDatabase
 from osb_platform.sqlite_database import SqliteDatabase
-from program_tests.broker_support import AT_ONCE, POSTGRESQL, SERVICE, InFolder
+from program_tests.support import AT_ONCE, POSTGRESQL, SERVICE, InFolder
 
 
 class InstancesTest(InFolder):

@@ -8,7 +8,7 @@ from osb import State
 from osb_platform.pace import Pace, held_until, last_due, wait
 from osb_platform.plans import USUAL, Known, Longest, known
 from osb_platform.reach import Unreached, reached
-from program_tests.broker_support import AT_ONCE, BY_WORKER, SERVICE
+from program_tests.support import AT_ONCE, BY_WORKER, SERVICE
 
 PACE = Pace(2.0, 10.0, 0.0)
 

@@ -28,8 +28,8 @@ from osb_platform.readings import Asked, Place, Reader, Reading
 from osb_platform.sqlite_database import SqliteDatabase, SqliteReader
 from osb_platform.words import STATES
 from osb_program.pg import Sessions
-from program_tests.broker_support import AT_ONCE, POSTGRESQL, SERVICE, InFolder
 from program_tests.platform_support import get, platform, ran
+from program_tests.support import AT_ONCE, POSTGRESQL, SERVICE, InFolder
 
 BROKER = "http://a-broker.example"
 HARM = "<script>alert('&')</script>\""

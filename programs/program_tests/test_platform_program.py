@@ -10,8 +10,8 @@ from osb import Id
 from osb_platform.instances import Instances
 from osb_platform.sqlite_database import SqliteDatabase
 from osb_platform.tell import COLUMNS
-from program_tests.broker_support import AT_ONCE, ONE, SERVICE, TWO, InFolder
 from program_tests.platform_support import Said, far_end, foreign, platform, ran
+from program_tests.support import AT_ONCE, ONE, SERVICE, TWO, InFolder
 
 pytestmark = pytest.mark.slow
 

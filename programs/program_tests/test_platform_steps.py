@@ -11,8 +11,8 @@ from osb.records import Kept
 from osb_platform.instances import Execute, Instance, Instances, Lease
 from osb_platform.pace import Pace
 from osb_platform.steps import Parts, step
-from program_tests.broker_support import BY_WORKER, ONE, SERVICE, InFolder
 from program_tests.platform_support import WORKER, Clock, FarEnd, Said, far_end, parts
+from program_tests.support import BY_WORKER, ONE, SERVICE, InFolder
 
 POLL = (
     f"GET /v2/service_instances/{ONE}/last_operation?service_id={SERVICE}&plan_id={BY_WORKER}"

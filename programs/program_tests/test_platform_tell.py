@@ -7,7 +7,7 @@ import pytest
 from osb_platform import words
 from osb_platform.instances import Instance
 from osb_platform.tell import COLUMNS, lines
-from program_tests.broker_support import AT_ONCE, ONE, SERVICE, TOP
+from program_tests.support import AT_ONCE, ONE, SERVICE, TOP
 
 ORDERED = Instance(
     id=ONE,

@@ -1,22 +1,15 @@
-"""What the tests share: ids, a catalogue, a worker whose things are counted, and requests to an application."""
+"""What the tests share: ids, a catalogue, and requests."""
 from __future__ import annotations
 
 import base64
-import contextlib
-import io
 import json
 import logging
 import tempfile
-import threading
 import unittest
 from pathlib import Path
-from socketserver import ThreadingMixIn
-from typing import Any, Callable, Iterator, NamedTuple
-from wsgiref.simple_server import WSGIRequestHandler, WSGIServer, make_server
+from typing import Callable
 
 from osb import Answer, Holding, Id, Kind, Mode, OsbError, Outcome, Request, Status, Work
-from osb.service import Task
-from osb.wsgi import BrokerApplication
 
 ONE = Id.of("00000000-0000-0000-0000-000000000001")
 TWO = Id.of("00000000-0000-0000-0000-000000000002")
@@ -52,35 +45,6 @@ class InFolder(unittest.TestCase):
         self.folder = Path(folder.name)
 
 
-class Things:
-    """A worker. `things` are those that are there; `before` is called before any work is done."""
-
-    def __init__(self, before: Callable[[Task], None] | None = None, outcome: Outcome = Outcome.DONE) -> None:
-        self.things: set[Id] = set()
-        self.done: list[Work] = []
-        self.before, self.outcome = before, outcome
-
-    def work(self, task: Task) -> Outcome:
-        if self.before is not None:
-            self.before(task)
-        self.done.append(task.work)
-        if task.work in (Work.MAKE, Work.START_MAKING):
-            self.things.add(task.request.id)
-        elif task.work == Work.DELETE:
-            self.things.discard(task.request.id)
-        return self.outcome
-
-
-class Reply(NamedTuple):
-    status: int
-    headers: dict[str, str]
-    body: bytes
-
-    @property
-    def error(self) -> str:
-        return str(json.loads(self.body)["error"])
-
-
 def status_of(call: Callable[[], object]) -> Status | None:
     """Why the library doesn't do the call, or None if it does."""
     try:
@@ -103,65 +67,3 @@ def provision_body(plan: Id = SYNC) -> bytes:
             "space_guid": "a space",
         }
     ).encode()
-
-
-def target(id: Id = ONE, plan: Id | None = SYNC, end: str = "") -> str:
-    query = "" if plan is None else f"?service_id={SERVICE}&plan_id={plan}&accepts_incomplete=true"
-    return f"/v2/service_instances/{id}{end}{query}"
-
-
-def call(application: BrokerApplication, method: str, target: str, body: bytes = b"", **environ: Any) -> Reply:
-    """What the application answers. What is given besides stands in the environment, or doesn't where it is None."""
-    path, _, query = target.partition("?")
-    given: dict[str, Any] = {
-        "REQUEST_METHOD": method,
-        "PATH_INFO": path,
-        "QUERY_STRING": query,
-        "HTTP_AUTHORIZATION": authorization(),
-        "HTTP_X_BROKER_API_VERSION": "2.17",
-        "wsgi.input": io.BytesIO(body),
-        "CONTENT_LENGTH": str(len(body)),
-        **environ,
-    }
-    said: list[Any] = []
-    whole = b"".join(
-        application({name: it for name, it in given.items() if it is not None}, lambda *line: said.extend(line))
-    )
-    return Reply(int(said[0].split()[0]), dict(said[1]), whole)
-
-
-def provision(application: BrokerApplication, id: Id = ONE, plan: Id = SYNC, accepts: bool = True) -> Reply:
-    query = "?accepts_incomplete=true" if accepts else ""
-    return call(application, "PUT", f"/v2/service_instances/{id}{query}", provision_body(plan))
-
-
-def deprovision(application: BrokerApplication, id: Id = ONE, plan: Id = SYNC) -> Reply:
-    return call(application, "DELETE", target(id, plan))
-
-
-def poll(application: BrokerApplication, id: Id = ONE, plan: Id | None = SYNC) -> Reply:
-    return call(application, "GET", target(id, plan, "/last_operation"))
-
-
-class _Server(ThreadingMixIn, WSGIServer):
-    daemon_threads = True
-
-
-class Handler(WSGIRequestHandler):
-    """wsgiref's, without a word on standard error."""
-
-    def log_message(self, format: str, *args: Any) -> None:
-        pass
-
-
-@contextlib.contextmanager
-def served(application: Any) -> Iterator[str]:
-    """The application under wsgiref, in a thread; its URL."""
-    with make_server("127.0.0.1", 0, application, _Server, Handler) as server:
-        thread = threading.Thread(target=server.serve_forever, kwargs={"poll_interval": 0.01})
-        thread.start()
-        try:
-            yield f"http://127.0.0.1:{server.server_port}"
-        finally:
-            server.shutdown()
-            thread.join()

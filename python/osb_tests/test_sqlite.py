@@ -10,10 +10,10 @@ import time
 from contextlib import closing
 from unittest import mock
 
-from osb import Holding
+from osb import Record
+from osb.records import Kept, SqliteRecords
 from osb.sqlite import begin, opened, transaction
-from osb.stores import SqliteStore
-from osb_tests.support import ONE, InFolder
+from osb_tests.support import ONE, SERVICE, SYNC, InFolder
 
 # It is killed once its commit is written, and not synced.
 DIES = """
@@ -36,8 +36,8 @@ class Opened(InFolder):
         with closing(opened(self.file, 1.0)) as first:
             first.execute("CREATE TABLE x (y)")
 
-    def synced(self, database: list[sqlite3.Connection], is_first: bool = True) -> list[str]:
-        """Opens the file, and gives what this process has had put on disk by itself meanwhile."""
+    def synced(self, database: list[sqlite3.Connection]) -> list[str]:
+        """Opens the file, and returns what this process has written to disk by itself meanwhile."""
         names: list[str] = []
         whole = os.fsync
 
@@ -46,14 +46,13 @@ class Opened(InFolder):
             whole(descriptor)
 
         with mock.patch("os.fsync", fsync):
-            database.append(opened(self.file, 1.0, is_first))
+            database.append(opened(self.file, 1.0))
         self.addCleanup(database[-1].close)
         return names
 
     def test_commits_are_on_disk(self) -> None:
-        for is_first in (True, False):
-            with closing(opened(self.file, 1.0, is_first)) as database:
-                self.assertEqual((pragma(database, "synchronous"), pragma(database, "journal_mode")), (2, "wal"))
+        with closing(opened(self.file, 1.0)) as database:
+            self.assertEqual((pragma(database, "synchronous"), pragma(database, "journal_mode")), (2, "wal"))
 
     def test_what_was_not_synced(self) -> None:
         """The log is put on disk, and its name, and it is the one that is read from then on."""
@@ -61,7 +60,6 @@ class Opened(InFolder):
         database: list[sqlite3.Connection] = []
         self.assertEqual(self.synced(database), [f"{self.file}-wal", str(self.folder)])
         self.assertEqual(database[0].execute("SELECT y FROM x").fetchall(), [(1,)])
-        self.assertEqual(self.synced(database, is_first=False), [])
 
     def test_it_waits_for_no_reader(self) -> None:
         with closing(opened(self.file, 1.0)) as reader, closing(opened(self.file, 1.0)) as writer:
@@ -122,11 +120,11 @@ class Opened(InFolder):
 
     def test_a_store(self) -> None:
         """It reads only what is on disk."""
-        store = SqliteStore(self.folder / "holdings")
+        store, wanted = SqliteRecords(self.folder / "records"), Kept(Record.create(ONE, SERVICE, SYNC, True)[0])
+        store.insert(ONE, wanted)
         with mock.patch("os.fsync") as fsync:
-            store.update(ONE, lambda holding: (holding, None))
+            self.assertEqual(store.update(ONE, lambda kept: (kept, kept)), wanted)
         self.assertTrue(fsync.called)
-        self.assertEqual(store.update(ONE, lambda holding: (holding, holding)), Holding.NONE)
 
 
 class Refusing:

@@ -1,12 +1,14 @@
-"""The life of a service instance under the Open Service Broker API 2.17, for both ends, over the proved library libosb.
+"""The proved library libosb for Python: values, wire, tables and texts under the Open Service Broker API 2.17, and for
+now the client of a platform. A broker whose resources are created in Python is a command backend of osb-broker
+(docs/broker-guide.md).
 
-- `Record` and `Holding`: one instance as a value, as a platform and as a broker keep it in a database.
+- `Record` and `Holding`: one instance as a value, as a platform and as a broker keep it in a database, with its text.
 - `osb.wire`: requests and answers as HTTP and JSON have them. `osb.binding_wire`: those of bindings.
-- `osb.wsgi.BrokerApplication`: a broker as a WSGI application. `osb.client.Client`: a platform over HTTP.
 - `osb.tables`: the platform's tables.
+- `osb.client.Client`: a platform over HTTP. `osb.records`: where it keeps its records.
 
-The environment variable LIBOSB names the library's file; else libosb.so.0 is loaded, as the system finds it. What isn't
-done raises `OsbError`. docs/python.md has a first program.
+The environment variable LIBOSB names the library's file. If it isn't set, libosb.so.0 is loaded, as the system finds
+it. If the library doesn't do what a call asks, the call raises `OsbError`. docs/python.md has a first program.
 """
 from __future__ import annotations
 

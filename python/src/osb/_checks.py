@@ -1,9 +1,7 @@
-"""What a broker and a client are given at the start: what can't do is refused then, by ValueError, and not later by
-each request. No error names a user or a password.
+"""Checks of what a client is given when it is created. What it can't use is rejected then, with ValueError, and not
+later by each request. No error names a user or a password.
 """
 from __future__ import annotations
-
-import re
 
 
 def check_login(user: str, password: str) -> None:
@@ -13,15 +11,6 @@ def check_login(user: str, password: str) -> None:
     if ":" in user:
         raise ValueError("HTTP's Basic scheme knows no user with a colon")
     check_texts("the user or the password", user, password)
-
-
-def check_prefix(prefix: str) -> None:
-    """Refuses a prefix that isn't a path."""
-    if not prefix:
-        return
-    if not prefix.startswith("/") or prefix.endswith("/") or re.search(r"[?#\s\x00-\x1f\x7f]", prefix):
-        raise ValueError("a prefix begins with a slash, ends with none, and has no query, blank or line end")
-    check_texts("the prefix", prefix)
 
 
 def check_longest(longest_body: int) -> None:

@@ -13,20 +13,19 @@ _RETRY = 0.05
 _AGAIN = 0.0005
 
 
-def opened(path: Path, seconds: float, is_first: bool = True) -> sqlite3.Connection:
+def opened(path: Path, seconds: float) -> sqlite3.Connection:
     """A connection for any thread, whose transactions wait for those of others for so many seconds, and begin where
     they are told to. The file keeps a write-ahead log, so it is one of this machine.
 
-    `is_first`: it is the first one of this process. Then what a killed process had written, and not synced yet, is on
-    disk before anything is read: it would be taken for committed. Raises sqlite3.Error, or OSError.
+    What a killed process had written, and not synced yet, is on disk before anything is read: it would be taken for
+    committed. Raises sqlite3.Error, or OSError.
     """
     made = sqlite3.connect(path, timeout=seconds, isolation_level=None, check_same_thread=False)
     try:
         _with_log(made, time.monotonic() + seconds)
         made.execute("PRAGMA synchronous = FULL")  # a commit that has returned is on disk
-        if is_first:
-            made.execute("SELECT 1 FROM sqlite_master").fetchone()  # what is in the log is taken from here on
-            _sync(f"{os.fspath(path)}-wal")
+        made.execute("SELECT 1 FROM sqlite_master").fetchone()  # what is in the log is taken from here on
+        _sync(f"{os.fspath(path)}-wal")
         return made
     except BaseException:
         made.close()

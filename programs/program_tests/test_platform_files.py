@@ -1,4 +1,4 @@
-"""The stores' files of SQLite, new, opened by many at once."""
+"""New files of SQLite for the platform's table, opened by many processes at once."""
 from __future__ import annotations
 
 import subprocess
@@ -6,21 +6,19 @@ import sys
 import time
 
 import pytest
-from program_tests.broker_support import InFolder
+from program_tests.support import InFolder
 
 pytestmark = pytest.mark.slow
 
 # Each begins at the same moment, once it has loaded all that it needs.
 OPENS = """
 import sys, time
-from osb_broker.sqlite_store import SqliteStore
 from osb_platform.instances import Instances
 from osb_platform.sqlite_database import SqliteDatabase
 for at in range(int(sys.argv[1])):
     begin = float(sys.argv[2]) + at * 0.1
     while time.time() < begin:
         pass
-    SqliteStore(f"{sys.argv[3]}/holdings-{at}")
     Instances(SqliteDatabase(f"{sys.argv[3]}/instances-{at}"))
 """
 
