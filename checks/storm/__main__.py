@@ -4,7 +4,7 @@ from __future__ import annotations
 import sys
 
 from storm.arguments import read
-from storm.storm import run
+from storm.report import run
 
 
 def main(given: list[str]) -> int:

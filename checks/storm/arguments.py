@@ -8,6 +8,28 @@ from typing import Callable
 
 from storm.faults import SHARE
 
+RULES = ("available", "held")
+"""What `--without` names that is a rule of the broker about an instance and its bindings. As long as the platform keeps
+its own rules, nothing goes wrong without one: so the storm's client keeps none of its rules then.
+"""
+
+_WITHOUT = (
+    "tombstones",
+    "work",
+    "busy",
+    "attempts",
+    "locks",
+    *RULES,
+    "broker",
+    "platform",
+    "both",
+)
+_WITHOUT_HELP = (
+    "take a part of the design out (tombstones, work, busy, attempts, locks), or a rule about bindings (available: a "
+    "Bind begins only while its instance is ready; held: a Deprovision begins only while no binding is held), or run a "
+    "broker, a platform or both as they are usually written; the storm then passes if it finds what that leaves behind"
+)
+
 
 def read(given: list[str]) -> argparse.Namespace:
     """What the arguments say. If they are rejected, the program ends."""
@@ -21,6 +43,13 @@ def read(given: list[str]) -> argparse.Namespace:
     number: Callable[[str], int] = int
     parser.add_argument("--seconds", type=float, default=60.0, help="how long it lasts (60)")
     parser.add_argument("--instances", type=number, default=200, help="how many are ordered (200)")
+    parser.add_argument("--bindings", type=number, default=100, help="how many bindings of them are created (100)")
+    parser.add_argument(
+        "--unruly",
+        action="store_true",
+        help="bindings are created and instances removed at any time, so only the broker's two rules about them are "
+        "left (always so without one of those)",
+    )
     parser.add_argument("--seed", type=number, default=SystemRandom().randrange(1 << 32), help="repeats the faults")
     parser.add_argument("--faults", type=float, help=f"the share of requests that meet one ({SHARE})")
     parser.add_argument("--brokers", type=number, default=1, help="how many serve (1)")
@@ -35,12 +64,7 @@ def read(given: list[str]) -> argparse.Namespace:
         "--backend", choices=("folders", "postgresql"), default="folders", help="what is sold (folders)"
     )
     parser.add_argument("--settle", type=float, default=120.0, help="how many seconds it may take to settle (120)")
-    parser.add_argument(
-        "--without",
-        choices=("tombstones", "work", "busy", "attempts", "locks", "broker", "platform", "both"),
-        help="take a part of the design out (tombstones, work, busy, attempts, locks), or run a broker, a platform or "
-        "both as they are usually written; the storm then passes if it finds what that leaves behind",
-    )
+    parser.add_argument("--without", choices=_WITHOUT, help=_WITHOUT_HELP)
     parser.add_argument(
         "--kills",
         choices=("both", "brokers", "platform", "none"),
@@ -50,7 +74,12 @@ def read(given: list[str]) -> argparse.Namespace:
     parser.add_argument("--no-points", dest="points", action="store_false", help="not every crash point has to be hit")
     parser.add_argument("--keep", type=Path, metavar="FOLDER", help="a new folder that keeps the logs and all files")
     asked = parser.parse_args(given)
-    if asked.without == "locks" and asked.backend == "postgresql":
-        parser.error("--without locks works with --backend folders only")
+    if asked.without in ("locks", "work", "broker", "both") and asked.backend == "postgresql":
+        parser.error(f"--without {asked.without} works with --backend folders only: those locks are the server's")
+    asked.unruly = asked.unruly or asked.without in RULES
+    if asked.unruly and asked.bindings == 0:
+        parser.error("--unruly and the rules about bindings need bindings")
+    if asked.without in ("platform", "both"):
+        asked.bindings = 0  # such a platform keeps no records that a binding could be created by
     asked.kills = asked.kills or ("brokers" if asked.without == "attempts" else "both")
     return asked

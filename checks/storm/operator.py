@@ -6,15 +6,16 @@ import subprocess
 import threading
 import time
 from random import Random
-from typing import Sequence
+from typing import Callable, Sequence
 
 from osb import Id
 from osb_platform.instances import Instances
 
 SERVICE = Id.of("00000000-0000-0000-0000-0000000000a0")
-PLANS = (Id.of("00000000-0000-0000-0000-0000000000b1"), Id.of("00000000-0000-0000-0000-0000000000b2"))
+PLANS = tuple(Id.of(f"00000000-0000-0000-0000-0000000000b{digit}") for digit in range(1, 5))
+KEY = b"the key of a storm's passwords, of which nobody has any use"
+PASSWORD = "secret"
 ORDER_POINTS = ("order-next", "order-written")
-KEY = b"a key"
 
 
 class Operator:
@@ -22,8 +23,13 @@ class Operator:
     sees removed.
     """
 
-    def __init__(self, instances: Instances, seed: int, count: int, seconds: float) -> None:
-        """`seed`: repeats which ids are ordered with which plans."""
+    def __init__(
+        self, instances: Instances, seed: int, count: int, seconds: float, remove: Callable[[str], None]
+    ) -> None:
+        """`seed`: repeats which ids are ordered with which plans. `remove`: has an instance removed, as soon as it has
+        no bindings.
+        """
+        self._have_removed = remove
         self._instances, self._chance, self._orders = instances, Random(f"{seed} removals"), Random(f"{seed} orders")
         self._crashed = Random(f"{seed} orders that are killed")
         self._count, self._seconds = count, seconds
@@ -80,7 +86,7 @@ class Operator:
                 self._remove(id)
 
     def _remove(self, id: str) -> None:
-        self._instances.ask_removal(Id.of(id))
+        self._have_removed(id)
         self.removed.add(id)
 
 
@@ -97,8 +103,8 @@ def python_environment(top: str, seed: int) -> dict[str, str]:
         "PYTHONSAFEPATH": "1",
         "PYTHONDONTWRITEBYTECODE": "1",
         "STORM_SEED": str(seed),
-        "OSB_BROKER_PASSWORD": "secret",
-        "OSB_PLATFORM_PASSWORD": "secret",
+        "OSB_BROKER_PASSWORD": PASSWORD,
+        "OSB_PLATFORM_PASSWORD": PASSWORD,
         "OSB_BACKEND_KEY": KEY.decode(),
         "PGAPPNAME": "storm",
     }

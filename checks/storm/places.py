@@ -1,42 +1,34 @@
-"""Where a storm's records, holdings and things are: files of a folder, or PostgreSQL."""
+"""Where a storm's records, rows and resources are: files of a folder, or PostgreSQL."""
 from __future__ import annotations
 
 import contextlib
-import json
 import os
-import re
-import sqlite3
-import uuid
 from pathlib import Path
-from typing import Any, Callable, Iterator, NamedTuple
+from typing import Callable, Iterator, NamedTuple
 
-from osb import Holding
-from osb_broker.databases import name_of, password_of
-from osb_broker.pg_store import PgStore
-from osb_broker.sqlite_store import SqliteStore
-from osb_platform.instances import Instance, Instances
+from osb_platform.instances import Instances
 from osb_platform.pg_database import PgDatabase
 from osb_platform.sqlite_database import SqliteDatabase
-from osb_program import pg
-from storm.audit import Things
+from storm.bindings import Bindings
+from storm.held import Held, in_postgresql, in_sqlite
 from storm.operator import KEY
-
-_SLOW_FOLDERS = Path(__file__).with_name("slow_folders.py")
+from storm.resources import Databases, Folders, Resources, execute
 
 
 class Places(NamedTuple):
-    """Where everything is, as the check sees it and as the programs are told."""
+    """Where everything is, as the check sees it and as the programs are started."""
 
     instances: Instances
-    holdings: Callable[[], dict[str, Holding]]
+    """The platform's records."""
+    bindings: Bindings
+    """The records of the storm's own client of bindings."""
+    held: Callable[[], Held]
     """All rows of the broker's store."""
-    things: Callable[[], Things]
-    is_usable: Callable[[Instance], bool]
-    """Whether what is there of an instance can be used, and is what was ordered."""
+    resources: Resources
     together: Callable[[], list[str]]
-    """The instances at which two have worked at once, as far as that is seen."""
+    """The keys at which two have worked at once, as far as that is seen."""
     disturb: Callable[[], None]
-    """Ends one of the sessions that the programs have with PostgreSQL, where there are any."""
+    """Ends one of the sessions that the programs have with PostgreSQL, if there are any."""
     broker_words: list[str]
     platform_words: list[str]
 
@@ -46,114 +38,51 @@ def places(folder: Path, store: str, backend: str) -> Iterator[Places]:
     """New ones, with nothing in them; `store` is `sqlite` or `postgresql`, `backend` `folders` or `postgresql`."""
     with contextlib.ExitStack() as stack:
         url = stack.enter_context(_database()) if "postgresql" in (store, backend) else ""
-        broker = ["--state", str(folder / "broker")]
-        if store == "postgresql":
-            instances, _ = Instances(PgDatabase(url, 2)), PgStore(url, 2)  # which makes the table
-            broker, platform = [*broker, "--store", url], ["--store", url]
-        else:
-            (folder / "broker").mkdir()
-            instances = Instances(SqliteDatabase(folder / "instances.sqlite"))
-            SqliteStore(folder / "broker" / "holdings.sqlite")  # which makes the table
-            platform = ["--store", str(folder / "instances.sqlite")]
-        others = _databases(url).some if backend == "postgresql" else set()
+        state = folder / "broker"
+        state.mkdir()
+        instances, words, platform = _records(folder, url if store == "postgresql" else "")
+        bindings = stack.enter_context(contextlib.closing(Bindings(folder / "bindings.sqlite")))
+        resources: Resources = Folders(state / "instances")
+        if backend == "postgresql":
+            resources, words = Databases(url, KEY), [*words, "--backend", _named(url)]
 
-        def holdings() -> dict[str, Holding]:
-            return _in_postgresql(url) if store == "postgresql" else _in_sqlite(folder / "broker" / "holdings.sqlite")
-
-        def things() -> Things:
-            if backend != "postgresql":
-                return _folders(folder / "broker" / "instances")
-            found = _databases(url)
-            return Things(found.whole - others, found.some - others)
-
-        def is_usable(row: Instance) -> bool:
-            return _takes_its_password(url, row) if backend == "postgresql" else _is_its(folder, row)
+        def held() -> Held:
+            return in_postgresql(url) if store == "postgresql" else in_sqlite(state / "holdings.sqlite")
 
         def together() -> list[str]:
-            file = folder / "broker" / "together"
+            file = state / "together"
             return file.read_text(encoding="ascii").split() if file.exists() else []
 
         def disturb() -> None:
             if url:
-                _execute(
-                    url,
-                    "SELECT pg_terminate_backend(pid) FROM pg_stat_activity WHERE application_name = 'storm' "
-                    "AND datname = current_database() ORDER BY random() LIMIT 1",
-                )
+                execute(url, _DISTURB)
 
-        named = url if backend == "postgresql" else str(_SLOW_FOLDERS)
+        words = ["--state", str(state), *words]
         try:
-            yield Places(
-                instances, holdings, things, is_usable, together, disturb, [*broker, "--backend", named], platform
-            )
+            yield Places(instances, bindings, held, resources, together, disturb, words, platform)
         finally:
-            if backend == "postgresql":
-                _drop(url, things().some & {id for id, _ in instances.states()})
+            resources.clear({id for id, _ in instances.states()})
 
 
-def _in_sqlite(path: Path) -> dict[str, Holding]:
-    with contextlib.closing(sqlite3.connect(path, timeout=30)) as database:
-        return {id: Holding.from_text(text) for id, text in database.execute("SELECT id, holding FROM holdings")}
+def _named(url: str) -> str:
+    """The URL for the broker, whose sessions then have the name by which `_DISTURB` finds them. Those of the platform
+    have it by PGAPPNAME.
+    """
+    return f"{url}{'&' if '?' in url else '?'}application_name=storm"
 
 
-def _in_postgresql(url: str) -> dict[str, Holding]:
-    return {id: Holding.from_text(text) for id, text in _execute(url, "SELECT id::text, holding FROM osb_holdings")}
+_DISTURB = (
+    "SELECT pg_terminate_backend(pid) FROM pg_stat_activity WHERE application_name = 'storm' "
+    "AND datname = current_database() ORDER BY state = 'idle', random() LIMIT 1"  # a busy one, if there is one
+)
 
 
-def _folders(top: Path) -> Things:
-    names = [it.name for it in top.iterdir()] if top.exists() else []
-    whole = {name for name in names if not name.startswith(".")}
-    return Things(whole, whole | {name[6:] for name in names if name.startswith(".part-")})
-
-
-def _is_its(folder: Path, row: Instance) -> bool:
-    """Whether the folder has what was ordered in it."""
-    wanted = {"instance": str(row.id), "plan": str(row.plan), "service": str(row.service)}
-    with contextlib.suppress(OSError, ValueError):
-        found: Any = json.loads((folder / "broker" / "instances" / str(row.id) / "instance.json").read_bytes())
-        return bool(found == wanted)
-    return False
-
-
-def _takes_its_password(url: str, row: Instance) -> bool:
-    """Whether the database lets its role in, and takes a table of it."""
-    import psycopg2  # where PostgreSQL is used it is there
-
-    name = name_of(row.id)
-    try:
-        asked: Any = psycopg2.connect(url, dbname=name, user=name, password=password_of(KEY, row.id))
-        with contextlib.closing(asked) as session, session.cursor() as cursor:
-            cursor.execute("CREATE TABLE x (y integer)")
-        return True
-    except psycopg2.Error:
-        return False
-
-
-def _databases(url: str) -> Things:
-    """A database that can be connected to, with its role, is whole."""
-    open_ones, closed, roles = (
-        _names(url, where)
-        for where in (
-            "SELECT datname FROM pg_database WHERE datallowconn AND datconnlimit <> -2",
-            "SELECT datname FROM pg_database",
-            "SELECT rolname FROM pg_roles",
-        )
-    )
-    return Things(open_ones & roles, closed | roles)
-
-
-def _names(url: str, select: str) -> set[str]:
-    """The ids of the instances that are named so, with `osb_` before."""
-    found = (str(name) for (name,) in _execute(url, select))
-    return {str(uuid.UUID(name[4:])) for name in found if re.fullmatch("osb_[0-9a-f]{32}", name)}
-
-
-def _drop(url: str, ids: set[str]) -> None:
-    """Drops the databases and roles of these instances, which are this storm's own."""
-    for id in ids:
-        name = f"osb_{uuid.UUID(id).hex}"
-        _execute(url, f"DROP DATABASE IF EXISTS {name} WITH (FORCE)")
-        _execute(url, f"DROP ROLE IF EXISTS {name}")
+def _records(folder: Path, url: str) -> tuple[Instances, list[str], list[str]]:
+    """The platform's records, and the arguments by which the broker and the platform find where they keep theirs."""
+    if url:
+        return Instances(PgDatabase(url, 2)), ["--store", _named(url)], ["--store", url]
+    file = folder / "instances.sqlite"
+    return Instances(SqliteDatabase(file)), [], ["--store", str(file)]
 
 
 @contextlib.contextmanager
@@ -163,15 +92,9 @@ def _database() -> Iterator[str]:
     if not server:
         raise SystemExit("storm: OSB_TEST_POSTGRESQL names no database of a server that may be used")
     name = f"storm_{os.getpid()}"
-    _execute(server, f"CREATE DATABASE {name}")
+    execute(server, f"CREATE DATABASE {name}")
     try:
         head, _, query = server.partition("?")
         yield head.rpartition("/")[0] + "/" + name + (f"?{query}" if query else "")
     finally:
-        _execute(server, f"DROP DATABASE {name} WITH (FORCE)")
-
-
-def _execute(url: str, statement: str) -> list[tuple[Any, ...]]:
-    with contextlib.closing(pg.Sessions(url, 1).opened()) as session, session.cursor() as cursor:
-        cursor.execute(statement)
-        return [] if cursor.description is None else list(cursor.fetchall())
+        execute(server, f"DROP DATABASE {name} WITH (FORCE)")

@@ -11,9 +11,11 @@ from pathlib import Path
 from random import Random
 from typing import NamedTuple, Sequence
 
-# A line of the platform's log; the broker's are JSON. A traceback right after it is told by it.
+# A line of the platform's log, which reports the traceback right after it.
 _LOGGED = re.compile(r"\d{4}-\d\d-\d\d [\d:,]+ [A-Z]+ ")
 _TRACEBACK = "Traceback (most recent call last):"
+# What the broker says of a panic, also of one that it has made an error of, in a line of JSON.
+_PANIC = re.compile(r'panic: |fatal error: |WARNING: DATA RACE|\{.*"error":".*\bpanic: ')
 
 
 class Program(NamedTuple):
@@ -134,12 +136,14 @@ class Killed:
 
 
 def cries(log: str) -> list[str]:
-    """What the errors were that nothing has caught: their tracebacks follow no line of the log. Those of the errors
-    that they came of are parted from them by an empty line.
+    """What the errors were that nothing has caught. In Python their tracebacks follow no line of the log, and those of
+    the errors that they came of are separated from them by an empty line. In Go they are panics.
     """
     found, before, lines = [], "-", log.split("\n")
     for at, line in enumerate(lines):
         if line == _TRACEBACK and before and not _LOGGED.match(before):
             found.append(next((it for it in lines[at + 1 :] if it and not it.startswith(" ")), "a traceback"))
+        if _PANIC.match(line):
+            found.append(line[:1000])
         before = line
     return found

@@ -1,21 +1,13 @@
 """Broker and platform agree at the end of a storm, and every record is true while it shows."""
 from __future__ import annotations
 
-import importlib.util
 import shutil
 
 import pytest
 from storm.arguments import read
-from storm.storm import run
+from storm.report import run
 
-pytestmark = [
-    pytest.mark.alone,
-    pytest.mark.slow,
-    pytest.mark.skipif(
-        importlib.util.find_spec("waitress") is None,
-        reason="waitress isn't installed (Debian: apt-get install python3-waitress)",
-    ),
-]
+pytestmark = [pytest.mark.alone, pytest.mark.slow, pytest.mark.usefixtures("packages")]
 
 
 def assert_calm_after(*arguments: str) -> None:
@@ -27,19 +19,18 @@ def assert_calm_after(*arguments: str) -> None:
     assert report.faults == []
 
 
-@pytest.mark.usefixtures("library")
 def test_over_files() -> None:
     """A minute over SQLite and folders, or up to two, until each crash point was hit and each fault met a request."""
     assert_calm_after()
 
 
 @pytest.mark.postgres
-@pytest.mark.usefixtures("library", "postgresql")
+@pytest.mark.usefixtures("postgresql")
 def test_over_postgresql() -> None:
     """Half a minute, or up to two, of two brokers behind HAProxy. PostgreSQL is the store and the backend, and sessions
     end at random.
     """
     if shutil.which("haproxy", path="/usr/sbin:/usr/local/sbin:/usr/bin") is None:
         pytest.skip("haproxy isn't installed (Debian: apt-get install haproxy)")
-    places = ("--store", "postgresql", "--backend", "postgresql")
-    assert_calm_after("--seconds", "30", "--instances", "100", "--brokers", "2", "--haproxy", "--no-points", *places)
+    places = ("--store", "postgresql", "--backend", "postgresql", "--brokers", "2", "--haproxy")
+    assert_calm_after("--seconds", "30", "--instances", "100", "--bindings", "50", "--no-points", *places)
