@@ -63,7 +63,9 @@ def read(given: list[str]) -> argparse.Namespace:
     parser.add_argument(
         "--backend", choices=("folders", "postgresql"), default="folders", help="what is sold (folders)"
     )
-    parser.add_argument("--settle", type=float, default=120.0, help="how many seconds it may take to settle (120)")
+    parser.add_argument(
+        "--settle", type=float, help="how many seconds it may take to converge (120; without a part of the design 40)"
+    )
     parser.add_argument("--without", choices=_WITHOUT, help=_WITHOUT_HELP)
     parser.add_argument(
         "--kills",
@@ -81,5 +83,6 @@ def read(given: list[str]) -> argparse.Namespace:
         parser.error("--unruly and the rules about bindings need bindings")
     if asked.without in ("platform", "both"):
         asked.bindings = 0  # such a platform keeps no records that a binding could be created by
+    asked.settle = asked.settle or (120.0 if asked.without is None else 40.0)
     asked.kills = asked.kills or ("brokers" if asked.without == "attempts" else "both")
     return asked

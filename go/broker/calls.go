@@ -54,13 +54,14 @@ func (c *calls) withCredentials(ctx context.Context) (There, error) {
 	if !ok {
 		return Part, nil
 	}
-	err := safely(func() error {
-		credentials, err := backend.Credentials(ctx, c.request)
-		if err != nil {
-			return err
-		}
-		return c.keep(credentials)
+	var credentials json.RawMessage
+	err := safely(func() (err error) {
+		credentials, err = backend.Credentials(ctx, c.request)
+		return err
 	})
+	if err == nil && c.keep(credentials) != nil {
+		return Part, nil // what can't be sent is of no use to anybody
+	}
 	return Whole, err
 }
 

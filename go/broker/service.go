@@ -89,7 +89,7 @@ func (s *Service) Handle(ctx context.Context, asked Asked) (Answered, error) {
 		if lock != nil {
 			return s.do(ctx, lock, asked.Key, begun.entry, !s.locks.CanBeLost())
 		}
-		if lock, err = s.locks.Lock(ctx, asked.Key); err != nil {
+		if lock, err = s.lock(ctx, asked.Key); err != nil {
 			return Answered{}, err
 		}
 		answered, err := s.do(ctx, lock, asked.Key, begun.entry, false)
@@ -98,6 +98,21 @@ func (s *Service) Handle(ctx context.Context, asked Asked) (Answered, error) {
 		}
 		// Whoever had the lock before has done this work: it is as if the request arrived again.
 	}
+}
+
+// longestWait is how long a request waits for the lock of its key. Whoever has the lock may have left it to a process that
+// never ends.
+const longestWait = 10 * time.Second
+
+// lock waits for the lock of a key. If somebody else has it for too long, the work stays pending.
+func (s *Service) lock(ctx context.Context, key Key) (Lock, error) {
+	within, cancel := context.WithTimeout(ctx, longestWait)
+	defer cancel()
+	lock, err := s.locks.Lock(within, key)
+	if err != nil && ctx.Err() == nil && within.Err() != nil {
+		err = fmt.Errorf("%w: somebody else has the lock of %v", ErrNobodyKnows, key)
+	}
+	return lock, err
 }
 
 // errDoneBefore reports that somebody else has done the work, before this worker began.

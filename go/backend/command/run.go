@@ -9,6 +9,7 @@ import (
 	"sync"
 	"syscall"
 	"time"
+	"unsafe"
 
 	"pippinterm/broker/filelock"
 )
@@ -50,6 +51,7 @@ type process struct {
 	stdout, stderr io.ReadCloser
 	output         []byte // at most a byte more than it may have
 	stderrEnd      tail
+	failed         bool // whether it was killed, or exited with another status than 0
 }
 
 // start starts the program.
@@ -83,6 +85,9 @@ func (p *process) wait(ctx context.Context, input []byte, limit, grace time.Dura
 	defer timer.Stop()
 	select {
 	case <-ended:
+		if p.failed { // what it has left in the background must not go on after the call has failed
+			_ = syscall.Kill(-p.cmd.Process.Pid, syscall.SIGKILL)
+		}
 		return nil
 	case <-timer.C:
 		return p.kill(fmt.Errorf("it ran longer than %v", limit), ended, grace)
@@ -123,7 +128,7 @@ func (p *process) tend(input []byte) <-chan struct{} {
 		func() { p.write(input) },
 		p.read,
 		func() { _, _ = io.Copy(&p.stderrEnd, p.stderr) },
-		func() { waitForExit(p.cmd.Process.Pid) },
+		func() { p.failed = waitForExit(p.cmd.Process.Pid) },
 	}
 	var all sync.WaitGroup
 	all.Add(len(parts))
@@ -153,13 +158,21 @@ func (p *process) read() {
 	_ = p.stdout.Close()
 }
 
-// waitForExit returns once a child has exited, and leaves it to be reaped.
-func waitForExit(pid int) {
-	const thisProcess = 1 // P_PID of Linux (wait.h), which package syscall doesn't have
+// waitForExit returns once a child has exited, and leaves it to be reaped. It returns whether the child failed: it was
+// killed, or exited with another status than 0.
+func waitForExit(pid int) (failed bool) {
+	const thisProcess, exited = 1, 1 // P_PID and CLD_EXITED of Linux, which package syscall doesn't have
+	var info struct {                // the beginning of siginfo_t, which has 128 bytes
+		signal, errno, code, _ int32
+		pid, uid, status       int32
+		_                      [100]byte
+	}
 	err := syscall.EINTR
 	for err == syscall.EINTR {
-		_, _, err = syscall.Syscall6(syscall.SYS_WAITID, thisProcess, uintptr(pid), 0, syscall.WEXITED|syscall.WNOWAIT, 0, 0)
+		_, _, err = syscall.Syscall6(syscall.SYS_WAITID, thisProcess, uintptr(pid), uintptr(unsafe.Pointer(&info)),
+			syscall.WEXITED|syscall.WNOWAIT, 0, 0)
 	}
+	return err != 0 || info.code != exited || info.status != 0
 }
 
 // A tail is the end of what is written to it.

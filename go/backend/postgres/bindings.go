@@ -10,8 +10,8 @@ import (
 	"pippinterm/broker/crash"
 )
 
-// binding returns what is found of a binding, and of its instance, if both are this store's. The row of the instance isn't
-// at hand, so it isn't known whether it is of version 0.2.
+// binding returns what is found of a binding, and of its instance. It fails unless both are this store's. The request
+// of a binding doesn't show whether version 0.2 created the instance.
 func binding(ctx context.Context, conn *sql.Conn, request broker.Request) (own, of found, err error) {
 	if of, err = find(ctx, conn, broker.InstanceKey(request.Key.Instance)); err != nil {
 		return own, of, err
@@ -43,9 +43,9 @@ func (d *Databases) LookBinding(ctx context.Context, request broker.Request) (br
 	return broker.Whole, nil
 }
 
-// CreateBinding creates the role of a binding in one transaction, and returns the credentials. The role is a member of the
-// instance's role, and its sessions act as that one from their begin: so what one binding creates, the others can use, and
-// it stays once the binding has ended.
+// CreateBinding creates the role of a binding in one transaction, and returns the credentials. The role is a member of
+// the instance's role, and its sessions act as the instance's role. So the other bindings can use what one binding
+// creates, and it stays after the binding was deleted.
 //
 // Errors: ErrForeign, ErrWrongKey, that there is no such database; those of the server.
 func (d *Databases) CreateBinding(ctx context.Context, request broker.Request) (json.RawMessage, error) {
@@ -69,11 +69,12 @@ func (d *Databases) CreateBinding(ctx context.Context, request broker.Request) (
 	return d.credentials(request.Key)
 }
 
-// DeleteBinding ends the sessions of a binding, and drops its role. Other bindings are left alone, but for sessions with
-// an open transaction that has granted something to the role. What the role owns becomes the instance's role's.
+// DeleteBinding ends the sessions of a binding, and drops its role. The sessions of other bindings go on, except those
+// whose open transaction has granted something to the role. The instance's role gets what the role owns.
 //
-// Nobody can log in with the binding once DeleteBinding has begun. It may fail after that and have to be tried again: if
-// the role owns something in the database, and others hold a lock on that, or have taken all connections.
+// From the first step on nobody can log in with the binding. DeleteBinding can still fail then, and has to be called
+// again, if the role owns something in the database, and other sessions hold a lock on it or have taken all
+// connections.
 //
 // Errors: ErrForeign; those of the server.
 func (d *Databases) DeleteBinding(ctx context.Context, request broker.Request) error {

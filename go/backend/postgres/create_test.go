@@ -1,7 +1,6 @@
 package postgres_test
 
 import (
-	"context"
 	"database/sql"
 	"testing"
 
@@ -115,9 +114,7 @@ func TestLimits(t *testing.T) {
 	if err := r.customer(key).Ping(); err == nil {
 		t.Error("a fourth connection was opened")
 	}
-	if _, err := hold(t, r.login(r.role, "of the broker", r.role)).ExecContext(context.Background(), "SELECT 1"); err != nil {
-		t.Errorf("the broker: %v", err)
-	}
+	hold(t, r.login(r.role, "of the broker", r.role), "SELECT 1")
 	limit := r.column("SELECT datconnlimit::text FROM pg_database WHERE datname = $1", postgres.NameOf(key))
 	if len(limit) != 1 || limit[0] != "3" {
 		t.Errorf("the limit of the database is %v", limit)
@@ -137,7 +134,8 @@ func TestNoRoleLiftsItsLimit(t *testing.T) {
 	}
 }
 
-// The limits of what a session may do are settings of its role. That of temporary files is set if the broker may set it.
+// The limits of what a session may do are settings of its role. That of temporary files is set if the broker may set
+// it.
 func TestSettingsOfRoles(t *testing.T) {
 	r := newRig(t)
 	it := created(t, r.open()).request.Key

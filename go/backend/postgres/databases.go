@@ -1,5 +1,5 @@
-// Package postgres sells databases of a PostgreSQL server, each with a role and a password of its own. Each binding has a
-// role of its own too, which acts as the role of its database.
+// Package postgres sells databases of a PostgreSQL server, each with a role and a password of its own. Each binding has
+// a role of its own too, which acts as the role of its database.
 //
 // The server is for nothing else: a customer's load and disk usage reach everybody on it, and the broker's role may do
 // much there (Warnings).
@@ -28,12 +28,12 @@ const (
 
 // Databases is a broker.BindingBackend, and a LockBackend, TiedBackend, SyncBackend and CredentialsBackend.
 //
-// A statement that the server runs goes on if its client is killed. So the lock of a key is held by the very session that
-// runs the key's statements: the server releases it once the last of them has ended. Every call for a key needs the
-// context of its lock (broker.Lock).
+// A statement that the server runs goes on if its client is killed. So the lock of a key is held by the very session
+// that runs the key's statements: the server releases it once the last of them has ended. Every call for a key needs
+// the context of its lock (broker.Lock).
 //
-// Whose a database is, is told by a label: the comment on the role that owns it, which no customer can change. The role is
-// created with its label in one transaction, before the database, and is dropped after it.
+// The role of each database has a label: a comment that names the store. No customer can change it. The role is created
+// with its label in one transaction, before the database is created, and is dropped after the database.
 type Databases struct {
 	db      *sql.DB
 	url     string
@@ -42,12 +42,12 @@ type Databases struct {
 }
 
 // Open returns the backend that sells databases of the server of a URL. The database that the URL names is the brokers'
-// own: it has the locks, the name of the store and a fingerprint of the key, so all brokers of the store name the same.
-// The role of the URL needs CREATEDB and CREATEROLE. It becomes a member of each role that it creates. It connects to the
-// databases that were sold too, to take away what a role owns there: pg_hba.conf has to allow that.
+// own. It has the locks, the name of the store and a fingerprint of the key. All brokers of a store use the same one.
+// The role of the URL needs CREATEDB and CREATEROLE. It becomes a member of each role that it creates. It connects to
+// the databases that were sold too, to take away what a role owns there: pg_hba.conf has to allow that.
 //
-// Errors: ErrWrongKey, session.ErrBadAddress, session.ErrNotDurable, that an option can't be used or the server is older
-// than PostgreSQL 14, and those of the connection and the server.
+// Errors: ErrWrongKey, session.ErrBadAddress, session.ErrNotDurable, that an option can't be used or the server is
+// older than PostgreSQL 14, and those of the connection and the server.
 func Open(ctx context.Context, url string, options Options) (*Databases, error) {
 	options, err := options.withDefaults(url)
 	if err != nil {
@@ -85,8 +85,8 @@ func (d *Databases) prepare(ctx context.Context) (err error) {
 // Close closes the sessions. Work that the server has begun goes on, and keeps its lock until it has ended.
 func (d *Databases) Close() error { return d.db.Close() }
 
-// Sync returns once what Look and LookBinding say would outlive a power cut, or the loss of the server if it waits for a
-// standby: that of the commit of a record of the log, behind which are all earlier ones.
+// Sync returns once what Look and LookBinding say would outlive a power cut, and the loss of the server if the server
+// waits for a standby. It commits a record of the log: all earlier records are on disk then too.
 func (d *Databases) Sync(ctx context.Context, request broker.Request) error {
 	conn, err := sessionOf(ctx, request.Key)
 	if err != nil {

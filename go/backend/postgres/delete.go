@@ -14,12 +14,12 @@ import (
 )
 
 const (
-	tries   = 5               // so often what a customer holds up is tried again
-	endWait = 5 * time.Second // so long the end of a session is waited for
+	tries   = 5               // how often a step is tried if a customer is in the way
+	endWait = 5 * time.Second // how long to wait for the end of a session
 )
 
-// Delete deletes the database and the roles of an instance, whatever its customer does: sessions that are in the way are
-// ended. What the roles own in other databases of the server goes too.
+// Delete deletes the database and the roles of an instance. It ends the sessions that are in the way, and deletes what
+// the roles own in other databases of the server too.
 //
 // If max_prepared_transactions isn't 0 (Warnings), a prepared transaction of the customer makes the deletion fail until
 // an operator has ended it. The customer can't log in any more then.
@@ -37,7 +37,7 @@ func (d *Databases) Delete(ctx context.Context, request broker.Request) error {
 	return d.remove(ctx, conn, f)
 }
 
-// remove deletes what was found of an instance. Its role goes last: its label says whose the rest is.
+// remove deletes what was found of an instance. The role goes last: its label shows that the rest is this store's.
 func (d *Databases) remove(ctx context.Context, conn *sql.Conn, f found) error {
 	if !f.hasRole {
 		return nil // then there is no database either (check)
@@ -78,8 +78,8 @@ func bindingRoles(ctx context.Context, conn *sql.Conn, name string) (roles []str
 	return roles, rows.Err()
 }
 
-// persist calls until nobody is in the way: a customer may hold a lock, or change its own role or database at the same
-// time.
+// persist calls again while somebody is in the way: a customer may hold a lock, or change its own role or database at
+// the same time.
 func persist(call func() error) error {
 	var err error
 	for n := 0; n < tries; n++ {
@@ -97,11 +97,12 @@ func isInTheWay(err error) bool {
 
 // dropDatabase closes the database and its roles, ends the sessions that are in the way, and drops the database.
 //
-// DROP DATABASE takes the lock of the database before it ends or waits for sessions. So a customer's transaction that has
-// the lock, such as one with COMMENT ON DATABASE, would hold it up. ALTER ROLE and ALTER DATABASE can be held up by a
-// customer's transaction too: they come right after their sessions were told to end, and so before new ones. DROP DATABASE
-// is without FORCE: FORCE fails if the role isn't a superuser and autovacuum works in the database. Without it autovacuum
-// is ended, and the last sessions are waited for.
+// DROP DATABASE takes the lock of the database before it looks at the sessions. So a customer's transaction that has
+// the lock, for example by COMMENT ON DATABASE, would block it. A customer's transaction can block ALTER ROLE and ALTER
+// DATABASE too. So they run right after the first call of endSessions, before the customer can connect again.
+//
+// FORCE isn't used: with it DROP DATABASE fails if autovacuum works in the database and the broker's role isn't a
+// superuser. Without it the server ends autovacuum, and waits for sessions that are ending.
 func (d *Databases) dropDatabase(ctx context.Context, conn *sql.Conn, f found, roles []string) error {
 	if err := endSessions(ctx, conn, f.name, roles, 0); err != nil {
 		return err
@@ -144,8 +145,8 @@ func closing(f found, roles []string) (statements string) {
 	return statements + "ALTER DATABASE " + quote(f.name) + " ALLOW_CONNECTIONS false"
 }
 
-// The sessions in a database, those of some roles, and those that hold a lock on the database or on a role. The broker can
-// end those of roles that it is a member of, as of all roles that it has created.
+// The sessions in a database, those of some roles, and those that hold a lock on the database or on a role. The broker
+// can end the sessions of the roles that it has created, since it is a member of them.
 const selectEnd = `
 SELECT pg_terminate_backend(pid, $3) FROM pg_stat_activity
 WHERE pid <> pg_backend_pid() AND backend_type = 'client backend' AND pg_has_role(usesysid, 'USAGE')
@@ -155,8 +156,8 @@ WHERE pid <> pg_backend_pid() AND backend_type = 'client backend' AND pg_has_rol
             OR classid = 'pg_authid'::regclass AND objid IN (SELECT oid FROM pg_roles WHERE rolname = ANY ($2)))))
 `
 
-// endSessions tells the sessions to end that are in the way of dropping a database (or none, if its name is empty) and
-// roles, and waits for each at most this long.
+// endSessions ends the sessions that are in the way of dropping a database and roles. It waits for each at most this
+// long. If the name of the database is empty, it only looks at the roles.
 func endSessions(ctx context.Context, conn *sql.Conn, database string, roles []string, wait time.Duration) error {
 	_, err := conn.ExecContext(ctx, selectEnd, database, pq.Array(roles), wait.Milliseconds())
 	return err

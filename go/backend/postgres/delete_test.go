@@ -74,7 +74,8 @@ func TestAPreparedTransaction(t *testing.T) {
 	hold(t, r.customer(it.request.Key), "BEGIN", "CREATE TABLE t ()", "PREPARE TRANSACTION '"+name+"'")
 	begin := time.Now()
 	err := d.Delete(it.ctx, it.request)
-	if took := time.Since(begin); err == nil || !strings.Contains(err.Error(), "ROLLBACK PREPARED") || took > 8*time.Second {
+	took := time.Since(begin)
+	if err == nil || !strings.Contains(err.Error(), "ROLLBACK PREPARED") || took > 8*time.Second {
 		t.Errorf("Delete: %v after %v", err, took)
 	}
 	wantThere(t, d, it, broker.Part)
@@ -82,7 +83,9 @@ func TestAPreparedTransaction(t *testing.T) {
 		t.Error("the customer still logs in")
 	}
 	pgtest.Exec(t, r.admin, "ALTER DATABASE "+name+" ALLOW_CONNECTIONS true")
-	pgtest.Exec(t, pgtest.DB(t, pgtest.In(t, pgtest.URL(t), name)), "ROLLBACK PREPARED '"+name+"'")
+	operator := pgtest.DB(t, pgtest.In(t, pgtest.URL(t), name))
+	pgtest.Exec(t, operator, "ROLLBACK PREPARED '"+name+"'")
+	_ = operator.Close() // the broker can't end a superuser's session
 	if err := d.Delete(it.ctx, it.request); err != nil {
 		t.Errorf("Delete once it has ended: %v", err)
 	}

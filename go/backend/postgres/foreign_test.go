@@ -75,12 +75,7 @@ func TestAnotherStore(t *testing.T) {
 
 // What has no label isn't this store's, unless version 0.2 created it for this store.
 func TestWithoutALabel(t *testing.T) {
-	for _, it := range []struct {
-		name                 string
-		isStore02, isOfRow02 bool
-		change               []string
-		isOurs               bool
-	}{
+	for _, it := range []unlabelled{
 		{"a store of 0.2, and an instance of 0.2", true, true, nil, true},
 		{"a store of this version", false, true, nil, false},
 		{"an instance of this version", true, false, nil, false},
@@ -90,34 +85,57 @@ func TestWithoutALabel(t *testing.T) {
 		{"a database without a role", true, true, []string{"ALTER DATABASE $name OWNER TO CURRENT_USER",
 			"ALTER DATABASE $name CONNECTION LIMIT 1", "DROP ROLE $name"}, false},
 	} {
-		t.Run(it.name, func(t *testing.T) {
-			r := newRig(t)
-			if it.isStore02 {
-				r.of02(store)
-			}
-			d := r.open()
-			held := lock(t, d, newInstance(t))
-			if it.isOfRow02 {
-				held.request.Body = nil
-			}
-			r.create02(held.request.Key, "x")
-			t.Cleanup(func() { r.dropByForce(postgres.NameOf(held.request.Key)) })
-			for _, statement := range named(it.change, held.request.Key) {
-				pgtest.Exec(t, r.admin, strings.ReplaceAll(statement, "$role", r.role))
-			}
-			if it.isOurs {
-				wantOurs(t, r, d, held)
-				return
-			}
-			if it.isOfRow02 { // the row of a binding doesn't say which version created its instance
-				wantForeign(t, d, held)
-			} else if _, err := d.Look(held.ctx, held.request); !errors.Is(err, postgres.ErrForeign) {
-				t.Errorf("Look: %v", err)
-			}
-			if !r.exists("pg_database WHERE datname = $1", postgres.NameOf(held.request.Key)) {
-				t.Error("the database is gone")
-			}
-		})
+		t.Run(it.name, it.run)
+	}
+}
+
+// An unlabelled database is of a store and of an instance that version 0.2 created, or not, and was changed by hand.
+type unlabelled struct {
+	name                 string
+	isStore02, isOfRow02 bool
+	change               []string
+	isOurs               bool
+}
+
+func (u unlabelled) run(t *testing.T) {
+	r := newRig(t)
+	if u.isStore02 {
+		r.of02(store)
+	}
+	d := r.open()
+	held := lock(t, d, newInstance(t))
+	if u.isOfRow02 {
+		held.request.Body = nil
+	}
+	r.create02(held.request.Key, "x")
+	t.Cleanup(func() { r.dropByForce(postgres.NameOf(held.request.Key)) })
+	for _, statement := range named(u.change, held.request.Key) {
+		pgtest.Exec(t, r.admin, strings.ReplaceAll(statement, "$role", r.role))
+	}
+	if u.isOurs {
+		wantOurs(t, r, d, held)
+		return
+	}
+	if u.isOfRow02 { // the row of a binding doesn't say which version created its instance
+		wantForeign(t, d, held)
+	} else if _, err := d.Look(held.ctx, held.request); !errors.Is(err, postgres.ErrForeign) {
+		t.Errorf("Look: %v", err)
+	}
+	if !r.exists("pg_database WHERE datname = $1", postgres.NameOf(held.request.Key)) {
+		t.Error("the database is gone")
+	}
+}
+
+// No customer changes its label: with another store's, its database could never be deleted.
+func TestNoCustomerChangesItsLabel(t *testing.T) {
+	r := newRig(t)
+	it := created(t, r.open())
+	if _, err := r.customer(it.request.Key).Exec("COMMENT ON ROLE CURRENT_USER IS 'osb store x'"); err == nil {
+		t.Error("the label was changed")
+	}
+	_, err := r.customer(it.request.Key).Exec("COMMENT ON ROLE " + postgres.NameOf(it.request.Key) + " IS NULL")
+	if err == nil {
+		t.Error("the label was taken away")
 	}
 }
 

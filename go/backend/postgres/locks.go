@@ -16,9 +16,9 @@ type locks struct {
 	most int
 }
 
-// Locks returns the locks of the keys. A lock is an advisory lock of the session that runs the statements of its key. It
-// can be lost while the work goes on, if the server ends the session. No more than Options.Sessions are held at once:
-// whoever asks for one more waits.
+// Locks returns the locks of the keys. A lock is an advisory lock of the session that runs the statements of its key.
+// It can be lost while the work goes on, if the server ends the session. No more than Options.Sessions are held at
+// once: a further call waits for a free session.
 //
 // A pooler that gives a session to several clients in turn, as PgBouncer does by transaction, breaks them.
 func (d *Databases) Locks() broker.Locks { return locks{d.db, d.options.Sessions} }

@@ -9,8 +9,8 @@ import (
 	"pippinterm/broker"
 )
 
-// ErrForeign reports that a database or a role with the name of a key isn't this store's, or that nobody knows whose it
-// is. It is left as it is, and an operator has to look.
+// ErrForeign reports that a database or a role has the name of a key, and isn't known to be this store's. Nothing was
+// changed. An operator has to look.
 var ErrForeign = errors.New("it isn't known to be of this store")
 
 // A found is what the server has under the name of a key.
@@ -30,8 +30,8 @@ type found struct {
 	isTemplate  bool
 }
 
-// The comment of a role is the server's, and its database is the one that the role owns. A database that its customer has
-// renamed, or given to somebody else, can't exist: both need CREATEDB.
+// The database of a role is the one that the role owns. A customer can neither rename it nor give it to another role:
+// both need CREATEDB.
 const selectFound = `
 SELECT r.oid IS NOT NULL, coalesce(r.rolcanlogin, false), coalesce(shobj_description(r.oid, 'pg_authid'), ''),
     EXISTS (SELECT FROM pg_auth_members AS m
@@ -59,11 +59,17 @@ func find(ctx context.Context, conn *sql.Conn, key broker.Key) (f found, err err
 
 // check fails unless what was found is this store's. The label of the role says so.
 //
-// What version 0.2 created has no label. It is this store's if all of this is true: this database's store was begun by
-// version 0.2; the broker's role was made a member of the role, which 0.2 did at once; and, if it was the store's row that
-// led here, that row is of 0.2 too (mayBeUnlabelled), since a later version would have put a label on the role. So a
-// store that has begun with this version never adopts what has no label. Of two stores of 0.2 on one server, each with a
-// row for the same id, nobody can tell whose database it is: both have adopted it already.
+// Version 0.2 created roles without a label. Such a role is this store's if all of this is true:
+//
+//   - Version 0.2 began the store (osb_owner).
+//   - The broker's role is a member of the role. Version 0.2 made it one.
+//   - Version 0.2 wrote the store's row of the instance (mayBeUnlabelled). Otherwise the role would have a label. A call
+//     for a binding doesn't know that row, and passes true: a binding only begins if the store says that the instance is
+//     ready.
+//
+// So a store that began with this version never adopts a role without a label. If two stores of version 0.2 on one
+// server have a row for the same id, and their brokers use the same role, both have adopted its database already, and
+// nobody can tell whose it is.
 func (f found) check(mayBeUnlabelled bool) error {
 	isLabelled := f.hasRole && f.label == labelOf(f.owner.store)
 	isOf02 := f.hasRole && f.label == "" && mayBeUnlabelled && f.owner.hasUnlabelled && f.isMember
@@ -75,13 +81,13 @@ func (f found) check(mayBeUnlabelled bool) error {
 	case f.hasDatabase && !f.isRoles:
 		return fmt.Errorf("the database %s doesn't belong to the role %s: %w", f.name, f.name, ErrForeign)
 	case !isLabelled && !isOf02:
-		return fmt.Errorf("the role %s has the comment %q, and not %q: %w", f.name, f.label, labelOf(f.owner.store),
-			ErrForeign)
+		return fmt.Errorf("the role %s has the comment %q: %w. If it is this store's, run: COMMENT ON ROLE %s IS '%s'",
+			f.name, f.label, ErrForeign, f.name, labelOf(f.owner.store))
 	}
 	return nil
 }
 
-// there is what exists of an instance. A deletion begins with the login, a creation ends with it.
+// there is what exists of an instance. A deletion first takes the login away, and a creation gives it last.
 func (f found) there() broker.There {
 	switch {
 	case f.hasRole && f.canLogin && f.hasDatabase && f.isOpen:

@@ -49,8 +49,8 @@ func keyOf(name string) (key broker.Key, isOne bool) {
 	return key, NameOf(key) == name
 }
 
-// PasswordOf returns the password of the role of a key: 43 characters, derived from the key of the passwords, and stored
-// nowhere. That of an instance is the one of version 0.2.
+// PasswordOf returns the password of the role of a key: 43 characters, derived from the key of the passwords, and
+// stored nowhere. That of an instance is the one of version 0.2.
 func PasswordOf(secret []byte, key broker.Key) string {
 	of := "password of " + key.String()
 	if key.IsBinding {
@@ -59,7 +59,8 @@ func PasswordOf(secret []byte, key broker.Key) string {
 	return base64.RawURLEncoding.EncodeToString(mac(secret, of))
 }
 
-// fingerprintOf tells keys of the passwords apart.
+// fingerprintOf is a text by which one key of the passwords can be told from another. The key can't be computed from
+// it.
 func fingerprintOf(secret []byte, store string) string {
 	return hex.EncodeToString(mac(secret, "fingerprint for store "+store))
 }
@@ -73,8 +74,8 @@ func mac(secret []byte, of string) []byte {
 // labelOf is the comment on each role that a store has created.
 func labelOf(store string) string { return "osb store " + store }
 
-// numberOf is the number of the advisory lock of a key. If two keys had the same, one would wait for the other. That of
-// an instance is the one of version 0.2.
+// numberOf is the number of the advisory lock of a key. If two keys have the same number, one waits for the other. That
+// of an instance is the one of version 0.2.
 func numberOf(key broker.Key) int64 {
 	of := "osb instance " + key.String()
 	if key.IsBinding {

@@ -54,7 +54,8 @@ func TestNames(t *testing.T) {
 	}
 	for _, name := range []string{
 		"", "osb", "osb_", "osb_0f1e", "osb_0F1E2D3C4B5A69788796A5B4C3D2E1F0", "xsb_0f1e2d3c4b5a69788796a5b4c3d2e1f0",
-		"osb_0f1e2d3c4b5a69788796a5b4c3d2e1f000", "osb_0f1e2d3c4b5a69788796a5b4c3d2e1f0_", "osb_0f1e2d3c4b5a69788796a5b4c3d2e1f0_00",
+		"osb_0f1e2d3c4b5a69788796a5b4c3d2e1f000", "osb_0f1e2d3c4b5a69788796a5b4c3d2e1f0_",
+		"osb_0f1e2d3c4b5a69788796a5b4c3d2e1f0_00",
 		NameOf(keys[3]) + "_", NameOf(keys[0]) + "_vvvvvvvvvvvvvvvvvvvvvvvvvv",
 	} {
 		if key, isOne := keyOf(name); isOne {

@@ -13,16 +13,17 @@ import (
 // Options say what is sold, and how. The zero value of each but Key and Sessions stands for its default.
 type Options struct {
 	// Key is what the passwords are derived from, at least 32 bytes that nobody can guess, for example from
-	// `openssl rand -base64 32`. Whoever has the key has all passwords.
+	// `openssl rand -base64 32`. Who has the key can compute all passwords.
 	Key []byte
-	// Sessions is how many keys are locked, and so worked at, side by side, at least 1. Each is a connection to the server,
-	// and has a second one while it drops a role that owns something in another database.
+	// Sessions is how many keys are locked, and so worked at, side by side, at least 1. Each is a connection to the
+	// server, and has a second one while it drops a role that owns something in another database.
 	Sessions int
 	// ConnectionsPerInstance is how many connections each role may have, and each database; 20 by default. A customer can
-	// lift the limit of its database, but no role its own: so an instance with n bindings has at most n + 1 times as many.
+	// lift the limit of its database, but no role can lift its own. So an instance with n bindings has at most n + 1 times
+	// as many connections.
 	ConnectionsPerInstance int
 	// TempFileLimit is how many bytes of temporary files each session of a customer may have, 1 GiB by default, and no
-	// limit if negative. It needs a right that Warnings tells of, and isn't set without it.
+	// limit if negative. It is only set if the broker's role may set it (Warnings).
 	TempFileLimit int64
 	// IdleInTransaction is how long a transaction of a customer may be idle, 10 minutes by default, and no limit if
 	// negative. A customer can change it.

@@ -13,8 +13,8 @@ import (
 // ErrWrongKey reports that the passwords of the databases are derived from another key.
 var ErrWrongKey = errors.New("the key isn't the one that the passwords of the databases are derived from")
 
-// The table in the brokers' database, as version 0.2 had it, and what is new. A row that is there already is of 0.2, which
-// put no labels on what it created.
+// The table in the brokers' database, as version 0.2 had it, and the new columns. A row that exists by then is of
+// version 0.2, which created roles without labels.
 const ownerTable = `
 CREATE TABLE IF NOT EXISTS osb_owner (one boolean PRIMARY KEY DEFAULT true CHECK (one), store uuid NOT NULL);
 ALTER TABLE osb_owner ADD COLUMN IF NOT EXISTS fingerprint text,
@@ -27,7 +27,8 @@ SELECT EXISTS (SELECT FROM pg_attribute
     WHERE attrelid = to_regclass('osb_owner') AND attname = 'has_unlabelled' AND NOT attisdropped)
 `
 
-// ownerLock is the number of an advisory lock for those who create the table at once. Version 0.2 takes the same one.
+// ownerLock is the number of an advisory lock for brokers that create the table at the same time. Version 0.2 takes the
+// same lock.
 const ownerLock = 0x6F73625F6F776E72
 
 func migrate(ctx context.Context, db *sql.DB) error {
@@ -94,7 +95,7 @@ func (d *Databases) Owner(ctx context.Context) (string, error) {
 }
 
 // Own keeps the name of a store, a GUID, for good, unless there is one, and returns the name that is kept. It doesn't
-// look for databases: what another store has created on the server has that store's label, or none, and is left alone.
+// fail if the server has databases of other stores: these have another label or none, and are left alone.
 //
 // Errors: ErrWrongKey; those of the server.
 func (d *Databases) Own(ctx context.Context, store string) (string, error) {
@@ -113,8 +114,8 @@ func (d *Databases) Own(ctx context.Context, store string) (string, error) {
 	return kept.store, kept.check(d.options.Key)
 }
 
-// lockOwner returns the owner, and keeps its key from being changed until the transaction ends. The first key with which a
-// role is created after version 0.2 becomes the key of the store.
+// lockOwner returns the owner, and keeps its key from being changed until the transaction ends. The first key with
+// which a role is created after version 0.2 becomes the key of the store.
 //
 // Errors: ErrWrongKey, also after Rekey by another process; errNoOwner.
 func (d *Databases) lockOwner(ctx context.Context, tx *sql.Tx) (owner, error) {

@@ -20,11 +20,12 @@ import (
 // The store's bindings still have their old credentials then: applications have to be bound anew.
 //
 // A role without a label, as version 0.2 created them, is this store's if it opens with its old password. Others aren't
-// changed, and are returned as left: of other stores of version 0.2, or with a password that the customer has changed. For
-// one that is this store's, run `COMMENT ON ROLE name IS 'osb store NAME'` with the store's name, and call Rekey again.
+// changed, and are returned as left: of other stores of version 0.2, or with a password that the customer has changed.
+// For one that is this store's, run `COMMENT ON ROLE name IS 'osb store NAME'` with the store's name, and call Rekey
+// again.
 //
-// Errors: ErrWrongKey if old isn't the key, that new is too short, that no store has begun here, and those of the server.
-// Nothing was changed then.
+// Errors: ErrWrongKey if old isn't the key; that new is too short, or that no store has begun here; those of the
+// server. Nothing was changed then, unless it is session.ErrUnknownCommit: then call Rekey again.
 func Rekey(ctx context.Context, url string, old, new []byte) (left []string, err error) {
 	if err := checkKey(new); err != nil {
 		return nil, err

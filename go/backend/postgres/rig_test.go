@@ -34,7 +34,7 @@ func newRig(t *testing.T) *rig {
 	r := &rig{t: t, admin: pgtest.DB(t, address), role: "broker_" + randomText(t)}
 	pgtest.Exec(t, r.admin,
 		"CREATE ROLE "+r.role+" LOGIN CREATEDB CREATEROLE PASSWORD 'of the broker'",
-		"CREATE DATABASE "+r.role+" OWNER "+r.role,
+		"CREATE DATABASE "+r.role+" OWNER "+r.role+" TEMPLATE template0",
 		"REVOKE ALL ON DATABASE "+r.role+" FROM PUBLIC")
 	t.Cleanup(r.drop)
 	r.url = pgtest.As(t, pgtest.In(t, address, r.role), r.role, "of the broker")
@@ -45,7 +45,8 @@ func newRig(t *testing.T) *rig {
 func (r *rig) sibling() *rig {
 	r.t.Helper()
 	name := "broker_" + randomText(r.t)
-	pgtest.Exec(r.t, r.admin, "CREATE DATABASE "+name+" OWNER "+r.role, "REVOKE ALL ON DATABASE "+name+" FROM PUBLIC")
+	pgtest.Exec(r.t, r.admin, "CREATE DATABASE "+name+" OWNER "+r.role+" TEMPLATE template0",
+		"REVOKE ALL ON DATABASE "+name+" FROM PUBLIC")
 	r.t.Cleanup(func() { pgtest.Exec(r.t, r.admin, "DROP DATABASE "+name+" WITH (FORCE)") })
 	return &rig{t: r.t, admin: r.admin, role: r.role, url: pgtest.In(r.t, r.url, name)}
 }

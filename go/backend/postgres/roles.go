@@ -8,9 +8,9 @@ import (
 	"pippinterm/broker/postgres/session"
 )
 
-// dropRole drops a role that can't log in any more, with what it owns and what was granted to it, in all databases. What a
-// binding's role owns in the database of its instance (heir) becomes the instance's. The heir is empty for the role of an
-// instance, whose database is gone.
+// dropRole drops a role that can't log in any more, with what it owns and what was granted to it, in all databases.
+// What a binding's role owns in the database of its instance (heir) becomes the instance's. The heir is empty for the
+// role of an instance, whose database is gone.
 func (d *Databases) dropRole(ctx context.Context, conn *sql.Conn, role, heir string) error {
 	if err := endSessions(ctx, conn, "", []string{role}, endWait); err != nil {
 		return err
@@ -30,8 +30,8 @@ func (d *Databases) dropRole(ctx context.Context, conn *sql.Conn, role, heir str
 	})
 }
 
-// A role can own something, or have a right, in any database that it could connect to, and in the databases of other
-// customers who have granted it something. It can't be dropped before.
+// A role can't be dropped while it owns something or has a right in any database. That may be the database of another
+// customer, who can grant something to every role.
 const selectDatabasesWith = `
 SELECT DISTINCT d.datname FROM pg_shdepend AS s JOIN pg_database AS d ON d.oid = s.dbid
 WHERE s.refclassid = 'pg_authid'::regclass AND s.refobjid = (SELECT oid FROM pg_roles WHERE rolname = $1)
@@ -54,8 +54,9 @@ func databasesWith(ctx context.Context, conn *sql.Conn, role string) (names []st
 	return names, rows.Err()
 }
 
-// disown takes away what a role owns, and its rights, in another database. The settings are those that the owner of a
-// database can change for everybody who connects: with them it could have the broker's session run its own functions.
+// disown takes away what a role owns, and its rights, in another database. The owner of a database can change the
+// defaults of all sessions there with ALTER DATABASE .. SET. The session's own settings win over those, so that no
+// function of the customer runs with the rights of the broker.
 func (d *Databases) disown(ctx context.Context, database, role string, inherit bool) error {
 	db, err := session.Open(d.url, session.Options{
 		Most: 1, Lock: lockWait, Statement: statement, Idle: idle, Database: database,

@@ -11,8 +11,8 @@ import (
 
 const scramRounds = 4096 // as PostgreSQL has it
 
-// verifierOf is what stands for a password in a statement, since the server's log may have the statement: a verifier for
-// SCRAM-SHA-256 (RFC 5802 and RFC 7677; its text is PostgreSQL's). The password must be ASCII.
+// verifierOf is what stands for a password in a statement, since the server's log may have the statement: a verifier
+// for SCRAM-SHA-256 (RFC 5802 and RFC 7677; its text is PostgreSQL's). The password must be ASCII.
 func verifierOf(password string) (string, error) {
 	salt := make([]byte, 16)
 	if _, err := rand.Read(salt); err != nil {

@@ -12,17 +12,17 @@ import (
 	"pippinterm/osb"
 )
 
-// Change is one transaction over the row of a key, as broker.Store says. What locks is taken in one order: the worker of
-// the key, the row of the instance (of a binding: FOR SHARE), the row of the binding. So no two changes wait for each
-// other.
+// Change is one transaction over the row of a key, as broker.Store says. The locks are always taken in one order: the
+// worker of the key, the row of the instance (for a binding FOR SHARE), the row of the binding. So no two changes wait
+// for each other.
 //
-// The row of an instance that is missing is inserted, also by the Change of a binding: there is no row to lock otherwise,
-// and an instance could begin beside its binding. Whoever inserts it too waits until this transaction ends. So there is
-// no Change of an instance beside one of its bindings, whether the instance has a row or not. If step writes nothing,
-// the row goes with the transaction; a row that stays has the zero Holding.
+// If the row of an instance is missing, it is inserted, also by the Change of a binding: otherwise there would be no
+// row to lock, and a Change of the instance could run beside. Another transaction that inserts the same row waits until
+// this one ends. So no Change of an instance runs beside one of its bindings, whether the instance has a row or not. If
+// step writes nothing, the inserted row is rolled back. A row that was inserted for a binding has the zero Holding.
 //
-// Errors: broker.ErrLostLock, those of step, the context's and the server's; and session.ErrUnknownCommit if nobody knows
-// whether the change is written. After any other error it isn't. A panic of step is an error.
+// Errors: broker.ErrLostLock, those of step, the context's and the server's; and session.ErrUnknownCommit if nobody
+// knows whether the change is written. After any other error it isn't. A panic of step is an error.
 func (s *Store) Change(ctx context.Context, key broker.Key, fence int64, step broker.Step) error {
 	return s.transaction(ctx, &key, func(tx *sql.Tx) (bool, error) {
 		it := change{ctx: ctx, tx: tx, key: key}

@@ -92,8 +92,8 @@ func orNull(text json.RawMessage) sql.NullString {
 
 func timeOrNull(at time.Time) sql.NullTime { return sql.NullTime{Time: at.UTC(), Valid: !at.IsZero()} }
 
-// storable is a text that a column of PostgreSQL has: others would be rejected with each try, and their work would never
-// end. Bytes that aren't UTF-8, and NUL, become U+FFFD, as encoding/json reads the former too.
+// storable is a text that a column of PostgreSQL has: others would be rejected with each try, and their work would
+// never end. Bytes that aren't UTF-8, and NUL, become U+FFFD, as encoding/json reads the former too.
 func storable(text string) string {
 	return strings.ReplaceAll(strings.ToValidUTF8(text, "\uFFFD"), "\x00", "\uFFFD")
 }

@@ -1,8 +1,8 @@
 // Package postgres keeps what a broker holds in a database of PostgreSQL, for any number of brokers on any number of
 // machines. It reads and extends the tables of version 0.2.
 //
-// A change is a transaction of READ COMMITTED with explicit row locks. A row that is missing is inserted, so that it can
-// be locked, and is rolled back with the transaction unless something is written.
+// A change is a transaction of READ COMMITTED with explicit row locks. A row that is missing is inserted, so that it
+// can be locked, and is rolled back with the transaction unless something is written.
 package postgres
 
 import (
@@ -36,14 +36,14 @@ type Store struct {
 	running  sync.WaitGroup
 }
 
-// Open opens the store in the database of a URL, with at most so many connections, at least 1. It creates the tables, or
-// extends those of version 0.2. Version 0.2 can't serve them any more once a row was written. For tables that need no
-// change, a role that may read, insert and update rows is enough. The observer is told of transactions that another one
-// has undone and that are tried again.
+// Open opens the store in the database of a URL, with at most so many connections, at least 1. It creates the tables,
+// or extends those of version 0.2. Version 0.2 can't serve them any more once a row was written. For tables that need
+// no change, a role that may read, insert and update rows is enough. If the server undoes a transaction because of
+// another one, it is tried again, and the observer gets the Failure transaction_retried.
 //
 // The server has to keep what it has committed: synchronous_commit must not be off for the role of the URL (on, local,
-// remote_write and remote_apply all write to the server's disk first), and fsync has to be on, which isn't checked. With
-// a standby that may take over, set synchronous_standby_names too, and synchronous_commit to on or remote_apply.
+// remote_write and remote_apply all write to the server's disk first), and fsync has to be on, which isn't checked.
+// With a standby that may take over, set synchronous_standby_names too, and synchronous_commit to on or remote_apply.
 //
 // The encoding of the database has to be UTF8 or SQL_ASCII.
 //
@@ -88,7 +88,7 @@ func (s *Store) Close() error {
 	return s.db.Close()
 }
 
-// enter begins a call that Close waits for, unless the store is closed. Whoever calls it calls s.running.Done.
+// enter begins a call that Close waits for, unless the store is closed. The caller calls s.running.Done at the end.
 func (s *Store) enter() error {
 	s.turn.Lock()
 	defer s.turn.Unlock()

@@ -8,7 +8,7 @@ import (
 
 // The tables. Version 0.2 had osb_holdings without the last three columns, osb_workers and osb_store.
 //
-// Who works at a key is forgotten if the server crashes, and so are the sessions whose locks that is about.
+// The tables of workers are UNLOGGED: a crash of the server empties them. It ends the sessions that hold the locks too.
 const tables = `
 CREATE TABLE IF NOT EXISTS osb_holdings (id uuid PRIMARY KEY, holding text NOT NULL, unfinished boolean NOT NULL);
 CREATE INDEX IF NOT EXISTS osb_unfinished_holdings ON osb_holdings (id) WHERE unfinished;
@@ -32,11 +32,12 @@ SELECT to_regclass('osb_store') IS NOT NULL AND to_regclass('osb_binding_workers
     (SELECT FROM pg_attribute WHERE attrelid = to_regclass('osb_holdings') AND attname = 'since' AND NOT attisdropped)
 `
 
-// tablesLock is the number of an advisory lock for those who create the tables at once: IF NOT EXISTS is no lock. Version
-// 0.2 takes the same one.
+// tablesLock is the number of an advisory lock for brokers that create the tables at the same time: IF NOT EXISTS is no
+// lock. Version 0.2 takes the same lock.
 const tablesLock = 0x6F73625F686F6C64
 
-// migrate creates or extends the tables, unless nothing is missing: a role that may not do that can serve then.
+// migrate creates or extends the tables, unless nothing is missing. In that case a role without the right to do so can
+// serve.
 func (s *Store) migrate(ctx context.Context) error {
 	var isDone bool
 	if err := s.db.QueryRowContext(ctx, isCurrent).Scan(&isDone); err != nil || isDone {

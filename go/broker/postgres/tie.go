@@ -6,7 +6,7 @@ import (
 	"errors"
 )
 
-// tieLock is the number of the advisory lock of those who tie the store. Version 0.2 takes the same one.
+// tieLock is the number of the advisory lock of Tie. Version 0.2 takes the same lock.
 const tieLock = 0x6F73625F74696564
 
 // Name returns the name of the store, or "" before the first use.
@@ -33,11 +33,11 @@ func (s *Store) Begin(ctx context.Context, name string) (string, error) {
 	return s.Name(ctx)
 }
 
-// Where a binding has a row, its instance has one too (Change).
+// If a binding has a row, its instance has one too (Change).
 const isUsed = "SELECT is_tied OR EXISTS (SELECT FROM osb_holdings) FROM osb_store"
 
-// Tie calls tie in a transaction that holds a lock of all who tie the store. The function tie must not call the store,
-// and has a minute.
+// Tie calls tie in a transaction that holds a lock, so that one caller at a time is in it. The function tie must not
+// call the store, and has to return within a minute. It may be called more than once.
 func (s *Store) Tie(ctx context.Context, tie func(isUsed bool) error) error {
 	return s.transaction(ctx, nil, func(tx *sql.Tx) (bool, error) {
 		if _, err := tx.ExecContext(ctx, "SELECT pg_advisory_xact_lock($1)", int64(tieLock)); err != nil {

@@ -19,7 +19,11 @@ type counted struct {
 // Stats counts what is kept. Tombstones are counted at most once a minute, since that reads all rows.
 func (s *Store) Stats(ctx context.Context) (stats broker.Stats, err error) {
 	err = s.read(ctx, func(c *connection) error {
-		return c.unfinished(func(_ broker.Key, entry broker.Entry) { add(&stats, entry) })
+		return c.unfinished(func(key broker.Key) {
+			if held, err := c.held(key); err == nil { // a row that can't be read isn't counted
+				add(&stats, held.Entry)
+			}
+		})
 	})
 	if err == nil {
 		stats.Tombstones, err = s.countTombstones(ctx)
@@ -90,19 +94,19 @@ func instanceOfText(text []byte) (holding osb.Holding, err error) {
 }
 
 // unfinished calls with each key that is unfinished.
-func (c *connection) unfinished(call func(broker.Key, broker.Entry)) error {
+func (c *connection) unfinished(call func(broker.Key)) error {
 	err := c.each("SELECT id FROM holdings WHERE unfinished", nil, func(row []any) error {
-		return c.unfinishedOf(call, row[0], nil)
+		return unfinishedOf(call, row[0], nil)
 	})
 	if err != nil {
 		return err
 	}
 	return c.each("SELECT instance, binding FROM bindings WHERE unfinished", nil, func(row []any) error {
-		return c.unfinishedOf(call, row[0], row[1])
+		return unfinishedOf(call, row[0], row[1])
 	})
 }
 
-func (c *connection) unfinishedOf(call func(broker.Key, broker.Entry), instance, binding any) error {
+func unfinishedOf(call func(broker.Key), instance, binding any) error {
 	var key broker.Key
 	if err := key.Instance.Scan(instance); err != nil {
 		return err
@@ -113,9 +117,6 @@ func (c *connection) unfinishedOf(call func(broker.Key, broker.Entry), instance,
 			return err
 		}
 	}
-	held, err := c.held(key)
-	if err == nil {
-		call(key, held.Entry)
-	}
-	return err
+	call(key)
+	return nil
 }

@@ -230,7 +230,7 @@ func (s *Store) HeldBindings(ctx context.Context, instance osb.ID) (ids []osb.ID
 // Unfinished returns the keys that are unfinished.
 func (s *Store) Unfinished(ctx context.Context) (keys []broker.Key, err error) {
 	err = s.read(ctx, func(c *connection) error {
-		return c.unfinished(func(key broker.Key, _ broker.Entry) { keys = append(keys, key) })
+		return c.unfinished(func(key broker.Key) { keys = append(keys, key) })
 	})
 	return keys, err
 }
@@ -241,6 +241,7 @@ func (s *Store) Ready(ctx context.Context) error {
 		return err
 	}
 	return s.together(ctx, func(c *connection) error {
-		return c.exec("UPDATE store SET is_tied = is_tied")
+		return c.exec("INSERT INTO readiness VALUES (1, ?) ON CONFLICT (one) DO UPDATE SET asked = excluded.asked",
+			time.Now().UnixNano())
 	})
 }

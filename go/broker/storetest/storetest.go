@@ -18,8 +18,8 @@ import (
 // soon is how long a test waits for something that must not happen.
 const soon = 150 * time.Millisecond
 
-// Run runs the tests. The function open opens one more store over the database of t. The same t has the same database in
-// each call, and at first it is empty: NameOf(t) can name it. The tests close what they open.
+// Run runs the tests. The function open opens one more store over the database of t. The same t has the same database
+// in each call, and at first it is empty: NameOf(t) can name it. The tests close what they open.
 func Run(t *testing.T, open func(t *testing.T) broker.NamedStore) {
 	for _, it := range []struct {
 		name string

@@ -14,61 +14,69 @@ import (
 
 // Steps that fail, panic or whose context is cancelled write nothing, and the changes beside them are written.
 func testFailingSteps(t *testing.T, open func(*testing.T) broker.NamedStore) {
-	first, second := opened(t, open), opened(t, open)
-	gone, cancel := context.WithCancel(context.Background())
-	cancel()
-	wrong := errors.New("wrong")
+	stores := []broker.Store{opened(t, open), opened(t, open)}
 	const count = 20
 	var all sync.WaitGroup
 	for n := 0; n < count; n++ {
 		for _, key := range []broker.Key{instance(n), binding(n, 1000)} {
-			store := first
-			if n%8 > 3 {
-				store = second
-			}
 			all.Add(1)
 			go func(n int, key broker.Key) {
 				defer all.Done()
-				entry := &broker.Entry{Holding: in(t, "ready")}
-				switch n % 4 {
-				case 0:
-					err := changed(context.Background(), store, key,
-						func(broker.Held) (*broker.Entry, error) { return entry, nil })
-					if err != nil {
-						t.Errorf("a step beside others that fail: %v", err)
-					}
-				case 1:
-					err := changed(context.Background(), store, key,
-						func(broker.Held) (*broker.Entry, error) { return entry, wrong })
-					if !errors.Is(err, wrong) {
-						t.Errorf("a step that fails: %v", err)
-					}
-				case 2:
-					err := changed(context.Background(), store, key,
-						func(broker.Held) (*broker.Entry, error) { panic("a bug") })
-					if err == nil || !strings.Contains(err.Error(), "a bug") {
-						t.Errorf("a step that panics: %v", err)
-					}
-				case 3:
-					err := changed(gone, store, key,
-						func(broker.Held) (*broker.Entry, error) { return entry, nil })
-					if !errors.Is(err, context.Canceled) {
-						t.Errorf("a context that is cancelled: %v", err)
-					}
-				}
+				failing[n%len(failing)](t, stores[n/len(failing)%2], key)
 			}(n, key)
 		}
 	}
 	all.Wait()
 	for n := 0; n < count; n++ {
 		want := broker.Entry{}
-		if n%4 == 0 {
-			want.Holding = in(t, "ready")
+		if n%len(failing) == 0 {
+			want = ready(t)
 		}
 		for _, key := range []broker.Key{instance(n), binding(n, 1000)} {
-			wantEntry(t, "after "+strconv.Itoa(n%4), read(t, first, key).Entry, want)
+			wantEntry(t, "after "+strconv.Itoa(n%len(failing)), read(t, stores[0], key).Entry, want)
 		}
 	}
+}
+
+func ready(t *testing.T) broker.Entry { return broker.Entry{Holding: in(t, "ready")} }
+
+var errWrong = errors.New("wrong")
+
+// failing are changes that run beside each other. The first is written.
+var failing = []func(*testing.T, broker.Store, broker.Key){
+	func(t *testing.T, store broker.Store, key broker.Key) {
+		entry := ready(t)
+		err := changed(context.Background(), store, key,
+			func(broker.Held) (*broker.Entry, error) { return &entry, nil })
+		if err != nil {
+			t.Errorf("a step beside others that fail: %v", err)
+		}
+	},
+	func(t *testing.T, store broker.Store, key broker.Key) {
+		entry := ready(t)
+		err := changed(context.Background(), store, key,
+			func(broker.Held) (*broker.Entry, error) { return &entry, errWrong })
+		if !errors.Is(err, errWrong) {
+			t.Errorf("a step that fails: %v", err)
+		}
+	},
+	func(t *testing.T, store broker.Store, key broker.Key) {
+		err := changed(context.Background(), store, key,
+			func(broker.Held) (*broker.Entry, error) { panic("a bug") })
+		if err == nil || !strings.Contains(err.Error(), "a bug") {
+			t.Errorf("a step that panics: %v", err)
+		}
+	},
+	func(t *testing.T, store broker.Store, key broker.Key) {
+		entry := ready(t)
+		gone, cancel := context.WithCancel(context.Background())
+		cancel()
+		err := changed(gone, store, key,
+			func(broker.Held) (*broker.Entry, error) { return &entry, nil })
+		if !errors.Is(err, context.Canceled) {
+			t.Errorf("a context that is cancelled: %v", err)
+		}
+	},
 }
 
 // Eight goroutines, over two stores, count in the description of one row.

@@ -96,7 +96,7 @@ func rekey(ctx context.Context, out io.Writer, backend, file, newFile string) er
 	if err != nil {
 		return err
 	}
-	other, err := keyOf(newFile, nil)
+	other, err := longKeyOf(newFile, nil)
 	if err != nil {
 		return err
 	}

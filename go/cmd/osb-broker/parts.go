@@ -97,7 +97,7 @@ func (p *parts) openDatabases(ctx context.Context, s *settings, log *logs.Logger
 	if err := withoutPassword(s.backend); err != nil {
 		return err
 	}
-	key, err := keyOf(s.keyFile, log)
+	key, err := longKeyOf(s.keyFile, log)
 	if err != nil {
 		return err
 	}
@@ -186,15 +186,21 @@ func keyOf(file string, log *logs.Logger) ([]byte, error) {
 	if err != nil {
 		return nil, program.Unusable(fmt.Errorf("the key of the databases' passwords: %w", err))
 	}
-	if len(key) < postgres.ShortestKey {
-		return nil, program.Unusable(fmt.Errorf(
-			"the key of the databases' passwords has %d bytes, and needs at least %d. Make one with: osb-broker key",
-			len(key), postgres.ShortestKey))
-	}
 	if warning != "" && log != nil {
 		log.Warning("secret").Str("warning", warning).Send()
 	}
 	return []byte(key), nil
+}
+
+// longKeyOf is the key as keyOf returns it, if it is long enough for a new password.
+func longKeyOf(file string, log *logs.Logger) ([]byte, error) {
+	key, err := keyOf(file, log)
+	if err == nil && len(key) < postgres.ShortestKey {
+		err = program.Unusable(fmt.Errorf(
+			"the key of the databases' passwords has %d bytes, and needs at least %d. Make one with: osb-broker key",
+			len(key), postgres.ShortestKey))
+	}
+	return key, err
 }
 
 // withoutPassword refuses a URL with a password, which everybody could read who lists processes.

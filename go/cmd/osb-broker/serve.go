@@ -33,6 +33,8 @@ type running struct {
 	handler  *broker.Handler
 	health   *health.Handler
 	sweeper  *broker.Sweeper
+	work     context.Context // of the work, which endWork breaks off
+	endWork  context.CancelFunc
 }
 
 // serve serves until SIGTERM or SIGINT. It writes the log to standard error.
@@ -85,7 +87,8 @@ func (r *running) open(ctx, stop context.Context, queue *logs.Queue) (err error)
 	rules := broker.Rules{FirstPoll: s.firstPoll, WaitForPoll: s.waitForPoll}
 	service := broker.NewService(catalogue, r.parts.store, r.parts.backend, r.parts.locks, rules, r.observer)
 	r.sweeper = broker.NewSweeper(service, r.observer)
-	r.handler, err = broker.NewHandler(ctx, service, broker.Config{
+	r.work, r.endWork = context.WithCancel(ctx)
+	r.handler, err = broker.NewHandler(r.work, service, broker.Config{
 		Users: users, LongestBody: s.longestBody, AtOnce: s.threads, Limiter: limiter.New(), Touch: r.sweeper.Touch,
 		Observer: r.observer,
 	})
@@ -115,12 +118,13 @@ func (r *running) serve(ctx, stop context.Context) error {
 	if err != nil {
 		return err
 	}
+	defer r.endWork()
 	sweeping, endSweeps := context.WithCancel(ctx)
 	defer endSweeps()
 	swept := make(chan struct{})
 	go func() {
 		defer close(swept)
-		r.sweeper.Run(ctx, sweeping, r.settings.workers, r.settings.sweepTime)
+		r.sweeper.Run(r.work, sweeping, r.settings.workers, r.settings.sweepTime)
 	}()
 	var stopped time.Time
 	served := server.Server{
@@ -139,12 +143,17 @@ func (r *running) serve(ctx, stop context.Context) error {
 	r.log.Info("stopped").Bool("all_work_ended", hasEnded && !isCut).Send()
 	if isCut || !hasEnded { // the work uses them still. It is taken up at the next start, as after a crash
 		r.parts.close = nil
+		r.endWork() // which kills what a command backend runs
+		_ = r.wait(swept, lastWait)
 	}
 	if isCut {
 		return nil
 	}
 	return failed
 }
+
+// lastWait is how long work that was broken off may take to end.
+const lastWait = 2 * time.Second
 
 // wait waits for the sweeper, and returns whether it has ended in time.
 func (r *running) wait(swept <-chan struct{}, within time.Duration) bool {

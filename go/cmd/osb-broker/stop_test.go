@@ -164,6 +164,7 @@ func TestStopDoesNotWaitForEver(t *testing.T) {
 		t.Errorf("after SIGTERM: %v", err)
 	}
 	s = g.start("--existing")
+	g.waits() // the create was killed, and begins again
 	g.open()
 	s.until(200, "succeeded", "GET", poll, "")
 	s.stop()

@@ -10,8 +10,8 @@ import (
 	"pippinterm/broker/postgres/session"
 )
 
-// A Proxy stands between a client and the server. Once it has forwarded a message that Cut names, it closes the client's
-// connection: the server gets the message, and the client no answer.
+// A Proxy stands between a client and the server. Once it has forwarded a message that Cut names, it closes the
+// client's connection: the server gets the message, and the client no answer.
 type Proxy struct {
 	turn     sync.Mutex
 	cut      []byte

@@ -10,7 +10,8 @@ import (
 
 // ErrBadAddress reports that a text isn't the URL of a PostgreSQL server. The error doesn't quote the text, since a
 // password may stand in it.
-var ErrBadAddress = errors.New("the URL of the PostgreSQL server can't be read. It looks like postgresql://user@host/db")
+var ErrBadAddress = errors.New(
+	"the URL of the PostgreSQL server can't be read. Write it as postgresql://user@host:port/database")
 
 // IsAddress returns whether a text is the URL of a PostgreSQL server, and not the path of a file.
 func IsAddress(text string) bool {

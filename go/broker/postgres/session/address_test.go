@@ -50,7 +50,9 @@ func TestHostAndPortOfTheEnvironment(t *testing.T) {
 
 // The password of a URL that can't be read doesn't get into the error.
 func TestBadAddresses(t *testing.T) {
-	for _, address := range []string{"", "/srv/store.sqlite", "postgresql://u:secret@db:port/x", "postgresql://u:sec%ret@db"} {
+	for _, address := range []string{
+		"", "/srv/store.sqlite", "postgresql://u:secret@db:port/x", "postgresql://u:sec%ret@db",
+	} {
 		_, err := session.Open(address, session.Options{Most: 1})
 		if !errors.Is(err, session.ErrBadAddress) || err.Error() != session.ErrBadAddress.Error() {
 			t.Errorf("Open(%s): %v", address, err)

@@ -27,8 +27,8 @@ var (
 	// ErrNotBegun reports that a transaction couldn't begin on a connection, for example because the server had closed
 	// it. Nothing was done.
 	ErrNotBegun = errors.New("the transaction couldn't begin")
-	// ErrUnknownCommit reports that nobody knows whether a transaction was committed, or whether its commit outlives the
-	// loss of a server.
+	// ErrUnknownCommit reports that a transaction may have been committed or not, or that its commit may not outlive the
+	// loss of the server.
 	ErrUnknownCommit = errors.New("nobody knows whether the transaction was committed")
 	// ErrNotDurable reports that the setting synchronous_commit is off.
 	ErrNotDurable = errors.New("synchronous_commit is off, so a commit might not outlive a power cut")

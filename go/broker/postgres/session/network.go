@@ -34,8 +34,8 @@ func (d dialer) DialContext(ctx context.Context, network, address string) (net.C
 	return &limited{Conn: conn, limit: d.limit}, nil
 }
 
-// A limited connection waits for each answer at most this long. So a server or a network that is silent ends every wait,
-// also that for a COMMIT, which is never cancelled. While nobody reads, there is no limit.
+// A limited connection waits for each answer at most this long. So no wait for a silent server or network lasts
+// forever, not even that for a COMMIT, which is never cancelled. An idle connection has no limit.
 type limited struct {
 	net.Conn
 	limit     time.Duration

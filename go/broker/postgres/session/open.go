@@ -33,10 +33,10 @@ type Options struct {
 // patience is how long the server's answer may take beyond the limits that the server has itself.
 const patience = 30 * time.Second
 
-// Open returns connections to the server of a URL, postgresql://user@host:port/database?parameters. What the URL doesn't
-// say is found as other clients of PostgreSQL find it: in PGPASSWORD, in the file that PGPASSFILE names, and so on. If
-// neither the URL nor PGSSLMODE has a sslmode, connections to this machine are without TLS, and all others need it
-// (require). No connection is opened yet.
+// Open returns connections to the server of a URL, postgresql://user@host:port/database?parameters. What the URL
+// doesn't say is found as other clients of PostgreSQL find it: in PGPASSWORD, in the file that PGPASSFILE names, and so
+// on. If neither the URL nor PGSSLMODE has a sslmode, connections to this machine are without TLS, and all others need
+// it (require). No connection is opened yet.
 //
 // On each connection synchronous_commit stays as the server, the database or the role has set it, for as long as the
 // connection lives. If it is off, opening the connection fails with ErrNotDurable: any other value is accepted, since

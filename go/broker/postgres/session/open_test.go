@@ -50,12 +50,15 @@ func TestSettings(t *testing.T) {
 
 func TestAnotherUser(t *testing.T) {
 	url := pgtest.URL(t)
-	pgtest.Exec(t, pgtest.DB(t, url), "DROP ROLE IF EXISTS osb_session_user",
-		"CREATE ROLE osb_session_user LOGIN PASSWORD 'of its own'")
-	t.Cleanup(func() { pgtest.Exec(t, pgtest.DB(t, url), "DROP ROLE osb_session_user") })
+	pgtest.Exec(t, pgtest.DB(t, url), "DROP DATABASE IF EXISTS osb_session_user",
+		"DROP ROLE IF EXISTS osb_session_user", "CREATE ROLE osb_session_user LOGIN PASSWORD 'of its own'",
+		"CREATE DATABASE osb_session_user OWNER osb_session_user TEMPLATE template0")
+	t.Cleanup(func() {
+		pgtest.Exec(t, pgtest.DB(t, url), "DROP DATABASE osb_session_user WITH (FORCE)", "DROP ROLE osb_session_user")
+	})
 	db, err := session.Open(url, session.Options{
 		Most: 1, Lock: time.Second, Statement: time.Second, Idle: time.Minute,
-		Database: "template1", User: "osb_session_user", Password: "of its own",
+		Database: "osb_session_user", User: "osb_session_user", Password: "of its own",
 	})
 	if err != nil {
 		t.Fatal(err)
@@ -63,7 +66,7 @@ func TestAnotherUser(t *testing.T) {
 	defer db.Close()
 	var user, database string
 	err = db.QueryRowContext(context.Background(), "SELECT current_user, current_database()").Scan(&user, &database)
-	if err != nil || user != "osb_session_user" || database != "template1" {
+	if err != nil || user != "osb_session_user" || database != user {
 		t.Errorf("%s in %s, %v", user, database, err)
 	}
 }

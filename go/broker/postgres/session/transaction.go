@@ -17,17 +17,18 @@ func Discard(conn *sql.Conn) {
 	_ = conn.Close() // sql.ErrConnDone: it is closed already
 }
 
-// Transaction calls work in a transaction (READ COMMITTED) on a connection, and commits it if work returns true. If work
-// returns false or an error, or panics, or if the context is cancelled before the COMMIT, the transaction is rolled back.
-// Transaction returns nil only if the server has confirmed the COMMIT, or the transaction was to be rolled back.
+// Transaction calls work in a transaction (READ COMMITTED) on a connection, and commits it if work returns true. If
+// work returns false or an error, or panics, or if the context is cancelled before the COMMIT, the transaction is
+// rolled back. Transaction returns nil only if the server has confirmed the COMMIT, or the transaction was to be rolled
+// back.
 //
 // The COMMIT itself isn't cancelled with the context. With synchronous replication a server that is asked to cancel a
-// COMMIT stops waiting for its standby, and reports a commit that the standby doesn't have, with no more than a warning.
-// So a warning to a COMMIT is ErrUnknownCommit too.
+// COMMIT stops waiting for its standby, and reports a commit that the standby doesn't have, with no more than a
+// warning. So a warning to a COMMIT is ErrUnknownCommit too.
 //
-// Errors: ErrNotBegun, ErrUnknownCommit, the context's, those of work, a panic of work as an error, and the server's. With
-// any but ErrUnknownCommit nothing was changed. After an error with which the connection can't be used any more it is
-// closed.
+// Errors: ErrNotBegun, ErrUnknownCommit, the context's, those of work, a panic of work as an error, and the server's.
+// With any but ErrUnknownCommit nothing was changed. After an error with which the connection can't be used any more it
+// is closed.
 func Transaction(ctx context.Context, conn *sql.Conn, work func(*sql.Tx) (isToCommit bool, err error)) error {
 	warned, err := watch(conn)
 	if err != nil {

@@ -52,51 +52,54 @@ func countIn(t *testing.T, db *sql.DB) (count int) {
 func TestTransactions(t *testing.T) {
 	url := table(t, "osb_session_transactions")
 	wrong := errors.New("wrong")
-	gone, cancel := context.WithCancel(context.Background())
-	for _, it := range []struct {
-		name      string
-		ctx       context.Context
-		after     func(*sql.Tx) (bool, error)
-		isWritten bool
-		is        error
-		has       string
-	}{
-		{name: "that commits", after: func(*sql.Tx) (bool, error) { return true, nil }, isWritten: true},
-		{name: "that doesn't commit", after: func(*sql.Tx) (bool, error) { return false, nil }},
-		{name: "whose work fails", after: func(*sql.Tx) (bool, error) { return true, wrong }, is: wrong},
-		{name: "whose work panics", after: func(*sql.Tx) (bool, error) { panic("a bug") }, has: "a bug"},
-		{name: "that is cancelled", ctx: gone, is: context.Canceled, after: func(*sql.Tx) (bool, error) {
-			cancel()
-			return true, nil
-		}},
-		{name: "that the server has aborted", has: "transaction", after: func(tx *sql.Tx) (bool, error) {
+	for _, it := range []ending{
+		{name: "that commits", does: func(*sql.Tx) (bool, error) { return true, nil }, isWritten: true},
+		{name: "that doesn't commit", does: func(*sql.Tx) (bool, error) { return false, nil }},
+		{name: "whose work fails", does: func(*sql.Tx) (bool, error) { return true, wrong }, is: wrong},
+		{name: "whose work panics", does: func(*sql.Tx) (bool, error) { panic("a bug") }, has: "a bug"},
+		{name: "that is cancelled", isCancelled: true, is: context.Canceled,
+			does: func(*sql.Tx) (bool, error) { return true, nil }},
+		{name: "that the server has aborted", has: "transaction", does: func(tx *sql.Tx) (bool, error) {
 			_, _ = tx.Exec("SELECT 1 / 0") // and nobody looks at the error
 			return true, nil
 		}},
 		{name: "that work has committed itself", has: "transaction", isWritten: true,
-			after: func(tx *sql.Tx) (bool, error) { return true, tx.Commit() }},
+			does: func(tx *sql.Tx) (bool, error) { return true, tx.Commit() }},
 	} {
-		t.Run(it.name, func(t *testing.T) {
-			before := count(t, url)
-			ctx := it.ctx
-			if ctx == nil {
-				ctx = context.Background()
-			}
-			err := transaction(t, ctx, url, func(tx *sql.Tx) (bool, error) {
-				if _, err := insert(context.Background())(tx); err != nil {
-					return false, err
-				}
-				return it.after(tx)
-			})
-			isRight := it.is == nil && it.has == "" && err == nil || it.is != nil && errors.Is(err, it.is) ||
-				it.has != "" && err != nil && strings.Contains(err.Error(), it.has)
-			if !isRight {
-				t.Errorf("the error is %v", err)
-			}
-			if isWritten := count(t, url) > before; isWritten != it.isWritten {
-				t.Errorf("written: %t", isWritten)
-			}
-		})
+		t.Run(it.name, func(t *testing.T) { it.run(t, url) })
+	}
+}
+
+// An ending is what a transaction does after it has written a row, and what comes of it.
+type ending struct {
+	name        string
+	does        func(*sql.Tx) (bool, error)
+	isCancelled bool
+	isWritten   bool
+	is          error
+	has         string
+}
+
+func (e ending) run(t *testing.T, url string) {
+	before := count(t, url)
+	ctx, cancel := context.WithCancel(context.Background())
+	defer cancel()
+	err := transaction(t, ctx, url, func(tx *sql.Tx) (bool, error) {
+		if _, err := insert(ctx)(tx); err != nil {
+			return false, err
+		}
+		if e.isCancelled {
+			cancel()
+		}
+		return e.does(tx)
+	})
+	isRight := e.is == nil && e.has == "" && err == nil || e.is != nil && errors.Is(err, e.is) ||
+		e.has != "" && err != nil && strings.Contains(err.Error(), e.has)
+	if !isRight {
+		t.Errorf("the error is %v", err)
+	}
+	if isWritten := count(t, url) > before; isWritten != e.isWritten {
+		t.Errorf("written: %t", isWritten)
 	}
 }
 
