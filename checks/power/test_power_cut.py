@@ -48,6 +48,11 @@ class Serving:
     def end(self) -> None:
         self._process.send_signal(signal.SIGTERM)
         assert self._process.wait(60) == 0
+
+    def close(self) -> None:
+        """Kills it if it still runs."""
+        self._process.kill()
+        self._process.wait()
         self._reader.join()
         assert self._process.stderr is not None
         self._process.stderr.close()
@@ -56,8 +61,11 @@ class Serving:
 @contextlib.contextmanager
 def serving(program: Path, state: Path) -> Iterator[Serving]:
     live = Serving(program, state)
-    yield live
-    live.end()
+    try:
+        yield live
+        live.end()
+    finally:
+        live.close()
 
 
 @pytest.mark.usefixtures("library")
@@ -71,8 +79,9 @@ def test_power_cut(broker: Path, tmp_path: Path) -> None:
                 it.start()
             for _ in range(CUTS):
                 time.sleep(draw.uniform(0.3, 1.2))
-                known = facts.now()  # before the cut, so that all of it has to be there after it
-                cuts.append((known, made.cut()))
+                before, cut, after = facts.now(), made.cut(), facts.now()
+                # what was known before the cut, and about which no request was sent until after it
+                cuts.append(({key: what for key, what in before.items() if after.get(key) == what}, cut))
             stop.set()
             for it in customers:
                 it.join(60)

@@ -60,9 +60,9 @@ func partsOf(ctx context.Context, s *settings, log *logs.Logger, observer broker
 	}
 	err = broker.Tie(ctx, p.store, p.backend, s.existing)
 	if errors.Is(err, broker.ErrParted) {
-		err = program.Unusable(err)
+		return p, program.Unusable(err)
 	}
-	return p, err
+	return p, away("the store and the backend can't be used together", err)
 }
 
 func (p *parts) closeAll() {

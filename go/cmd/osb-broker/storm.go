@@ -11,8 +11,8 @@ import (
 	"pippinterm/storm"
 )
 
-// forStorm makes of the parts what a storm tries: folders that are slow and fail, and a store and locks without the part
-// of the design that OSB_WITHOUT names.
+// forStorm makes of the parts what a storm tries: folders that are slow and fail, and a store and locks without the
+// part of the design that OSB_WITHOUT names.
 func (p *parts) forStorm(ctx context.Context, s *settings) (err error) {
 	if of, ok := p.backend.(*folders.Folders); ok {
 		if p.backend, err = storm.Slow(of, s.state); err != nil {
