@@ -470,6 +470,28 @@ func (unbindable) CreateBinding(context.Context, broker.Request) (json.RawMessag
 	return nil, errors.New("no")
 }
 
+// Credentials that can't be sent are of no use: the Bind fails, the binding is deleted, and nothing stays pending.
+func TestUselessCredentials(t *testing.T) {
+	s := newSite(t, setting{over: func(s *shelf) broker.Backend { return unsendable{s} }})
+	s.expect(t, 201, "PUT", instances+"i", bodyOf(now, ""))
+	s.expect(t, 500, "PUT", instances+"i/service_bindings/b", bodyOf(now, ""))
+	s.expect(t, 200, "DELETE", instances+"i"+names(now), "")
+	if len(s.shelf.things) > 0 {
+		t.Errorf("left: %v", s.shelf.things)
+	}
+}
+
+type unsendable struct{ *shelf }
+
+func (u unsendable) CreateBinding(ctx context.Context, r broker.Request) (json.RawMessage, error) {
+	_, err := u.shelf.CreateBinding(ctx, r)
+	return json.RawMessage("\xff"), err
+}
+
+func (unsendable) Credentials(context.Context, broker.Request) (json.RawMessage, error) {
+	return json.RawMessage("\xff"), nil
+}
+
 // Each of two passwords of a user is valid, and so is another user's.
 func TestUsers(t *testing.T) {
 	s := newSite(t, setting{users: map[string][]string{"u": {"p", "new"}, "v": {"w"}}})

@@ -52,8 +52,9 @@
 //
 // A run ends once the program has exited, and every process that has its standard output or standard error open has
 // closed them. If a run takes longer than Options.Limit, or the broker stops, its process group is killed with SIGKILL,
-// and the call has failed. So the program must not leave its process group. If a run writes more than 1 MiB to standard
-// output, the call has failed too.
+// and the call has failed. If the program exits with another status than 0, what is left of its process group is killed
+// too. So the program must not leave its process group. If a run writes more than 1 MiB to standard output, the call has
+// failed too.
 //
 // Descriptor 3 is the open file of the lock of the instance or the binding. The lock lasts until every process that has
 // inherited the descriptor has exited or closed it, even if the broker is killed. So at most one call of a key runs at

@@ -6,6 +6,7 @@ import (
 	"errors"
 	"io"
 	"os"
+	"path/filepath"
 	"strings"
 	"syscall"
 	"testing"
@@ -218,4 +219,27 @@ func openFiles(t *testing.T) int {
 		t.Fatal(err)
 	}
 	return len(found)
+}
+
+// What a run that failed has left in the background is killed.
+func TestFailureEndsTheGroup(t *testing.T) {
+	state := t.TempDir()
+	backend := newBackend(t, Options{State: state}, "sleep 600 >/dev/null 2>&1 3>&- & echo $! >pid; exit 1")
+	if err := backend.Create(ctx, binding); err == nil {
+		t.Fatal("create returned no error")
+	}
+	text, err := os.ReadFile(filepath.Join(state, "pid"))
+	if err != nil {
+		t.Fatal(err)
+	}
+	process := "/proc/" + strings.TrimSpace(string(text))
+	for end := time.Now().Add(10 * time.Second); ; time.Sleep(time.Millisecond) {
+		stat, err := os.ReadFile(process + "/stat")
+		if err != nil || strings.Contains(string(stat), ") Z ") {
+			return
+		}
+		if time.Now().After(end) {
+			t.Fatal("the process runs on")
+		}
+	}
 }

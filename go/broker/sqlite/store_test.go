@@ -216,6 +216,51 @@ func TestNoStore(t *testing.T) {
 	}
 }
 
+// A row that can't be read is listed with the others that are unfinished, and keeps none of them from being counted.
+func TestUnreadableRow(t *testing.T) {
+	s := open(t, filepath.Join(t.TempDir(), "store"))
+	ctx := context.Background()
+	for n := 1; n <= 2; n++ {
+		if err := s.Change(ctx, keyOf(n), 0, provision(keyOf(n))); err != nil {
+			t.Fatal(err)
+		}
+	}
+	err := s.together(ctx, func(c *connection) error {
+		return c.exec("UPDATE holdings SET holding = '{}' WHERE id = ?", keyOf(1).String())
+	})
+	if err != nil {
+		t.Fatal(err)
+	}
+	if keys, err := s.Unfinished(ctx); err != nil || len(keys) != 2 {
+		t.Errorf("%v, %v", keys, err)
+	}
+	if stats, err := s.Stats(ctx); err != nil || stats.Pending != 1 {
+		t.Errorf("%+v, %v", stats, err)
+	}
+}
+
+// Ready writes, so that a full disk shows.
+func TestReadyWrites(t *testing.T) {
+	s := open(t, filepath.Join(t.TempDir(), "store"))
+	asked := func() (text string) {
+		t.Helper()
+		if err := s.Ready(context.Background()); err != nil {
+			t.Fatal(err)
+		}
+		err := s.read(context.Background(), func(c *connection) (err error) {
+			text, err = c.text("SELECT asked FROM readiness")
+			return err
+		})
+		if err != nil {
+			t.Fatal(err)
+		}
+		return text
+	}
+	if first, second := asked(), asked(); first == "" || first == second {
+		t.Errorf("%q, and then %q", first, second)
+	}
+}
+
 func BenchmarkRead(b *testing.B) {
 	s, err := Open(context.Background(), filepath.Join(b.TempDir(), "store"), broker.Silent{})
 	if err != nil {

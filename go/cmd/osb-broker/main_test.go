@@ -233,6 +233,21 @@ func TestUnavailable(t *testing.T) {
 	}
 }
 
+// The present key of rekey may be short, as in version 0.2. The new one may not.
+func TestRekeyTakesAShortKey(t *testing.T) {
+	file := filepath.Join(t.TempDir(), "new")
+	for key, status := range map[string]int{strings.Repeat("k", 32): 75, "short": 2} {
+		if err := os.WriteFile(file, []byte(key), 0o600); err != nil {
+			t.Fatal(err)
+		}
+		command := osbBroker([]string{"OSB_BACKEND_KEY=hunter2"}, "rekey", "--backend", "postgresql://u@127.0.0.1:1/d",
+			"--new-key-file", file)
+		if out, _ := command.CombinedOutput(); command.ProcessState.ExitCode() != status {
+			t.Errorf("a new key of %d bytes: status %d: %s", len(key), command.ProcessState.ExitCode(), out)
+		}
+	}
+}
+
 func TestHealth(t *testing.T) {
 	s := start(t, []string{password}, "--state", t.TempDir())
 	for path, text := range map[string]string{
