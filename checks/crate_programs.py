@@ -1,4 +1,4 @@
-"""The programs of crates for checks alone: `library_cases`, `refusal_cases`, `binding_cases` and `service_cases`.
+"""The programs of crates for checks alone: `library_cases`, `refusal_cases` and `service_cases`.
 
 They aren't shipped. `rt ci` builds them, and so does `rt run` in the crate's folder. A test that needs one is skipped
 if it isn't built from the sources as they stand.

@@ -1,4 +1,4 @@
-"""What binding_cases has to write behind each line, by the model.
+"""What the library has to make of each line of `lines.txt`, by the model.
 
 A line has the name of a call and its arguments. A text that begins with `hex:` stands for the bytes that its digits
 write.
@@ -8,6 +8,7 @@ from __future__ import annotations
 
 import urllib.parse
 from collections.abc import Callable
+from pathlib import Path
 
 from binding_wire import model
 from wire.cases import data, form, given, rejection, spaceless, split, text, told
@@ -15,6 +16,7 @@ from wire.model import Refused
 from wire.model import answer as life_answer
 from wire.model import member, number_of
 
+TEXT = Path(__file__).resolve().with_name("lines.txt")
 METHODS = {"provision": "PUT", "deprovision": "DELETE", "poll": "GET"}
 APP = "This Service supports generation of credentials through binding an application only."
 
@@ -34,15 +36,11 @@ def request(rest: str) -> list[str]:
     return [it.asked(), *(told(name, text) for name, text in texts), *parts_of(it.body)]
 
 
-def parts(rest: str) -> list[str]:
-    return parts_of(data(rest))
-
-
 def sent(kind: str, instance: str, binding: str, service: str, plan: str) -> list[str]:
     """What is sent of these ids, and then the Fetch."""
     for name, it in (("instance", instance), ("binding", binding)):
         if it in (".", ".."):
-            return [f"the text is not that of the request's {name}"] * 2
+            return [f"the text is not that of the request's {name}"]
     quoted = [urllib.parse.quote(it, safe="") for it in (instance, binding)]
     target = f"/v2/service_instances/{quoted[0]}/service_bindings/{quoted[1]}"
     ids = [("service_id", service), ("plan_id", plan)]
@@ -50,7 +48,7 @@ def sent(kind: str, instance: str, binding: str, service: str, plan: str) -> lis
     end = "/last_operation" if kind == "poll" else ""
     body = spaceless({"plan_id": plan, "service_id": service}) if kind == "provision" else ""
     query = form(pairs if kind == "provision" else ids + pairs)
-    return [f"{METHODS[kind]} {target}{end}?{query}", body, f"GET {target}?{form(ids)} "]
+    return [f"{METHODS[kind]} {target}{end}?{query}", body, f"GET {target}?{form(ids)}"]
 
 
 def named(rest: str) -> list[str]:
@@ -69,8 +67,8 @@ def fetched(rest: str) -> list[str]:
     return [told("object", model.fetched(int(status), data(body)))]
 
 
-def write(rest: str) -> list[str]:
-    return [told("body", model.object_of(data(rest)))]
+def stored(rest: str) -> list[str]:
+    return ["-" if model.object_of(data(rest)) is None else "an object"]
 
 
 def app(rest: str) -> list[str]:
@@ -94,26 +92,19 @@ def retrievable(rest: str) -> list[str]:
     return [str(model.retrievable(service, data(document))).lower()]
 
 
-def refusals(_: str) -> list[str]:
-    names = ("binding", "instance")
-    return [rejection(Refused(f"400 The {it} id must be UTF-8 of 1 to 255 bytes, and no dot segment.")) for it in names]
-
-
 CALLS: dict[str, Callable[[str], list[str]]] = {
     "answer": answer,
     "app": app,
     "fetched": fetched,
     "modes": modes,
     "named": named,
-    "parts": parts,
-    "refusals": refusals,
     "request": request,
     "retrievable": retrievable,
-    "write": write,
+    "stored": stored,
 }
 
 
-def written(line: str) -> str:
-    """The line, and what stands below it."""
+def wanted(line: str) -> list[str]:
+    """What the library has to make of a line."""
     call, _, rest = line.partition(" ")
-    return "".join(f"{it}\n" for it in [line, *(f"  {it}" for it in CALLS[call](rest))])
+    return CALLS[call](rest)

@@ -1,6 +1,4 @@
-"""Lines of binding_cases at random, some at once: what a call is asked of a whole text, and of others with an edit or
-two.
-"""
+"""Lines at random, some at once: what a call is asked of a whole text, and of others with an edit or two."""
 
 from __future__ import annotations
 
@@ -83,7 +81,7 @@ SENT = some(
 
 # ---- bodies
 
-PARTS = changed(["parts", "app"], binds(), IN_PROVISION)
+APPS_NAMED = changed(["app"], binds(), IN_PROVISION)
 OBJECTS = members(
     ["credentials", "syslog_drain_url", "route_service_url", "volume_mounts", "endpoints", "metadata"],
     SOUND_VALUE,
@@ -94,16 +92,16 @@ ANSWERS = st.builds(
     lambda kind, status, lines: [f"answer {kind} {status} {line.partition(' ')[2]}" for line in lines],
     st.sampled_from(["provision"] * 3 + ["deprovision", "poll"]),
     st.sampled_from([200, 201, 202, 204, 400, 409, 422, 500]) | st.sampled_from(STATUSES),
-    changed(["write"], OBJECTS | WHOLE_BODY, IN_BODY),
+    changed(["stored"], OBJECTS | WHOLE_BODY, IN_BODY),
 )
 FETCHED = changed(["fetched 200", "fetched 200", "fetched 201", "fetched 404"], OBJECTS | WHOLE_BODY, IN_BODY)
 
 
 @st.composite
 def stored(draw: st.DrawFn) -> list[str]:
-    """Lines of texts that are UTF-8, as a broker has stored them."""
+    """Lines of texts that a broker has stored."""
     wholes = variants(draw(OBJECTS | WHOLE_BODY), b'{}[]",:\\ 01-.eE', draw(SEEDS), AT_ONCE)
-    return [f"write {hexed(it.decode(errors='replace'))}" for it in wholes]
+    return [f"stored {hexed(it)}" for it in wholes]
 
 
 # ---- catalogues
@@ -144,7 +142,7 @@ OF_DOCUMENTS = changed(
 LINES: dict[str, tuple[Lines, int]] = {
     "requests": (REQUESTS, 50),
     "written requests": (SENT, 20),
-    "parts and applications": (PARTS, 50),
+    "applications": (APPS_NAMED, 50),
     "answers": (ANSWERS, 50),
     "fetched bindings": (FETCHED, 30),
     "stored bindings": (stored(), 20),

@@ -129,10 +129,13 @@ def lacks_app(body: bytes) -> bool:
 # ---- catalogues
 
 
+NOT_A_FLAG = "bindable, bindings_retrievable and x-osb-asynchronous-bindings must be true or false"
+
+
 def flag(of: dict[str, Any], name: str, otherwise: bool) -> bool:
     says = of.get(name, otherwise)
     if not isinstance(says, bool):
-        raise Refused("bindable, bindings_retrievable and x-osb-asynchronous-bindings must be true or false")
+        raise Refused(NOT_A_FLAG)
     return says
 
 

@@ -1,7 +1,6 @@
-"""Compares what osb_binding_wire reads and writes with Python's json and urllib.
+"""Compares what the library reads and writes with Python's json and urllib, for requests and answers of bindings.
 
-The program of the crate binding_cases tells what each call returns. Each test takes whole texts that hypothesis makes,
-and of each some others with an edit or two.
+Each test takes whole texts that hypothesis makes, and of each some others with an edit or two.
 
 OSB_EXAMPLES=100 compares a hundred times as many, drawn at random (checks/generated.py): 100,000 requests, and as many
 bodies.
@@ -9,39 +8,39 @@ bodies.
 
 from __future__ import annotations
 
-from collections.abc import Sequence
+from pathlib import Path
 
 import pytest
-from binding_wire.cases import written
+from binding_wire.cases import CALLS, TEXT, wanted
+from binding_wire.library import read
 from binding_wire.lines import LINES
-from crate_programs import Tell, told_by
 from generated import examples
 from hypothesis import given
 
 pytestmark = pytest.mark.slow
 
 
-@pytest.fixture(scope="session")
-def tell() -> Tell:
-    return told_by("binding_cases")
+@pytest.fixture(autouse=True)
+def _library(library: Path) -> None:
+    """Every test needs the library, which the package osb has loaded."""
 
 
-def compare(tell: Tell, lines: Sequence[str]) -> None:
-    told, at = tell(lines), 0
+def test_cases() -> None:
+    """Each line of `lines.txt`, which names each call."""
+    lines = [line for line in TEXT.read_text().splitlines() if line and not line.startswith("#")]
+    assert {line.partition(" ")[0] for line in lines} == set(CALLS)
     for line in lines:
-        wanted = written(line)
-        assert told[at : at + len(wanted)] == wanted
-        at += len(wanted)
-    assert at == len(told)
+        assert read(line) == wanted(line), line
 
 
 @pytest.mark.parametrize("what", LINES)
-def test_lines(tell: Tell, what: str) -> None:
+def test_lines(what: str) -> None:
     lines, count = LINES[what]
 
     @examples(count)
     @given(some=lines)
     def compared(some: list[str]) -> None:
-        compare(tell, some)
+        for line in some:
+            assert read(line) == wanted(line), line
 
     compared()

@@ -1,4 +1,4 @@
-"""What library_cases has to write behind each line of osb_wire, by the model.
+"""What the library has to make of each line of `lines.txt`, by the model.
 
 A line has the name of a call and its arguments. A text that begins with `hex:` stands for the bytes that its digits
 write.
@@ -13,7 +13,7 @@ from pathlib import Path
 
 from wire import model
 
-FOLDER = Path(__file__).resolve().parent.parent.parent / "crates" / "library_cases"
+TEXT = Path(__file__).resolve().with_name("lines.txt")
 REASONS = {
     400: "BadRequest",
     404: "NotFound",
@@ -101,7 +101,7 @@ def form(pairs: list[tuple[str, str]]) -> str:
 
 
 def sent(kind: str, instance: str, service: str, plan: str) -> list[str]:
-    """What is sent of these ids: twice, since the calls that write its parts one at a time write them again."""
+    """What is sent of these ids."""
     if instance in (".", ".."):
         return ["the text is not that of the request's instance"]
     target = "/v2/service_instances/" + urllib.parse.quote(instance, safe="")
@@ -113,7 +113,7 @@ def sent(kind: str, instance: str, service: str, plan: str) -> list[str]:
         pairs = [("service_id", service), ("plan_id", plan), *pairs]
     if kind == "poll":
         target += "/last_operation"
-    return [f"{METHODS[kind]} {target}?{form(pairs)}", body] * 2
+    return [f"{METHODS[kind]} {target}?{form(pairs)}", body]
 
 
 def named(rest: str) -> list[str]:
@@ -129,10 +129,6 @@ def misnamed(rest: str) -> list[str]:
 
 
 # ---- bodies
-
-
-def parts(rest: str) -> list[str]:
-    return parts_of(data(rest))
 
 
 def member(rest: str) -> list[str]:
@@ -200,13 +196,15 @@ def asks(rest: str) -> list[str]:
     return [str(model.asks_for_catalogue((given(prefix) or "").encode(), data(target))).lower()]
 
 
+def shown(modes: dict[tuple[int, int], str]) -> list[str]:
+    return [f"{model.shown(service)} {model.shown(plan)} {mode}" for (service, plan), mode in sorted(modes.items())]
+
+
 def plans(rest: str) -> list[str]:
     try:
-        modes = model.sold(data(rest))
+        return ["plans", *shown(model.sold(data(rest)))]
     except model.Refused as fault:
         return [str(fault)]
-    shown = [f"{model.shown(service)} {model.shown(plan)} {mode}" for (service, plan), mode in sorted(modes.items())]
-    return ["plans", *shown]
 
 
 def document(rest: str) -> list[str]:
@@ -215,9 +213,7 @@ def document(rest: str) -> list[str]:
         modes = model.judge(data(it), {LETTERS[letter] for letter in letters if letter in LETTERS})
     except model.Refused as fault:
         return [str(fault)]
-    services, own = ({model.number_of(word): word for word in texts} for texts in model.id_texts(data(it)))
-    shown = [f"[{services[service]}] [{own[plan]}] {mode}" for (service, plan), mode in sorted(modes.items())]
-    return [told("tombstones", model.has_tombstones(data(it))), *shown]
+    return ["kept", *shown(modes)]
 
 
 def served(rest: str) -> list[str]:
@@ -243,7 +239,6 @@ CALLS: dict[str, Callable[[str], list[str]]] = {
     "misnamed": misnamed,
     "named": named,
     "parameters": parameters,
-    "parts": parts,
     "plans": plans,
     "request": request,
     "request-identity": request_identity,
@@ -252,7 +247,7 @@ CALLS: dict[str, Callable[[str], list[str]]] = {
 }
 
 
-def written(line: str) -> str:
-    """The line, and what stands behind and below it."""
+def wanted(line: str) -> list[str]:
+    """What the library has to make of a line."""
     call, _, rest = line.partition(" ")
-    return line + "".join(f"  {it}\n" for it in CALLS[call](rest))
+    return CALLS[call](rest)

@@ -1,6 +1,4 @@
-"""Lines of library_cases for osb_wire at random, some at once: what a call is asked of a whole text, and of others with
-an edit or two.
-"""
+"""Lines at random, some at once: what a call is asked of a whole text, and of others with an edit or two."""
 
 from __future__ import annotations
 
@@ -81,7 +79,7 @@ SENT = some(
 
 # ---- bodies
 
-PARTS = changed(["parts", "parts", "member parameters", "digest"], provisions(), IN_PROVISION)
+PARTS = changed(["member parameters", "member context", "digest"], provisions(), IN_PROVISION)
 PARAMETERS = changed(["parameters"], SOUND_VALUE.map(str.encode), IN_BODY)
 CONFLICTS = changed(
     ["conflict 1.0", "conflict 2.0", "conflict -"],

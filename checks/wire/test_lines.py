@@ -1,7 +1,6 @@
-"""Compares what osb_wire reads and writes with Python's json, urllib, base64 and hashlib.
+"""Compares what the library reads and writes with Python's json, urllib, base64 and hashlib.
 
-The program of the crate library_cases tells what each call returns. Each test takes whole texts that hypothesis makes,
-and of each some others with an edit or two.
+Each test takes whole texts that hypothesis makes, and of each some others with an edit or two.
 
 OSB_EXAMPLES=100 compares a hundred times as many, drawn at random (checks/generated.py): 100,000 requests, and as many
 bodies.
@@ -9,39 +8,39 @@ bodies.
 
 from __future__ import annotations
 
-from collections.abc import Sequence
+from pathlib import Path
 
 import pytest
-from crate_programs import Tell, cases_of
 from generated import examples
 from hypothesis import given
-from wire.cases import written
+from wire.cases import CALLS, TEXT, wanted
+from wire.library import read
 from wire.lines import LINES
 
 pytestmark = pytest.mark.slow
 
 
-@pytest.fixture(scope="session")
-def tell() -> Tell:
-    return cases_of("osb_wire")
+@pytest.fixture(autouse=True)
+def _library(library: Path) -> None:
+    """Every test needs the library, which the package osb has loaded."""
 
 
-def compare(tell: Tell, lines: Sequence[str]) -> None:
-    told, at = tell(lines), 0
+def test_cases() -> None:
+    """Each line of `lines.txt`, which names each call."""
+    lines = [line for line in TEXT.read_text().splitlines() if line and not line.startswith("#")]
+    assert {line.partition(" ")[0] for line in lines} == set(CALLS)
     for line in lines:
-        wanted = written(line)
-        assert told[at : at + len(wanted)] == wanted
-        at += len(wanted)
-    assert at == len(told)
+        assert read(line) == wanted(line), line
 
 
 @pytest.mark.parametrize("what", LINES)
-def test_lines(tell: Tell, what: str) -> None:
+def test_lines(what: str) -> None:
     lines, count = LINES[what]
 
     @examples(count)
     @given(some=lines)
     def compared(some: list[str]) -> None:
-        compare(tell, some)
+        for line in some:
+            assert read(line) == wanted(line), line
 
     compared()

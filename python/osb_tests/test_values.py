@@ -2,6 +2,7 @@
 from __future__ import annotations
 
 import unittest
+from pathlib import Path
 
 import osb.holding
 import osb.record
@@ -40,7 +41,9 @@ def row(phase: Phase, plan: Id = ASYNC) -> BrokerRow:
 class Ids(unittest.TestCase):
     def test_text(self) -> None:
         text = "12345678-9abc-def0-1234-56789abcdef0"
-        self.assertEqual(Id.of(text.upper()), Id(0x123456789ABCDEF0, 0x123456789ABCDEF0))
+        self.assertEqual(
+            Id.of(text.upper()), Id(0x123456789ABCDEF0, 0x123456789ABCDEF0)
+        )
         self.assertEqual(str(Id.of(text.upper())), text)
         self.assertEqual(eval(repr(Id.of(text))), Id.of(text))
         self.assertEqual(len({Id.of(text), Id.of(text.upper()), ONE}), 2)
@@ -73,8 +76,13 @@ class Names(unittest.TestCase):
             (Phase.DELETE_FAILED, "delete-failed"),
             (Status.NOT_UTF8, "not-utf8"),
         ):
-            self.assertEqual((str(it), f"{it}", f"{it:>20}"), (name, name, name.rjust(20)))
-        self.assertEqual((int(State.READY), State(2), f"{State.READY.value:02}"), (2, State.READY, "02"))
+            self.assertEqual(
+                (str(it), f"{it}", f"{it:>20}"), (name, name, name.rjust(20))
+            )
+        self.assertEqual(
+            (int(State.READY), State(2), f"{State.READY.value:02}"),
+            (2, State.READY, "02"),
+        )
         self.assertEqual(Status.BUSY.meaning, "a request is in flight")
 
 
@@ -93,7 +101,10 @@ class Structs(unittest.TestCase):
         ):
             for name, _ in made._fields_:
                 place = getattr(type(made), name)
-                self.assertTrue(any(bytes(made)[place.offset : place.offset + place.size]), (made, name))
+                self.assertTrue(
+                    any(bytes(made)[place.offset : place.offset + place.size]),
+                    (made, name),
+                )
 
 
 class Records(unittest.TestCase):
@@ -104,12 +115,17 @@ class Records(unittest.TestCase):
 
     def test_statuses(self) -> None:
         """checks/network compares what each call gives; here is why one is refused."""
-        busy, last = record(State.POLLING, POLL, 2), record(State.CLEANING, attempt=2**64 - 1)
+        busy, last = record(State.POLLING, POLL, 2), record(
+            State.CLEANING, attempt=2**64 - 1
+        )
         for call, status in (
             (lambda: busy.send(ONE), Status.BUSY),
             (lambda: record(State.READY).send(ONE), Status.NOTHING_DUE),
             (lambda: last.send(ONE), Status.ATTEMPTS_USED_UP),
-            (lambda: record(State.GONE, attempt=2**64 - 1).send(ONE), Status.NOTHING_DUE),
+            (
+                lambda: record(State.GONE, attempt=2**64 - 1).send(ONE),
+                Status.NOTHING_DUE,
+            ),
             (lambda: record(State.POLLING, POLL, 2**64 - 1).send(ONE), Status.BUSY),
             (lambda: busy.answer(3, Answer(200, Body.SUCCEEDED)), Status.NOT_IN_FLIGHT),
             (lambda: busy.timeout(1), Status.NOT_IN_FLIGHT),
@@ -128,13 +144,20 @@ class Records(unittest.TestCase):
         self.assertEqual(record(State.CLEANING_POLLING).retry(), record(State.CLEANING))
 
     def test_from_platform_row(self) -> None:
-        for before, after in ((State.WANTED, State.CLEANING), (State.READY, State.READY)):
+        for before, after in (
+            (State.WANTED, State.CLEANING),
+            (State.READY, State.READY),
+        ):
             out = PROVISION if before == State.WANTED else None
             made = Record.from_platform_row(PlatformRow(SERVICE, SYNC, before, out))
             self.assertEqual(made, record(after, None, 0))
 
     def test_values_that_no_call_gives(self) -> None:
-        for it in (record(State.WANTED), record(State.READY, POLL), record(State.CLEANING, DEPROVISION, 0)):
+        for it in (
+            record(State.WANTED),
+            record(State.READY, POLL),
+            record(State.CLEANING, DEPROVISION, 0),
+        ):
             for call in (it.to_text, it.expire, it.remove, lambda: it.send(ONE)):
                 self.assertEqual(status_of(call), Status.BAD_RECORD, it)
 
@@ -156,10 +179,14 @@ HOLDINGS = [
         '"service":"00000000-0000-0000-0000-0000000000a0"},"tombstone":false,"version":2,"work":null}',
         Holding(row(Phase.READY, SYNC)),
     ),
-    (f'{FRONT}null,"tombstone":true,"version":2,"work":null}}', Holding(has_tombstone=True)),
+    (
+        f'{FRONT}null,"tombstone":true,"version":2,"work":null}}',
+        Holding(has_tombstone=True),
+    ),
     (f'{FRONT}null,"tombstone":false,"version":2,"work":null}}', Holding.NONE),
     (
-        FRONT.replace("0", "a") + '{"phase":"waiting","plan":"00000000-0000-0000-0000-0000000000b2",'
+        FRONT.replace("0", "a")
+        + '{"phase":"waiting","plan":"00000000-0000-0000-0000-0000000000b2",'
         '"service":"00000000-0000-0000-0000-0000000000a0"},"tombstone":false,"version":2,"work":null}',
         Holding(row(Phase.WAITING), attributes=b"\xaa" * 32),
     ),
@@ -177,29 +204,26 @@ class Texts(unittest.TestCase):
             self.assertEqual(holding.to_text(), text)
             self.assertEqual(Holding.from_text(text), holding)
 
-    def test_first_format(self) -> None:
-        """It had no attributes."""
-        for text, holding in (
-            ('{"marked":true,"row":null,"version":1,"work":null}', Holding(has_tombstone=True)),
-            ('{"marked":false,"row":null,"version":1,"work":null}', Holding.NONE),
-        ):
-            self.assertEqual(Holding.from_text(text), holding)
+    def test_cases(self) -> None:
+        for line in Path(__file__).with_name("texts.txt").read_text().splitlines():
+            if not line or line.startswith("#"):
+                continue
+            wanted, kind, text = line.split(" ", 2)
+            of: type[Record] | type[Holding] = Record if kind == "record" else Holding
+            if wanted in ("same", "other"):
+                text, _, written = (
+                    text.partition("  ") if wanted == "other" else (text, "", text)
+                )
+                self.assertEqual(of.from_text(text).to_text(), written, line)
+            else:
+                self.assertEqual(
+                    status_of(lambda: of.from_text(text)), Status[wanted], line
+                )
 
-    def test_faults(self) -> None:
-        """crates/library_cases has all of them."""
-        ended, first = HOLDINGS[2][0], '{"marked":true,"row":null,"version":1,"work":null}'
-        for text, fault in (
-            ("", Status.NOT_JSON),
-            (first, Status.BAD_OUTER),
-            (ended, Status.BAD_VERSION),
-            (RECORD.replace("wanted", "done"), Status.BAD_MEMBER),
-            (RECORD.replace('"provision"', "null"), Status.IMPOSSIBLE),
-            ("\ud800", Status.NOT_UTF8),
-        ):
-            self.assertEqual(status_of(lambda: Record.from_text(text)), fault, text)
-        both = HOLDINGS[1][0].replace("false", "true")
-        for text, fault in ((both, Status.IMPOSSIBLE), (RECORD, Status.BAD_OUTER), (ended[:-1], Status.NOT_JSON)):
-            self.assertEqual(status_of(lambda: Holding.from_text(text)), fault, text)
+    def test_no_text(self) -> None:
+        kinds: tuple[type[Record] | type[Holding], ...] = (Record, Holding)
+        for of in kinds:
+            self.assertEqual(status_of(lambda: of.from_text("\ud800")), Status.NOT_UTF8)
 
 
 def holding_with_work(kind: Kind, plan: Id = SYNC) -> Holding:
@@ -210,29 +234,48 @@ def holding_with_work(kind: Kind, plan: Id = SYNC) -> Holding:
 class Holdings(unittest.TestCase):
     def test_statuses(self) -> None:
         """checks/network compares what each call gives; here is why one is refused."""
-        self.assertEqual(status_of(lambda: Holding.NONE.end(Mode.SYNC, Outcome.DONE)), Status.NOTHING_BEGUN)
+        self.assertEqual(
+            status_of(lambda: Holding.NONE.end(Mode.SYNC, Outcome.DONE)),
+            Status.NOTHING_BEGUN,
+        )
         for held in (
             Holding.NONE,
             Holding(has_tombstone=True),
             Holding(row(Phase.READY)),
             holding_with_work(PROVISION),
         ):
-            self.assertEqual(status_of(lambda: held.finish(True)), Status.NOTHING_RUNNING, held)
+            self.assertEqual(
+                status_of(lambda: held.finish(True)), Status.NOTHING_RUNNING, held
+            )
 
     def test_refused_work(self) -> None:
         """A backend refuses a Provision, and nothing else."""
         for outcome, status in ((Outcome.REFUSED_400, 400), (Outcome.REFUSED_422, 422)):
             ended = holding_with_work(PROVISION).end(Mode.SYNC, outcome)
-            self.assertEqual(ended, (Holding(has_tombstone=True), Answer(status, Body.OTHER_ERROR)))
+            self.assertEqual(
+                ended, (Holding(has_tombstone=True), Answer(status, Body.OTHER_ERROR))
+            )
             deleting = holding_with_work(DEPROVISION)
-            self.assertEqual(status_of(lambda: deleting.end(Mode.SYNC, outcome)), Status.NOT_A_PROVISION)
+            self.assertEqual(
+                status_of(lambda: deleting.end(Mode.SYNC, outcome)),
+                Status.NOT_A_PROVISION,
+            )
 
     def test_first_poll(self) -> None:
         """With the rule of the first Poll, an instance is made only once it was polled."""
-        waiting, answer = Holding.NONE.begin(Mode.ASYNC, request(PROVISION, ASYNC), first_poll=True)
-        self.assertEqual((waiting, answer), (Holding(row(Phase.WAITING)), Answer(202, Body.EMPTY)))
-        making, answer = waiting.begin(Mode.ASYNC, request(POLL, ASYNC), first_poll=True)
-        self.assertEqual((making, answer), (Holding(row(Phase.MAKING)), Answer(200, Body.IN_PROGRESS)))
+        waiting, answer = Holding.NONE.begin(
+            Mode.ASYNC, request(PROVISION, ASYNC), first_poll=True
+        )
+        self.assertEqual(
+            (waiting, answer), (Holding(row(Phase.WAITING)), Answer(202, Body.EMPTY))
+        )
+        making, answer = waiting.begin(
+            Mode.ASYNC, request(POLL, ASYNC), first_poll=True
+        )
+        self.assertEqual(
+            (making, answer),
+            (Holding(row(Phase.MAKING)), Answer(200, Body.IN_PROGRESS)),
+        )
         self.assertEqual(waiting.give_up_waiting(), Holding(row(Phase.FAILED)))
         self.assertEqual(status_of(making.give_up_waiting), Status.NOT_WAITING)
 
@@ -242,7 +285,9 @@ class Holdings(unittest.TestCase):
             (DEPROVISION, [Work.DELETE, Work.START_DELETING, None]),
             (POLL, [None, None, None]),
         ):
-            self.assertEqual([work_of(kind, mode) for mode in (Mode.SYNC, Mode.ASYNC, None)], works)
+            self.assertEqual(
+                [work_of(kind, mode) for mode in (Mode.SYNC, Mode.ASYNC, None)], works
+            )
 
     def test_fits(self) -> None:
         for held, sync, asynchronous, none in (
@@ -255,8 +300,15 @@ class Holdings(unittest.TestCase):
             self.assertEqual(fits, [sync, asynchronous, none], held)
 
     def test_values_that_no_call_gives(self) -> None:
-        for held in (Holding(row(Phase.READY), has_tombstone=True), Holding(work=request(POLL))):
-            for call in (held.to_text, lambda: held.finish(True), lambda: held.begin(Mode.SYNC, request(POLL))):
+        for held in (
+            Holding(row(Phase.READY), has_tombstone=True),
+            Holding(work=request(POLL)),
+        ):
+            for call in (
+                held.to_text,
+                lambda: held.finish(True),
+                lambda: held.begin(Mode.SYNC, request(POLL)),
+            ):
                 self.assertEqual(status_of(call), Status.BAD_HOLDING, held)
             self.assertFalse(held.fits(Mode.ASYNC), held)
 

@@ -6,6 +6,7 @@ import unittest
 from typing import Callable
 
 from osb import Answer, Body, Id, Kind, OsbError, Plan, Refusal, Request, Status
+from osb.binding_wire import read_binding_request, receive_binding_request
 from osb.wire import (
     Asked,
     api_version,
@@ -15,6 +16,7 @@ from osb.wire import (
     read_answer,
     read_operation,
     read_request,
+    receive_request,
     retry_after,
     write_answer,
     write_body,
@@ -181,6 +183,15 @@ class Requests(unittest.TestCase):
         self.assertIsNone(asked_operation(front.encode()))
         refusal = refusal_of(lambda: asked_operation(f"{front}?operation=1&operation=1".encode()))
         self.assertEqual(refusal and refusal.status, Status.REFUSED_REPEATED)
+
+    def test_longest_body(self) -> None:
+        """A number that C's size_t can't have isn't taken for another one, such as -1 for no limit."""
+        target, body = b"/v2/service_instances/i", b" " * 9
+        for call in (read_request, receive_request, read_binding_request, receive_binding_request):
+            for wrong in (-1, -(2**64), 2**63, 2**64, 2**70):
+                self.assertRaises(ValueError, call, "PUT", target, body, wrong)
+        refusal = refusal_of(lambda: read_request("PUT", target, body, 8))
+        self.assertEqual(refusal and refusal.status, Status.REFUSED_LENGTH)
 
 
 class Answers(unittest.TestCase):

@@ -58,7 +58,7 @@ fn main(rt: HostRuntime) -> Result<()> {
             print!(rt; "{text}")?;
             match of {
                 Library::Broker => broker::tell(&rt, rt.alloc(), text)?,
-                Library::Instance => instance::tell(&rt, rt.alloc(), text)?,
+                Library::Instance => instance::tell(&rt, text)?,
                 Library::Language => language::tell(&rt, text)?,
                 Library::Message => message::tell(&rt, rt.alloc(), text)?,
                 Library::Network => begun = network::tell(&rt, rt.alloc(), begun, text)?,

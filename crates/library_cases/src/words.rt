@@ -10,29 +10,6 @@ pub(crate) fn first(text: &str) -> (&str, &str) {
     text.split_once(' ').unwrap_or((text, ""))
 }
 
-// A word, or none for `-`.
-pub(crate) fn given(word: &str) -> Option<&str> {
-    if word == "-" { None } else { Some(word) }
-}
-
-// The bytes that a text stands for: those that the digits behind `hex:` write, or its own.
-pub(crate) fn bytes(alloc: Global, text: &str) -> Result<Vec<u8>> {
-    match text.strip_prefix("hex:") {
-        Some(digits) => Ok(
-            hex::decode(alloc, digits.as_bytes())
-                .ok()
-                .context("no hexadecimal digits")?,
-        ),
-        None => Ok(Vec::from_slice(alloc, text.as_bytes())?),
-    }
-}
-
-// The text that a text stands for, as its bytes.
-pub(crate) fn utf8(alloc: Global, text: &str) -> Result<String> {
-    let bytes = bytes(alloc, text)?;
-    String::from_utf8(bytes).ok().context("no UTF-8")
-}
-
 // The text so many times, one after another.
 pub(crate) fn repeated(alloc: Global, text: &str, times: usize) -> Result<String> {
     let mut whole = String::new(alloc);
