@@ -3,7 +3,6 @@ package command
 import (
 	"context"
 	"encoding/json"
-	"errors"
 	"fmt"
 
 	"pippinterm/broker"
@@ -64,71 +63,52 @@ func (b bindingsWithCredentials) Credentials(ctx context.Context, request broker
 
 // look runs a call that reports what exists.
 func (p *program) look(ctx context.Context, call string, request broker.Request) (broker.There, error) {
-	var found struct {
-		Exists string `json:"exists"`
-	}
+	var found existence
 	if err := p.call(ctx, call, request, &found); err != nil {
 		return broker.None, err
 	}
-	for _, there := range []broker.There{broker.None, broker.Part, broker.Whole} {
-		if found.Exists == there.String() {
-			return there, nil
-		}
-	}
-	return broker.None, p.wrapped(call, fmt.Errorf(`"exists" is %q, and not none, part or whole`, found.Exists))
+	return found.there()
 }
 
 // work runs a call without a result.
 func (p *program) work(ctx context.Context, call string, request broker.Request) error {
-	return p.call(ctx, call, request, &struct{}{})
+	return p.call(ctx, call, request, &nothing{})
 }
 
 // credentials runs a call that reports credentials.
 func (p *program) credentials(ctx context.Context, call string, request broker.Request) (json.RawMessage, error) {
-	var found struct {
-		Credentials json.RawMessage `json:"credentials"`
-	}
+	var found known
 	if err := p.call(ctx, call, request, &found); err != nil {
 		return nil, err
-	}
-	if found.Credentials == nil {
-		return nil, p.wrapped(call, errors.New(`standard output has no member "credentials"`))
 	}
 	return found.Credentials, nil
 }
 
-// call runs the program for a request, and reads what it reports into result.
-func (p *program) call(ctx context.Context, call string, request broker.Request, result any) error {
+// call runs the program for a request, and reads what it reports.
+func (p *program) call(ctx context.Context, call string, request broker.Request, into result) error {
 	input, err := json.Marshal(struct {
 		broker.Request
 		State string `json:"state"`
 	}{request, p.state})
-	if err != nil {
-		return p.wrapped(call, err)
-	}
-	ended, err := p.run(ctx, call, input, numbers(request.Key))
 	if err == nil {
-		err = ended.read(result, call == "create" || call == "create-binding")
+		err = p.run(ctx, call, input, numbers(request.Key), func(run ended) error {
+			return run.read(into, call == "create" || call == "create-binding")
+		})
 	}
 	return p.wrapped(call, err)
-}
-
-// capable is what the program reports at the start.
-type capable struct {
-	Bindings    bool `json:"bindings"`
-	Credentials bool `json:"credentials"`
 }
 
 // capabilities asks the program which calls it supports.
 func (p *program) capabilities(ctx context.Context) (found capable, err error) {
 	const call = "capabilities"
 	input, err := json.Marshal(map[string]string{"state": p.state})
-	if err != nil {
-		return found, p.wrapped(call, err)
-	}
-	ended, err := p.run(ctx, call, input, nil)
-	if err == nil && ended.status != statusUnsupported {
-		err = ended.read(&found, false)
+	if err == nil {
+		err = p.run(ctx, call, input, nil, func(run ended) error {
+			if run.exit.ExitStatus() == statusUnsupported {
+				return nil
+			}
+			return run.read(&found, false)
+		})
 	}
 	return found, p.wrapped(call, err)
 }

@@ -116,7 +116,10 @@ func TestExitStatuses(t *testing.T) {
 		{"exit 5", "doesn't support", nil, ""},
 		{"exit 77", "exit status 77", nil, ""},
 		{"kill -9 $$", "signal: killed", nil, ""},
-		{"exit 3", "exit status 3", &broker.Rejected{}, ""},
+		{"exit 3", "exit status 3: standard output has no \"status\"", nil, ""},
+		{`echo '{"description": "Full."}'; exit 3`, "no \"status\"", nil, ""},
+		{`echo '{"status": 403, "description": "Full."}'; echo no >&2; exit 3`, "so this is no rejection: no", nil, ""},
+		{`echo '{"status": 400}'; exit 3`, "exit status 3", &broker.Rejected{Status: 400}, ""},
 		{
 			`echo '{"status": 422, "error": "QuotaExceeded", "description": "Full."}'; echo no >&2; exit 3`, "exit status 3: no",
 			&broker.Rejected{Status: 422, Code: "QuotaExceeded", Description: "Full."}, "",
@@ -135,7 +138,7 @@ func TestExitStatuses(t *testing.T) {
 				isCreation := strings.HasPrefix(call, "create")
 				var rejected *broker.Rejected
 				if errors.As(err, &rejected) != (c.rejected != nil && isCreation) {
-					t.Errorf("%s returned %v, which is a rejection: %v", call, err, rejected)
+					t.Fatalf("%s returned %v, which is a rejection: %v", call, err, rejected)
 				}
 				if rejected != nil && *rejected != *c.rejected {
 					t.Errorf("%s was rejected with %+v", call, rejected)

@@ -4,6 +4,7 @@ import (
 	"context"
 	"errors"
 	"fmt"
+	"io/fs"
 	"os"
 	"os/exec"
 	"path/filepath"
@@ -18,8 +19,7 @@ import (
 // DefaultLimit is how long a run may take if Options don't say.
 const DefaultLimit = 5 * time.Minute
 
-// grace is how long the outputs may stay open after the process group was killed. A process that left the group can
-// keep them open.
+// grace is how long the processes of a run may take to end after their process group was killed.
 const grace = 5 * time.Second
 
 // Options are those of New.
@@ -29,11 +29,15 @@ type Options struct {
 	State string
 	// Limit is how long each run may take. Zero stands for DefaultLimit.
 	Limit time.Duration
+	// Existing is whether State was used before. Then New creates nothing, and fails if the file .locks doesn't exist,
+	// for example because a disk isn't mounted.
+	Existing bool
 }
 
 // A program is run for each call.
 type program struct {
 	path        string
+	timeout     string // the path of the command timeout
 	state       string
 	environment []string
 	limit       time.Duration
@@ -45,9 +49,10 @@ type program struct {
 // program for its capabilities. The backend is a broker.LockBackend. It is a broker.BindingBackend only if the program
 // supports bindings, and a broker.CredentialsBackend only if it supports credentials too.
 //
-// Errors: if the program doesn't exist or isn't executable; those of creating the folder and its file .locks; if
-// Options.Limit is negative; if the program fails to report its capabilities, or reports credentials without bindings.
-// The folder may have been created then.
+// Errors: if the program doesn't exist or isn't executable; if the command timeout of coreutils isn't in PATH; those of
+// creating the folder and its file .locks; if Options.Existing is true and the file doesn't exist; if Options.Limit is
+// negative; if the program fails to report its capabilities, or reports credentials without bindings. The folder may
+// have been created then, unless Options.Existing is true.
 func New(ctx context.Context, program string, options Options) (broker.Backend, error) {
 	p, err := newProgram(program, options)
 	if err != nil {
@@ -58,8 +63,6 @@ func New(ctx context.Context, program string, options Options) (broker.Backend, 
 		return nil, err
 	}
 	switch {
-	case found.Credentials && !found.Bindings:
-		return nil, fmt.Errorf("command: %s reports that it supports credentials, and no bindings", p.path)
 	case found.Credentials:
 		return bindingsWithCredentials{bindings{instances{p}}}, nil
 	case found.Bindings:
@@ -73,22 +76,26 @@ func newProgram(name string, options Options) (*program, error) {
 	if err != nil {
 		return nil, err
 	}
+	timeout, err := executable("timeout")
+	if err != nil {
+		return nil, fmt.Errorf("%w. Install coreutils", err)
+	}
 	if options.Limit < 0 {
 		return nil, fmt.Errorf("the limit %v is negative", options.Limit)
 	}
 	if options.Limit == 0 {
 		options.Limit = DefaultLimit
 	}
-	state, err := stateFolder(options.State)
+	state, err := stateFolder(options)
 	if err != nil {
 		return nil, err
 	}
-	locks, err := filelock.New(state + "/.locks")
+	locks, err := filelock.New(state + lockFile)
 	if err != nil {
 		return nil, err
 	}
 	return &program{
-		path: path, state: state, environment: environment(os.Environ(), state),
+		path: path, timeout: timeout, state: state, environment: environment(os.Environ(), state),
 		limit: options.Limit, grace: grace, locks: locks,
 	}, nil
 }
@@ -112,19 +119,36 @@ func absolute(path string) (string, error) {
 	return folder + "/" + path, err
 }
 
-// stateFolder creates the folder for the program's own use, and returns its absolute path.
-func stateFolder(path string) (string, error) {
-	if path == "" {
+// lockFile is the path of the file of the locks, below the folder.
+const lockFile = "/.locks"
+
+// stateFolder returns the absolute path of the folder for the program's own use. It creates the folder, or checks that
+// the folder was used before.
+func stateFolder(options Options) (string, error) {
+	if options.State == "" {
 		return "", errors.New("no folder is given for the program's own use")
 	}
-	folder, err := absolute(path)
+	folder, err := absolute(options.State)
 	if err != nil {
 		return "", err
 	}
 	if !utf8.ValidString(folder) {
 		return "", fmt.Errorf("the path %q isn't UTF-8. Choose another folder", folder)
 	}
+	if options.Existing {
+		return folder, wasUsed(folder)
+	}
 	return folder, os.MkdirAll(folder, 0o700)
+}
+
+// wasUsed returns an error if the file of the locks doesn't exist in the folder.
+func wasUsed(folder string) error {
+	_, err := os.Lstat(folder + lockFile)
+	if errors.Is(err, fs.ErrNotExist) {
+		return fmt.Errorf("%s has no file .locks: no backend has used it. Mount its disk, or check its path: %w",
+			folder, err)
+	}
+	return err
 }
 
 // environment returns the variables that the program gets: no password of the broker is among them.

@@ -2,6 +2,7 @@ package command
 
 import (
 	"context"
+	"errors"
 	"os"
 	"path/filepath"
 	"reflect"
@@ -121,6 +122,44 @@ func TestOptionsThatNewRejects(t *testing.T) {
 		if _, err := New(ctx, script(t, ""), options); err == nil || !strings.Contains(err.Error(), wanted) {
 			t.Errorf("New returned %v, and not an error with %q", err, wanted)
 		}
+	}
+}
+
+// With Options.Existing, New takes only a folder that was used before, and creates nothing.
+func TestExisting(t *testing.T) {
+	program, top := script(t, ""), t.TempDir()
+	empty := filepath.Join(top, "empty")
+	if err := os.Mkdir(empty, 0o700); err != nil {
+		t.Fatal(err)
+	}
+	for name, state := range map[string]string{
+		"a folder that doesn't exist": filepath.Join(top, "none"), "an empty folder": empty,
+	} {
+		_, err := New(ctx, program, Options{State: state, Existing: true})
+		if !errors.Is(err, os.ErrNotExist) || !strings.Contains(err.Error(), state) {
+			t.Errorf("of %s, New returned %v", name, err)
+		}
+	}
+	if found, err := filepath.Glob(top + "/*/.locks"); len(found) != 0 || err != nil {
+		t.Errorf("there are %v, %v", found, err)
+	}
+	if _, err := os.Stat(filepath.Join(top, "none")); !errors.Is(err, os.ErrNotExist) {
+		t.Errorf("the folder was created: %v", err)
+	}
+	for _, existing := range []bool{false, true} {
+		if _, err := New(ctx, program, Options{State: empty, Existing: existing}); err != nil {
+			t.Errorf("with Existing %v, New returned %v", existing, err)
+		}
+	}
+}
+
+// New needs the command that ends a run whose broker was killed.
+func TestWithoutTimeout(t *testing.T) {
+	program := script(t, "")
+	t.Setenv("PATH", t.TempDir())
+	_, err := New(ctx, program, Options{State: t.TempDir()})
+	if err == nil || !strings.Contains(err.Error(), "Install coreutils") {
+		t.Errorf("New returned %v", err)
 	}
 }
 

@@ -263,9 +263,10 @@ func TestExampleWithSimilarNames(t *testing.T) {
 
 func TestExampleRejectsOtherCalls(t *testing.T) {
 	backend := databases(t, nil)
-	ended, err := backend.run(ctx, "update", nil, numbers(instance.Key))
-	if err != nil || ended.status != statusUnsupported {
-		t.Errorf("the program ended with %s, %v", ended.how, err)
+	var run ended
+	err := backend.run(ctx, "update", nil, numbers(instance.Key), func(it ended) error { run = it; return nil })
+	if err != nil || run.exit.ExitStatus() != statusUnsupported {
+		t.Errorf("the program ended with %s, %v", run.how(), err)
 	}
 }
 

@@ -5,12 +5,18 @@ import (
 	"os"
 	"os/exec"
 	"testing"
+	"time"
 
 	"pippinterm/broker/filelock"
 )
 
-// Of these variables, the first makes the test binary a broker that runs the program with the folder of the second.
-const programVariable, stateVariable = "COMMAND_TEST_PROGRAM", "COMMAND_TEST_STATE"
+// Of these variables, the first makes the test binary a broker that runs the program with the folder of the second, and
+// with the limit of the third, if it is set.
+const (
+	programVariable = "COMMAND_TEST_PROGRAM"
+	stateVariable   = "COMMAND_TEST_STATE"
+	limitVariable   = "COMMAND_TEST_LIMIT"
+)
 
 func TestMain(m *testing.M) {
 	program := os.Getenv(programVariable)
@@ -29,12 +35,19 @@ func serve(program, state string) error {
 	if err != nil {
 		return err
 	}
-	lock, err := backend.(instances).Locks().Lock(ctx, instance.Key)
+	sold := backend.(instances)
+	if text := os.Getenv(limitVariable); text != "" {
+		if sold.limit, err = time.ParseDuration(text); err != nil {
+			return err
+		}
+		sold.grace = 100 * time.Millisecond
+	}
+	lock, err := sold.Locks().Lock(ctx, instance.Key)
 	if err != nil {
 		return err
 	}
 	defer lock.Unlock()
-	return backend.Create(lock.Context(ctx), instance)
+	return sold.Create(lock.Context(ctx), instance)
 }
 
 // The lock of a call outlives the broker: no other process gets it before the program has ended.
@@ -57,6 +70,8 @@ func TestLockOutlivesTheBroker(t *testing.T) {
 			}
 			if lock, err := locks.TryLock(ctx, binding.Key); lock == nil || err != nil {
 				t.Errorf("of another key TryLock returned %v, %v", lock, err)
+			} else {
+				lock.Unlock()
 			}
 			if _, err := goOn.WriteString("go\n"); err != nil {
 				t.Fatal(err)
@@ -81,4 +96,21 @@ func killedBroker(t *testing.T, program, state string, until func()) {
 	defer func() { _ = cmd.Wait() }()
 	defer func() { _ = cmd.Process.Kill() }()
 	until()
+}
+
+// A run that hangs ends after its limit, though its broker was killed. So does what it has started.
+func TestLimitOutlivesTheBroker(t *testing.T) {
+	state := t.TempDir()
+	started := fifo(t, state+"/started")
+	t.Setenv(limitVariable, "2s")
+	text := `[ $1 = create ] || exit 0; sleep 1000 & echo >"$OSB_STATE/started"; sleep 1000`
+	killedBroker(t, script(t, text), state, func() { read(t, started) })
+	locks, err := filelock.New(state + "/.locks")
+	if err != nil {
+		t.Fatal(err)
+	}
+	if lock, err := locks.TryLock(ctx, instance.Key); lock != nil || err != nil {
+		t.Errorf("while the program runs TryLock returned %v, %v", lock, err)
+	}
+	locked(t, locks).Unlock()
 }

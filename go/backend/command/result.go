@@ -5,7 +5,9 @@ import (
 	"encoding/json"
 	"errors"
 	"fmt"
+	"net/http"
 	"strings"
+	"syscall"
 
 	"pippinterm/broker"
 )
@@ -18,33 +20,91 @@ const (
 	statusUnsupported = 5
 )
 
+// A result is what standard output has after a call that succeeded.
+type result interface {
+	// check returns an error if a member is missing, or has a value that means nothing.
+	check() error
+}
+
+// nothing is the result of a call that reports nothing.
+type nothing struct{}
+
+func (nothing) check() error { return nil }
+
+// existence is the result of look and look-binding.
+type existence struct {
+	Exists string `json:"exists"`
+}
+
+func (e existence) check() error {
+	_, err := e.there()
+	return err
+}
+
+// there returns what exists.
+func (e existence) there() (broker.There, error) {
+	for _, there := range []broker.There{broker.None, broker.Part, broker.Whole} {
+		if e.Exists == there.String() {
+			return there, nil
+		}
+	}
+	return broker.None, fmt.Errorf(`"exists" is %q, and not none, part or whole`, e.Exists)
+}
+
+// known is the result of create-binding and credentials.
+type known struct {
+	Credentials json.RawMessage `json:"credentials"`
+}
+
+func (k known) check() error {
+	if k.Credentials == nil {
+		return errors.New(`standard output has no member "credentials"`)
+	}
+	return nil
+}
+
+// capable is the result of capabilities.
+type capable struct {
+	Bindings    bool `json:"bindings"`
+	Credentials bool `json:"credentials"`
+}
+
+func (c capable) check() error {
+	if c.Credentials && !c.Bindings {
+		return errors.New("the program supports credentials, and no bindings")
+	}
+	return nil
+}
+
 // An ended is a run that has ended by itself.
 type ended struct {
-	status int    // the exit status, or -1 after a signal
-	how    string // such as "exit status 1" or "signal: killed"
+	exit   syscall.WaitStatus
 	output []byte // standard output, all of it
 	stderr []byte // the end of standard error
 }
 
-// read reads what a run reports into result.
+// read reads what a run reports.
 //
-// Errors: if the run failed, and if standard output isn't what result needs. An error of a creation may be a
-// *broker.Rejected.
-func (e ended) read(result any, isCreation bool) error {
-	switch {
-	case e.status == statusDone:
-		return e.decode(result)
-	case e.status == statusRejected && isCreation:
+// Errors: if the run failed, and if standard output isn't the result. An error of a creation may be a *broker.Rejected.
+func (e ended) read(into result, isCreation bool) error {
+	switch status := e.exit.ExitStatus(); {
+	case status == statusDone:
+		if err := e.decode(into); err != nil {
+			return err
+		}
+		return into.check()
+	case status == statusRejected && isCreation:
 		return e.rejected()
-	case e.status == statusDescribed:
+	case status == statusDescribed:
 		return e.described()
-	case e.status == statusUnsupported:
+	case status == statusUnsupported:
 		return e.failed("the program doesn't support this call")
 	}
 	return e.failed("")
 }
 
-// rejected is the error of a creation that the program rejects.
+// rejected is the error of a creation that the program rejects. Many commands exit with status 3 for other reasons. So
+// the run has failed if standard output doesn't have the status of a rejection.
 func (e ended) rejected() error {
 	var given struct {
 		Status      int    `json:"status"`
@@ -53,6 +113,9 @@ func (e ended) rejected() error {
 	}
 	if err := e.decode(&given); err != nil {
 		return err
+	}
+	if given.Status != http.StatusBadRequest && given.Status != http.StatusUnprocessableEntity {
+		return e.failed(`standard output has no "status" of 400 or 422, so this is no rejection`)
 	}
 	rejected := &broker.Rejected{Status: given.Status, Code: given.Error, Description: given.Description}
 	return fmt.Errorf("%w (%v)", rejected, e.failed(""))
@@ -70,24 +133,32 @@ func (e ended) described() error {
 }
 
 // decode reads standard output, if there is any.
-func (e ended) decode(result any) error {
+func (e ended) decode(into any) error {
 	text := bytes.TrimSpace(e.output)
 	if len(text) == 0 {
 		return nil
 	}
-	err := json.Unmarshal(text, result)
+	err := json.Unmarshal(text, into)
 	if err == nil && text[0] != '{' {
 		err = errors.New("it is no object")
 	}
 	if err != nil {
-		return fmt.Errorf("%s: standard output isn't the JSON that is expected: %w", e.how, err)
+		return fmt.Errorf("%s: standard output isn't the JSON that is expected: %w", e.how(), err)
 	}
 	return nil
 }
 
+// how returns how the program exited, such as "exit status 1" or "signal: killed".
+func (e ended) how() string {
+	if e.exit.Exited() {
+		return fmt.Sprintf("exit status %d", e.exit.ExitStatus())
+	}
+	return fmt.Sprintf("signal: %v", e.exit.Signal())
+}
+
 // failed is the error of a run: how it ended, a text if there is one, and the last line of standard error.
 func (e ended) failed(text string) error {
-	said := e.how
+	said := e.how()
 	for _, part := range []string{text, lastLine(e.stderr)} {
 		if part != "" {
 			said += ": " + part

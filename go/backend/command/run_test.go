@@ -7,12 +7,14 @@ import (
 	"io"
 	"os"
 	"path/filepath"
+	"strconv"
 	"strings"
 	"syscall"
 	"testing"
 	"time"
 
 	"pippinterm/broker"
+	"pippinterm/broker/filelock"
 )
 
 func TestMostOutput(t *testing.T) {
@@ -49,6 +51,18 @@ func TestInputThatIsNotRead(t *testing.T) {
 	if err := newBackend(t, Options{}, `[ $(cat | wc -c) -gt 1048576 ]`).Create(ctx, request); err != nil {
 		t.Errorf("a program that reads it: %v", err)
 	}
+}
+
+// A process that runs on, such as a server that is sold, may have the input open.
+func TestInputThatStaysOpen(t *testing.T) {
+	request := instance
+	request.Body = json.RawMessage(`{"parameters": {"x": "` + strings.Repeat("x", 1<<20) + `"}}`)
+	const text = `exec 4<&0; sleep 600 <&4 >/dev/null 2>&1 3>&- & echo $! >pid`
+	backend := newBackend(t, Options{Limit: 20 * time.Second}, text)
+	if err := backend.Create(ctx, request); err != nil {
+		t.Errorf("Create returned %v", err)
+	}
+	ok(t, syscall.Kill(pidOf(t, backend), syscall.SIGKILL)) // it still runs
 }
 
 // A run isn't over before the program has exited and its outputs are closed.
@@ -134,13 +148,8 @@ func locked(t *testing.T, locks broker.Locks) broker.Lock {
 func TestCancel(t *testing.T) {
 	backend := newBackend(t, Options{}, `echo >"$OSB_STATE/started"; `+forked+"wait")
 	started := fifo(t, backend.state+"/started")
-	stopping, stop := context.WithCancel(ctx)
 	lock := locked(t, backend.Locks())
-	ended := make(chan error, 1)
-	go func() { ended <- backend.Create(lock.Context(stopping), instance) }()
-	read(t, started)
-	stop()
-	if err := <-ended; !errors.Is(err, context.Canceled) {
+	if err := canceledCreate(t, backend, lock, started); !errors.Is(err, context.Canceled) {
 		t.Errorf("Create returned %v", err)
 	}
 	lock.Unlock()
@@ -158,25 +167,91 @@ func read(t *testing.T, file *os.File) {
 	}
 }
 
-// A process that has left the group keeps the outputs open, and the run ends nevertheless.
+// A process that has left the group isn't killed. As long as it has the lock or an output open, no other call begins,
+// and nobody gets the lock.
 func TestProcessThatLeftTheGroup(t *testing.T) {
-	backend := newBackend(t, Options{}, `setsid sh -c 'echo >"$OSB_STATE/started"; read line <"$OSB_STATE/go"' & wait`)
-	started, goOn := fifo(t, backend.state+"/started"), fifo(t, backend.state+"/go")
-	backend.limit, backend.grace = 500*time.Millisecond, 50*time.Millisecond
+	const work = `setsid sh -c 'echo >"$OSB_STATE/started"; read line <"$OSB_STATE/go"' `
+	for name, c := range map[string]struct{ text, says string }{
+		"with the lock": {work + ">/dev/null 2>&1 & wait", "context canceled"},
+		"with outputs":  {work + "3>&- & wait", "context canceled; a process that left the process group still runs"},
+	} {
+		t.Run(name, func(t *testing.T) {
+			backend := newBackend(t, Options{Limit: 20 * time.Second}, c.text)
+			backend.grace = 50 * time.Millisecond
+			started, goOn := fifo(t, backend.state+"/started"), fifo(t, backend.state+"/go")
+			lock := locked(t, backend.Locks())
+			err := canceledCreate(t, backend, lock, started)
+			if !errors.Is(err, context.Canceled) || !strings.HasSuffix(err.Error(), c.says) {
+				t.Errorf("Create returned %v", err)
+			}
+			there, err := backend.Look(lock.Context(ctx), instance)
+			if there != broker.None || !errors.Is(err, filelock.ErrLent) {
+				t.Errorf("while the process runs Look returned %v, %v", there, err)
+			}
+			lock.Unlock()
+			if free, err := backend.Locks().TryLock(ctx, instance.Key); free != nil || err != nil {
+				t.Errorf("the lock of a process that still runs is free: %v, %v", free, err)
+			}
+			if _, err := io.WriteString(goOn, "go\n"); err != nil {
+				t.Fatal(err)
+			}
+			locked(t, backend.Locks()).Unlock()
+		})
+	}
+}
+
+// canceledCreate calls Create with a context that is done once the program has started, and returns the error.
+func canceledCreate(t *testing.T, backend bindingsWithCredentials, lock broker.Lock, started *os.File) error {
+	t.Helper()
+	stopping, stop := context.WithCancel(lock.Context(ctx))
+	defer stop()
+	ended := make(chan error, 1)
+	go func() { ended <- backend.Create(stopping, instance) }()
+	read(t, started)
+	stop()
+	return <-ended
+}
+
+// A server that is sold and has the lock open keeps the next call from beginning, though the program has succeeded.
+func TestServerThatHasTheLock(t *testing.T) {
+	backend := newBackend(t, Options{}, `case $1 in
+		create) sleep 600 >/dev/null 2>&1 & echo $! >pid ;;
+		look) echo '{"exists": "whole"}' ;;
+	esac`)
+	backend.grace = 20 * time.Millisecond
 	lock := locked(t, backend.Locks())
-	err := backend.Create(lock.Context(ctx), instance)
-	if err == nil || !strings.Contains(err.Error(), "a process that left it") {
+	defer lock.Unlock()
+	ok(t, backend.Create(lock.Context(ctx), instance))
+	there, err := backend.Look(lock.Context(ctx), instance)
+	if there != broker.None || !errors.Is(err, filelock.ErrLent) {
+		t.Errorf("while the server runs Look returned %v, %v", there, err)
+	}
+	ok(t, syscall.Kill(pidOf(t, backend), syscall.SIGKILL))
+	backend.grace = 10 * time.Second
+	if there, err := backend.Look(lock.Context(ctx), instance); there != broker.Whole || err != nil {
+		t.Errorf("after the server has ended Look returned %v, %v", there, err)
+	}
+}
+
+// pidOf returns the number that the program has written to its file pid.
+func pidOf(t *testing.T, backend bindingsWithCredentials) int {
+	t.Helper()
+	text, err := os.ReadFile(filepath.Join(backend.state, "pid"))
+	ok(t, err)
+	pid, err := strconv.Atoi(strings.TrimSpace(string(text)))
+	ok(t, err)
+	return pid
+}
+
+// Once its context is done, no call begins.
+func TestCallThatDoesNotBegin(t *testing.T) {
+	backend := newBackend(t, Options{}, "")
+	stopped, stop := context.WithCancel(ctx)
+	stop()
+	err := backend.Create(stopped, instance)
+	if !errors.Is(err, context.Canceled) || strings.Contains(err.Error(), "killed") {
 		t.Errorf("Create returned %v", err)
 	}
-	read(t, started)
-	lock.Unlock()
-	if free, err := backend.Locks().TryLock(ctx, instance.Key); free != nil || err != nil {
-		t.Errorf("the lock of a process that still runs is free: %v, %v", free, err)
-	}
-	if _, err := io.WriteString(goOn, "go\n"); err != nil {
-		t.Fatal(err)
-	}
-	locked(t, backend.Locks()).Unlock()
 }
 
 // A run without a lock has no descriptor 3.
@@ -192,18 +267,31 @@ func TestDescriptors(t *testing.T) {
 	}
 }
 
-// Runs leave neither open files nor children behind.
+// Runs leave neither open files nor children behind, also if they don't begin.
 func TestRunsLeaveNothing(t *testing.T) {
 	backend := newBackend(t, Options{}, "exit 1")
+	lock := locked(t, backend.Locks())
+	defer lock.Unlock()
 	before := openFiles(t)
 	for n := 0; n < 5; n++ {
-		_ = backend.Create(ctx, instance)
+		_ = backend.Create(lock.Context(ctx), instance)
 	}
-	broken := *backend.program
-	broken.path += "-that-does-not-exist"
-	if _, err := broken.run(ctx, "look", nil, nil); !errors.Is(err, os.ErrNotExist) {
+	backend.path += "-that-does-not-exist"
+	err := backend.Create(lock.Context(ctx), instance)
+	if err == nil || !strings.Contains(err.Error(), "exit status 127: ") {
 		t.Errorf("a program that was deleted: %v", err)
 	}
+	backend.timeout += "-that-does-not-exist"
+	if err := backend.Create(lock.Context(ctx), instance); !errors.Is(err, os.ErrNotExist) {
+		t.Errorf("without the command timeout: %v", err)
+	}
+	lent, err := filelock.Lend(lock.Context(ctx), time.Minute)
+	ok(t, err)
+	backend.grace = 10 * time.Millisecond
+	if err := backend.Create(lock.Context(ctx), instance); !errors.Is(err, filelock.ErrLent) {
+		t.Errorf("with a lock that is lent: %v", err)
+	}
+	ok(t, lent.Close())
 	if after := openFiles(t); after != before {
 		t.Errorf("%d files are open, and %d were open before", after, before)
 	}
@@ -221,20 +309,35 @@ func openFiles(t *testing.T) int {
 	return len(found)
 }
 
-// What a run that failed has left in the background is killed.
+// What a run that failed has left in the background is killed, whatever made it fail.
 func TestFailureEndsTheGroup(t *testing.T) {
-	state := t.TempDir()
-	backend := newBackend(t, Options{State: state}, "sleep 600 >/dev/null 2>&1 3>&- & echo $! >pid; exit 1")
-	if err := backend.Create(ctx, binding); err == nil {
-		t.Fatal("create returned no error")
+	for name, end := range map[string]string{
+		"a status": "exit 1", "no JSON": "echo done", "too much output": `head -c 1048577 /dev/zero | tr '\0' ' '`,
+	} {
+		t.Run(name, func(t *testing.T) {
+			backend := newBackend(t, Options{}, "sleep 600 >/dev/null 2>&1 3>&- & echo $! >pid; "+end)
+			if err := backend.Create(ctx, instance); err == nil {
+				t.Fatal("create returned no error")
+			}
+			waitForEnd(t, pidOf(t, backend))
+		})
 	}
-	text, err := os.ReadFile(filepath.Join(state, "pid"))
-	if err != nil {
-		t.Fatal(err)
+}
+
+// What a look has left that reports no existence is killed too.
+func TestBadResultEndsTheGroup(t *testing.T) {
+	backend := newBackend(t, Options{}, `sleep 600 >/dev/null 2>&1 3>&- & echo $! >pid; echo '{"exists": "no"}'`)
+	if _, err := backend.Look(ctx, instance); err == nil {
+		t.Fatal("look returned no error")
 	}
-	process := "/proc/" + strings.TrimSpace(string(text))
+	waitForEnd(t, pidOf(t, backend))
+}
+
+// waitForEnd returns once a process has ended. It fails if that takes longer than ten seconds.
+func waitForEnd(t *testing.T, pid int) {
+	t.Helper()
 	for end := time.Now().Add(10 * time.Second); ; time.Sleep(time.Millisecond) {
-		stat, err := os.ReadFile(process + "/stat")
+		stat, err := os.ReadFile("/proc/" + strconv.Itoa(pid) + "/stat")
 		if err != nil || strings.Contains(string(stat), ") Z ") {
 			return
 		}

@@ -2,10 +2,14 @@
 
 // Package filelock has locks for the processes of one machine, all in one file.
 //
-// A lock is one byte of the file, locked for one open of the file (F_OFD_SETLK of Linux). So two goroutines of one
-// process exclude each other, as two processes do. A child process that inherits the open file has the lock until it
-// exits or closes the file, even if the process that took the lock is killed. If nobody inherits the file, the lock
-// ends with its process.
+// A lock is two bytes of the file, locked for one open of the file (F_OFD_SETLK of Linux). So two goroutines of one
+// process exclude each other, as two processes do, and a lock ends with its process.
+//
+// Lend opens the file once more, and moves the second byte to that open file, for a child process to inherit. The
+// second byte is locked until every process that has inherited the file has exited or closed it, even if the process
+// that took the lock is killed. Whoever takes a lock needs both bytes. So nobody takes a lock that somebody else has,
+// or that a child of an earlier holder has. The holder keeps the first byte, so it can lend the second one to one child
+// after another, and knows by the second byte whether the last child has ended.
 //
 // The locks are for local file systems. On a network file system, another machine may not see them.
 package filelock
@@ -14,9 +18,9 @@ import (
 	"context"
 	"crypto/sha256"
 	"encoding/binary"
+	"errors"
 	"fmt"
 	"os"
-	"sync/atomic"
 	"syscall"
 	"time"
 
@@ -26,11 +30,14 @@ import (
 // setLock is F_OFD_SETLK of Linux (fcntl.h), which package syscall doesn't have.
 const setLock = 37
 
-// Lock tries again after shortestPause at first, and after longestPause at most.
+// Whoever waits tries again after shortestPause at first, and after longestPause at most.
 const (
 	shortestPause = time.Millisecond
 	longestPause  = 20 * time.Millisecond
 )
+
+// ErrLent reports that a process still has an open file that Lend has returned before.
+var ErrLent = errors.New("a process still has the lock that it inherited")
 
 // Locks are broker.Locks in one file. Any number of goroutines and processes use the file at once.
 type Locks struct {
@@ -57,7 +64,7 @@ func New(path string) (*Locks, error) {
 	return &Locks{path: path, file: found}, nil
 }
 
-// CanBeLost returns false: a lock ends only by Unlock, or with the processes that have its file open.
+// CanBeLost returns false: a lock ends only by Unlock, or with its process.
 func (l *Locks) CanBeLost() bool { return false }
 
 // TryLock returns the lock of a key, or nil if somebody else has it. It doesn't wait.
@@ -69,13 +76,13 @@ func (l *Locks) TryLock(_ context.Context, key broker.Key) (broker.Lock, error) 
 	if err != nil {
 		return nil, err
 	}
-	at := byteOf(key)
-	isLocked, err := try(file, at)
+	bytes := bytesOf(key)
+	isLocked, err := try(file, bytes)
 	if err != nil || !isLocked {
 		_ = file.Close()
 		return nil, err
 	}
-	return &lock{file: file, at: at}, nil
+	return &lock{locks: l, file: file, bytes: bytes}, nil
 }
 
 // Lock waits for the lock of a key until ctx is done. It tries again after 1 ms, and then after longer pauses of at
@@ -87,21 +94,21 @@ func (l *Locks) Lock(ctx context.Context, key broker.Key) (broker.Lock, error) {
 	if err != nil {
 		return nil, err
 	}
-	at := byteOf(key)
-	if err := wait(ctx, file, at); err != nil {
+	bytes := bytesOf(key)
+	if err := wait(ctx, file, bytes); err != nil {
 		_ = file.Close()
 		return nil, err
 	}
-	return &lock{file: file, at: at}, nil
+	return &lock{locks: l, file: file, bytes: bytes}, nil
 }
 
-// wait returns once the byte is locked.
-func wait(ctx context.Context, file *os.File, at int64) error {
+// wait returns once the bytes are locked.
+func wait(ctx context.Context, file *os.File, bytes span) error {
 	for pause := shortestPause; ; pause *= 2 {
 		if err := ctx.Err(); err != nil {
 			return fmt.Errorf("filelock: waiting for a lock: %w", err)
 		}
-		if isLocked, err := try(file, at); err != nil || isLocked {
+		if isLocked, err := try(file, bytes); err != nil || isLocked {
 			return err
 		}
 		if pause > longestPause {
@@ -129,7 +136,8 @@ func (l *Locks) open() (*os.File, error) {
 	}
 	if found.Dev != l.file.Dev || found.Ino != l.file.Ino {
 		_ = file.Close()
-		return nil, fmt.Errorf("filelock: %s was replaced. Stop every process that uses it, and start them again", l.path)
+		return nil, fmt.Errorf("filelock: %s was replaced. Stop every process that uses it, and start them again",
+			l.path)
 	}
 	return file, nil
 }
@@ -151,61 +159,99 @@ func open(path string, flags int) (file *os.File, found syscall.Stat_t, err erro
 	return os.NewFile(uintptr(descriptor), path), found, nil
 }
 
-// try locks one byte of the file, and returns whether it did. It returns false if somebody else has locked the byte.
-func try(file *os.File, at int64) (bool, error) {
-	err := set(file, at, syscall.F_WRLCK)
-	switch err {
-	case nil:
+// A span is bytes of the file: the first one, and how many.
+type span struct{ start, length int64 }
+
+// bytesOf returns the two bytes of a key, from 0 to 2^62-1. Two keys with the same bytes wait for each other.
+func bytesOf(key broker.Key) span {
+	hash := sha256.Sum256([]byte(key.String()))
+	return span{start: int64(binary.BigEndian.Uint64(hash[:8])>>2) &^ 1, length: 2}
+}
+
+// second returns the byte that is lent.
+func (s span) second() span { return span{start: s.start + 1, length: 1} }
+
+// try locks bytes of the file, all of them or none, and returns whether it did. It returns false if somebody else has
+// locked one of them.
+func try(file *os.File, bytes span) (bool, error) {
+	err := set(file, bytes, syscall.F_WRLCK)
+	switch {
+	case err == nil:
 		return true, nil
-	case syscall.EAGAIN, syscall.EACCES:
+	case errors.Is(err, syscall.EAGAIN), errors.Is(err, syscall.EACCES):
 		return false, nil
 	}
-	return false, fmt.Errorf("filelock: %w", &os.PathError{Op: "fcntl", Path: file.Name(), Err: err})
+	return false, err
 }
 
-// set locks or unlocks one byte of the file.
-func set(file *os.File, at int64, kind int16) error {
-	return syscall.FcntlFlock(file.Fd(), setLock, &syscall.Flock_t{Type: kind, Start: at, Len: 1})
+// set locks or unlocks bytes of the file.
+func set(file *os.File, bytes span, kind int16) error {
+	flock := syscall.Flock_t{Type: kind, Start: bytes.start, Len: bytes.length}
+	if err := syscall.FcntlFlock(file.Fd(), setLock, &flock); err != nil {
+		return fmt.Errorf("filelock: %w", &os.PathError{Op: "fcntl", Path: file.Name(), Err: err})
+	}
+	return nil
 }
 
-// byteOf returns the byte of a key, from 0 to 2^62-1. Two keys with the same byte wait for each other.
-func byteOf(key broker.Key) int64 {
-	hash := sha256.Sum256([]byte(key.String()))
-	return int64(binary.BigEndian.Uint64(hash[:8]) >> 2)
-}
-
-// A lock is an open file with one locked byte.
+// A lock is an open file, which no process inherits, with the first byte locked. The second one is locked for the same
+// open file, or for the one that Lend has returned last.
 type lock struct {
-	file     *os.File
-	at       int64
-	isShared atomic.Bool // whether File has returned the file
+	locks *Locks
+	file  *os.File
+	bytes span
 }
 
 type lockKey struct{}
 
-// Context returns a context from which File returns the open file.
+// Context returns a context from which Lend lends the lock.
 func (l *lock) Context(ctx context.Context) context.Context {
 	return context.WithValue(ctx, lockKey{}, l)
 }
 
-// Unlock closes the file. If File has returned it, a child process may have it open too: then the lock ends with that
-// process. So only a byte that isn't shared is unlocked explicitly. That is needed, because between fork and exec any
-// process that is being started has the file open for a moment. For a shared lock, that moment passes after Unlock.
+// Unlock unlocks the bytes and closes the file. A second byte that is lent stays locked. Closing alone isn't enough,
+// because between fork and exec any process that is being started has the file open for a moment.
 func (l *lock) Unlock() {
-	if !l.isShared.Load() {
-		_ = set(l.file, l.at, syscall.F_UNLCK)
-	}
+	_ = set(l.file, l.bytes, syscall.F_UNLCK)
 	_ = l.file.Close()
 }
 
-// File returns the open file of the lock whose Context a context comes from, or nil if there is none. Hand it to a
-// child process (exec.Cmd.ExtraFiles), which has the lock then until it exits or closes the file. Don't close it, and
-// don't use it after Unlock.
-func File(ctx context.Context) *os.File {
+// Lend returns an open file for a child process to inherit (exec.Cmd.ExtraFiles), or nil if ctx doesn't come from the
+// Context of a lock of this package. As long as any process has the file open, nobody else gets the lock, even after
+// Unlock, and even if this process is killed. The caller closes the file, at the earliest once the child has started.
+//
+// A lock lends one file at a time. If any process still has the file that was lent before, Lend waits for its end, and
+// nobody else gets the lock meanwhile. Don't call Lend from two goroutines at once, or after Unlock.
+//
+// Errors: ErrLent, if a process still has that file after the time within; that of ctx, if it is done; those of
+// TryLock. Nothing is lent then, and the lock stays.
+func Lend(ctx context.Context, within time.Duration) (*os.File, error) {
 	l, ok := ctx.Value(lockKey{}).(*lock)
 	if !ok {
-		return nil
+		return nil, nil
 	}
-	l.isShared.Store(true)
-	return l.file
+	file, err := l.locks.open()
+	if err != nil {
+		return nil, err
+	}
+	if err := l.moveTo(ctx, file, within); err != nil {
+		_ = file.Close()
+		return nil, err
+	}
+	return file, nil
+}
+
+// moveTo moves the second byte from the lock's own file, or the file that was lent before, to another one. Nobody else
+// can get it in between, because whoever else tries needs the first byte too.
+func (l *lock) moveTo(ctx context.Context, file *os.File, within time.Duration) error {
+	second := l.bytes.second()
+	if err := set(l.file, second, syscall.F_UNLCK); err != nil {
+		return err
+	}
+	limited, cancel := context.WithTimeout(ctx, within)
+	defer cancel()
+	err := wait(limited, file, second)
+	if errors.Is(err, context.DeadlineExceeded) && ctx.Err() == nil {
+		return fmt.Errorf("filelock: %w (its file is %s)", ErrLent, l.locks.path)
+	}
+	return err
 }

@@ -137,18 +137,19 @@ func openFiles(t *testing.T) int {
 	return len(found)
 }
 
-func TestContextCarriesTheFile(t *testing.T) {
+func TestLentFile(t *testing.T) {
 	path := filepath.Join(t.TempDir(), "locks")
 	lock := locked(t, newLocks(t, path), one)
 	defer lock.Unlock()
-	if File(context.Background()) != nil {
-		t.Error("a context without a lock has a file")
+	if lent, err := Lend(context.Background(), time.Second); lent != nil || err != nil {
+		t.Errorf("without a lock Lend returned %v, %v", lent, err)
 	}
-	file := File(lock.Context(context.Background()))
-	if file == nil || file.Name() != path {
-		t.Fatalf("the file of the lock is %v", file)
+	lent := lend(t, lock)
+	defer lent.Close()
+	if lent.Name() != path {
+		t.Fatalf("the file is %s", lent.Name())
 	}
-	flags, _, errno := syscall.Syscall(syscall.SYS_FCNTL, file.Fd(), syscall.F_GETFD, 0)
+	flags, _, errno := syscall.Syscall(syscall.SYS_FCNTL, lent.Fd(), syscall.F_GETFD, 0)
 	if errno != 0 || flags&syscall.FD_CLOEXEC == 0 {
 		t.Errorf("the file isn't closed on exec: flags %d, %v", flags, errno)
 	}
@@ -201,6 +202,9 @@ func TestFileThatWasReplaced(t *testing.T) {
 	}
 	if lock, err := locks.Lock(context.Background(), one); lock != nil || err == nil {
 		t.Errorf("after the file was replaced Lock returned %v, %v", lock, err)
+	}
+	if lent, err := Lend(lock.Context(context.Background()), time.Second); lent != nil || err == nil {
+		t.Errorf("after the file was replaced Lend returned %v, %v", lent, err)
 	}
 }
 

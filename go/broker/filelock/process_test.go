@@ -3,6 +3,7 @@ package filelock
 import (
 	"bufio"
 	"context"
+	"errors"
 	"fmt"
 	"io"
 	"os"
@@ -10,6 +11,7 @@ import (
 	"path/filepath"
 	"syscall"
 	"testing"
+	"time"
 
 	"pippinterm/broker"
 )
@@ -31,7 +33,7 @@ func TestMain(m *testing.M) {
 }
 
 // play takes the lock, writes a line, and then keeps the lock until standard input ends: itself (holder), or by a child
-// that inherits the file and the standard input (parent).
+// that inherits the lock and the standard input (parent).
 func play(role string) error {
 	locks, err := New(os.Getenv(pathVariable))
 	if err != nil {
@@ -42,9 +44,13 @@ func play(role string) error {
 		return err
 	}
 	if role == "parent" {
+		lent, err := Lend(lock.Context(context.Background()), time.Second)
+		if err != nil {
+			return err
+		}
 		child := exec.Command("cat")
 		child.Stdin = os.Stdin
-		child.ExtraFiles = []*os.File{File(lock.Context(context.Background()))}
+		child.ExtraFiles = []*os.File{lent}
 		if err := child.Start(); err != nil {
 			return err
 		}
@@ -117,7 +123,7 @@ func TestChildKeepsTheLockOfAKilledProcess(t *testing.T) {
 	parent := start(t, "parent", path)
 	kill(t, parent.cmd)
 	if isFree(t, locks, one) {
-		t.Error("the lock is free while a child has its file open")
+		t.Error("the lock is free while a child has it")
 	}
 	_ = parent.input.Close() // the child exits
 	locked(t, locks, one).Unlock()
@@ -138,7 +144,7 @@ func TestChildKeepsTheLockAfterUnlock(t *testing.T) {
 	child, end := catWith(t, lock)
 	lock.Unlock()
 	if isFree(t, locks, one) {
-		t.Error("the lock is free while a child has its file open")
+		t.Error("the lock is free while a child has it")
 	}
 	_ = end.Close()
 	_ = child.Wait()
@@ -153,7 +159,7 @@ func TestOtherChildrenDoNotInherit(t *testing.T) {
 	child, end := catWith(t, nil)
 	lock.Unlock()
 	if !isFree(t, locks, one) {
-		t.Error("a child that wasn't handed the file has the lock")
+		t.Error("a child that the lock wasn't lent to has it")
 	}
 	_ = end.Close()
 	_ = child.Wait()
@@ -190,12 +196,14 @@ func TestUnlockWhileProcessesStart(t *testing.T) {
 	}
 }
 
-// catWith starts a process that inherits the file of a lock, if there is one. It runs until its input is closed.
+// catWith starts a process that inherits a lock, if there is one. It runs until its input is closed.
 func catWith(t *testing.T, lock broker.Lock) (*exec.Cmd, io.Closer) {
 	t.Helper()
 	child := exec.Command("cat")
 	if lock != nil {
-		child.ExtraFiles = []*os.File{File(lock.Context(context.Background()))}
+		lent := lend(t, lock)
+		defer lent.Close()
+		child.ExtraFiles = []*os.File{lent}
 	}
 	input, err := child.StdinPipe()
 	if err != nil {
@@ -205,4 +213,85 @@ func catWith(t *testing.T, lock broker.Lock) (*exec.Cmd, io.Closer) {
 		t.Fatal(err)
 	}
 	return child, input
+}
+
+// lend lends a lock. It fails if that isn't possible within ten seconds.
+func lend(t *testing.T, lock broker.Lock) *os.File {
+	t.Helper()
+	lent, err := Lend(lock.Context(context.Background()), 10*time.Second)
+	if err != nil {
+		t.Fatal(err)
+	}
+	return lent
+}
+
+// While a child has the lock, it isn't lent to another one, and nobody else gets it. Afterwards it is lent again.
+func TestLendToOneChildAtATime(t *testing.T) {
+	locks := newLocks(t, filepath.Join(t.TempDir(), "locks"))
+	lock := locked(t, locks, one)
+	defer lock.Unlock()
+	child, end := catWith(t, lock)
+	lent, err := Lend(lock.Context(context.Background()), 20*time.Millisecond)
+	if lent != nil || !errors.Is(err, ErrLent) {
+		t.Errorf("while a child has the lock Lend returned %v, %v", lent, err)
+	}
+	stopped, stop := context.WithCancel(context.Background())
+	stop()
+	if lent, err := Lend(lock.Context(stopped), time.Minute); lent != nil || !errors.Is(err, context.Canceled) {
+		t.Errorf("with a context that is done Lend returned %v, %v", lent, err)
+	}
+	if isFree(t, locks, one) {
+		t.Error("the lock is free after Lend has failed")
+	}
+	_ = end.Close()
+	_ = child.Wait()
+	_ = lend(t, lock).Close()
+}
+
+// Lend waits for the end of the child that the lock was lent to.
+func TestLendWaits(t *testing.T) {
+	lock := locked(t, newLocks(t, filepath.Join(t.TempDir(), "locks")), one)
+	defer lock.Unlock()
+	child, end := catWith(t, lock)
+	go func() {
+		time.Sleep(20 * time.Millisecond)
+		_ = end.Close()
+	}()
+	_ = lend(t, lock).Close()
+	if err := child.Wait(); err != nil {
+		t.Error(err)
+	}
+}
+
+// Nobody else gets a lock while its holder lends it and takes it back, again and again.
+func TestLockStaysWhileItIsLent(t *testing.T) {
+	path := filepath.Join(t.TempDir(), "locks")
+	lock := locked(t, newLocks(t, path), one)
+	others := newLocks(t, path)
+	done := make(chan struct{})
+	tried := make(chan int)
+	go func() {
+		count := 0
+		defer func() { tried <- count }()
+		for {
+			select {
+			case <-done:
+				return
+			default:
+			}
+			taken, err := others.TryLock(context.Background(), one)
+			if taken != nil || err != nil {
+				t.Errorf("after %d tries TryLock returned %v, %v", count, taken, err)
+				return
+			}
+			count++
+		}
+	}()
+	for n := 0; n < 2000; n++ {
+		_ = lend(t, lock).Close()
+	}
+	close(done)
+	t.Logf("the other goroutine tried %d times", <-tried)
+	lock.Unlock()
+	locked(t, others, one).Unlock()
 }
