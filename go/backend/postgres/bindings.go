@@ -6,8 +6,11 @@ import (
 	"encoding/json"
 	"fmt"
 
+	"github.com/lib/pq"
+
 	"pippinterm/broker"
 	"pippinterm/broker/crash"
+	"pippinterm/broker/postgres/session"
 )
 
 // binding returns what is found of a binding, and of its instance. It fails unless both are this store's. The request
@@ -60,7 +63,7 @@ func (d *Databases) CreateBinding(ctx context.Context, request broker.Request) (
 	if !of.hasRole || !of.hasDatabase {
 		return nil, fmt.Errorf("the database %s doesn't exist", of.name)
 	}
-	if err := d.removeBinding(ctx, conn, own, of.name); err != nil {
+	if err := d.removeBinding(ctx, conn, request.Key, own, of); err != nil {
 		return nil, err
 	}
 	if err := d.createRole(ctx, conn, request.Key, "LOGIN"); err != nil {
@@ -70,13 +73,16 @@ func (d *Databases) CreateBinding(ctx context.Context, request broker.Request) (
 }
 
 // DeleteBinding ends the sessions of a binding, and drops its role. The sessions of other bindings go on, except those
-// whose open transaction has granted something to the role. The instance's role gets what the role owns.
+// whose open transaction has granted something to the role, or has changed a role. The instance's role gets what the
+// role owns.
+//
+// The application acted as the instance's role, so it could give that role a password. DeleteBinding gives it the
+// broker's password again, and ends its sessions.
 //
 // From the first step on nobody can log in with the binding. DeleteBinding can still fail then, and has to be called
-// again, if the role owns something in the database, and other sessions hold a lock on it or have taken all
-// connections.
+// again, if the role owns something in the database, and other sessions hold a lock on it.
 //
-// Errors: ErrForeign; those of the server.
+// Errors: ErrForeign; ErrWrongKey if the key has been changed by Rekey; those of the server.
 func (d *Databases) DeleteBinding(ctx context.Context, request broker.Request) error {
 	conn, err := sessionOf(ctx, request.Key)
 	if err != nil {
@@ -86,10 +92,10 @@ func (d *Databases) DeleteBinding(ctx context.Context, request broker.Request) e
 	if err != nil {
 		return err
 	}
-	return d.removeBinding(ctx, conn, own, of.name)
+	return d.removeBinding(ctx, conn, request.Key, own, of)
 }
 
-func (d *Databases) removeBinding(ctx context.Context, conn *sql.Conn, own found, heir string) error {
+func (d *Databases) removeBinding(ctx context.Context, conn *sql.Conn, key broker.Key, own, of found) error {
 	if !own.hasRole {
 		return nil
 	}
@@ -101,6 +107,52 @@ func (d *Databases) removeBinding(ctx context.Context, conn *sql.Conn, own found
 			return err
 		}
 		crash.At("binding-half")
-		return d.dropRole(ctx, conn, own.name, heir)
+		if err := endSessions(ctx, conn, "", []string{own.name}, endWait); err != nil {
+			return err
+		}
+		if of.hasRole {
+			if err := d.renewPassword(ctx, conn, broker.InstanceKey(key.Instance)); err != nil {
+				return err
+			}
+		}
+		return d.dropRole(ctx, conn, own.name, of.name)
 	})
+}
+
+// The sessions of the role of an instance, and those of its bindings that have changed a role in an open transaction.
+const selectEndOwner = `
+SELECT pg_terminate_backend(pid) FROM pg_stat_activity AS a
+WHERE pid <> pg_backend_pid() AND backend_type = 'client backend' AND pg_has_role(usesysid, 'USAGE')
+    AND (usename = $1::text OR starts_with(usename, $1::text || '_') AND EXISTS (SELECT FROM pg_locks AS l
+        WHERE l.pid = a.pid AND relation = 'pg_authid'::regclass AND mode = 'RowExclusiveLock'))
+`
+
+// Two sessions that alter one role at a time fail, so those that renew a password take turns.
+const selectTurn = "SELECT pg_advisory_xact_lock(hashtextextended('osb password ' || $1::text, 0))"
+
+// renewPassword gives the role of an instance the broker's password, and ends the sessions that were opened with
+// another one.
+func (d *Databases) renewPassword(ctx context.Context, conn *sql.Conn, instance broker.Key) error {
+	name := NameOf(instance)
+	verifier, err := verifierOf(PasswordOf(d.options.Key, instance))
+	if err != nil {
+		return err
+	}
+	if _, err := conn.ExecContext(ctx, selectEndOwner, name); err != nil { // they may hold up what follows
+		return err
+	}
+	err = session.Transaction(ctx, conn, func(tx *sql.Tx) (bool, error) {
+		if _, err := d.lockOwner(ctx, tx); err != nil {
+			return false, err
+		}
+		if _, err := tx.ExecContext(ctx, selectTurn, name); err != nil {
+			return false, err
+		}
+		return true, execAll(ctx, tx, "ALTER ROLE "+quote(name)+" PASSWORD "+pq.QuoteLiteral(verifier))
+	})
+	if err != nil {
+		return err
+	}
+	_, err = conn.ExecContext(ctx, selectEndOwner, name)
+	return err
 }

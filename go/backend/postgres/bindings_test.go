@@ -2,6 +2,8 @@ package postgres_test
 
 import (
 	"context"
+	"database/sql"
+	"fmt"
 	"strconv"
 	"strings"
 	"testing"
@@ -124,6 +126,140 @@ func TestWhoWasBoundIsOut(t *testing.T) {
 	}
 }
 
+// Who was bound acts as the instance's role, and can give it a password. After the Unbind that password is worth
+// nothing, and neither are sessions that were opened with it. The broker's own password opens again.
+func TestWhoWasBoundDoesNotComeBack(t *testing.T) {
+	r := newRig(t)
+	d := r.open()
+	it := created(t, d)
+	name := postgres.NameOf(it.request.Key)
+	bind, one := bound(t, d, it.request.Key)
+	_, two := bound(t, d, it.request.Key)
+	other := hold(t, r.login(two.Username, two.Password, two.Database), "BEGIN", "CREATE TABLE t (x integer)")
+	hold(t, r.login(one.Username, one.Password, one.Database), "ALTER ROLE CURRENT_USER PASSWORD 'of the application'")
+	inside := hold(t, r.login(name, "of the application", name), "SELECT 1")
+	wantQuick(t, "DeleteBinding", func() error { return d.DeleteBinding(bind.ctx, bind.request) })
+	if _, err := inside.ExecContext(context.Background(), "SELECT 1"); err == nil {
+		t.Error("the session goes on")
+	}
+	if err := r.login(name, "of the application", name).Ping(); err == nil {
+		t.Error("the application's password still opens")
+	}
+	if err := r.customer(it.request.Key).Ping(); err != nil {
+		t.Errorf("the broker's password doesn't open: %v", err)
+	}
+	if _, err := other.ExecContext(context.Background(), "COMMIT"); err != nil {
+		t.Errorf("the other binding: %v", err)
+	}
+}
+
+// Another customer who was let into the database keeps nobody from being unbound.
+func TestAStrangerInTheDatabase(t *testing.T) {
+	r := newRig(t)
+	d := r.open()
+	it, stranger := created(t, d), created(t, d)
+	bind, one := bound(t, d, it.request.Key)
+	_, two := bound(t, d, it.request.Key)
+	name, strangers := postgres.NameOf(it.request.Key), postgres.NameOf(stranger.request.Key)
+	pgtest.Exec(t, r.customer(it.request.Key), "GRANT CONNECT ON DATABASE "+name+" TO "+strangers)
+	pgtest.Exec(t, r.login(one.Username, one.Password, one.Database), "SET ROLE NONE; CREATE TABLE t (x integer)",
+		"SET ROLE NONE; GRANT ALL ON t TO PUBLIC")
+	other := hold(t, r.login(two.Username, two.Password, two.Database), "BEGIN", "CREATE TABLE u (x integer)")
+	hold(t, r.login(strangers, postgres.PasswordOf(secret, stranger.request.Key), name), "BEGIN",
+		"INSERT INTO t VALUES (1)")
+	wantQuick(t, "DeleteBinding", func() error { return d.DeleteBinding(bind.ctx, bind.request) })
+	wantThere(t, d, bind, broker.None)
+	if _, err := other.ExecContext(context.Background(), "COMMIT"); err != nil {
+		t.Errorf("the other binding: %v", err)
+	}
+}
+
+// A role that owns more than one transaction can lock is dropped all the same: that of a binding, whose instance gets
+// it, and that of an instance, which owns it in the database of another customer.
+func TestARoleThatOwnsALot(t *testing.T) {
+	if testing.Short() {
+		t.Skip("it takes many seconds")
+	}
+	r := newRig(t)
+	d := r.open()
+	it, other := created(t, d), created(t, d)
+	bind, one := bound(t, d, it.request.Key)
+	name, others := postgres.NameOf(it.request.Key), postgres.NameOf(other.request.Key)
+	count := createMany(t, r, r.login(one.Username, one.Password, one.Database))
+	if err := d.DeleteBinding(bind.ctx, bind.request); err != nil {
+		t.Errorf("DeleteBinding: %v", err)
+	}
+	in := &rig{t: t, admin: pgtest.DB(t, pgtest.In(t, pgtest.URL(t), name))}
+	got := in.column("SELECT count(*)::text FROM pg_views WHERE schemaname = 's' AND viewowner = $1", name)
+	if len(got) != 1 || got[0] != count {
+		t.Errorf("the instance has %v views of %s", got, count)
+	}
+	_ = in.admin.Close() // the broker can't end a superuser's session
+	pgtest.Exec(t, r.customer(other.request.Key), "GRANT ALL ON DATABASE "+others+" TO "+name)
+	createMany(t, r, r.login(name, postgres.PasswordOf(secret, it.request.Key), others))
+	if err := d.Delete(it.ctx, it.request); err != nil {
+		t.Errorf("Delete: %v", err)
+	}
+	r.wantNothing(it.request.Key)
+	wantThere(t, d, other, broker.Whole)
+}
+
+// createMany creates more views than one transaction can lock, as the role that has logged in, and returns how many.
+func createMany(t *testing.T, r *rig, db *sql.DB) string {
+	t.Helper()
+	most, err := strconv.Atoi(r.column("SELECT (current_setting('max_locks_per_transaction')::integer * " +
+		"current_setting('max_connections')::integer)::text")[0])
+	if err != nil {
+		t.Fatal(err)
+	}
+	conn := hold(t, db, "SET ROLE NONE", "CREATE SCHEMA s")
+	count := 0
+	for ; count < 3*most; count += 1000 { // the server has some spare room
+		if _, err := conn.ExecContext(context.Background(), fmt.Sprintf("DO $$ BEGIN FOR n IN %d..%d LOOP "+
+			"EXECUTE 'CREATE VIEW s.v' || n || ' AS SELECT 1'; END LOOP; END $$", count, count+999)); err != nil {
+			t.Fatal(err)
+		}
+	}
+	return strconv.Itoa(count)
+}
+
+// Bindings of one instance are unbound side by side.
+func TestUnbindSideBySide(t *testing.T) {
+	r := newRig(t)
+	const count = 24
+	d := r.open(func(o *postgres.Options) { o.Sessions = count + 1 })
+	it := created(t, d)
+	binds := make([]locked, count)
+	for n := range binds {
+		binds[n], _ = bound(t, d, it.request.Key)
+	}
+	given := make(chan error, count)
+	for _, bind := range binds {
+		bind := bind
+		go func() { given <- d.DeleteBinding(bind.ctx, bind.request) }()
+	}
+	for range binds {
+		if err := <-given; err != nil {
+			t.Errorf("DeleteBinding: %v", err)
+		}
+	}
+}
+
+// A binding that holds up the instance's role keeps no other one from being unbound.
+func TestABindingThatHoldsTheInstancesRole(t *testing.T) {
+	r := newRig(t)
+	d := r.open()
+	it := created(t, d)
+	bind, _ := bound(t, d, it.request.Key)
+	_, two := bound(t, d, it.request.Key)
+	hold(t, r.login(two.Username, two.Password, two.Database), "BEGIN", "ALTER ROLE CURRENT_USER PASSWORD 'x'")
+	wantQuick(t, "DeleteBinding", func() error { return d.DeleteBinding(bind.ctx, bind.request) })
+	wantThere(t, d, bind, broker.None)
+	if err := r.customer(it.request.Key).Ping(); err != nil {
+		t.Errorf("the broker's password doesn't open: %v", err)
+	}
+}
+
 // What a binding owns by its own role, and what was granted to that, keeps nobody from unbinding.
 func TestWhatABindingOwns(t *testing.T) {
 	r := newRig(t)
@@ -140,7 +276,8 @@ func TestWhatABindingOwns(t *testing.T) {
 		{"a right in an open transaction", []string{"CREATE TABLE t (x integer)"}, nil,
 			[]string{"BEGIN", "GRANT SELECT ON t TO $role"}, true},
 		{"settings that are in the way", nil, []string{"SET ROLE NONE", "CREATE TABLE t (x integer)"}, []string{
-			"ALTER DATABASE $name SET default_transaction_read_only = on", "ALTER DATABASE $name SET role = '$name'"}, true},
+			"ALTER DATABASE $name SET default_transaction_read_only = on", "ALTER DATABASE $name SET role = '$name'"},
+			true},
 	} {
 		t.Run(it.name, func(t *testing.T) {
 			instance := created(t, d)

@@ -102,9 +102,15 @@ func TestWhatAnotherCustomerHolds(t *testing.T) {
 	}{
 		{"granted", []string{"GRANT SELECT ON t TO $name", "GRANT CONNECT ON DATABASE $other TO $name"}},
 		{"granted by default", []string{"ALTER DEFAULT PRIVILEGES GRANT SELECT ON TABLES TO $name"}},
+		{"in a policy", []string{"CREATE POLICY p ON t TO $name"}},
 		{"in a transaction", []string{"BEGIN", "GRANT SELECT ON t TO $name"}},
 		{"and its settings are in the way", []string{"GRANT SELECT ON t TO $name",
 			"ALTER DATABASE $other SET role = '$other'", "ALTER DATABASE $other SET default_transaction_read_only = on"}},
+		{"and lets nobody in", []string{"GRANT SELECT ON t TO $name", "ALTER DATABASE $other CONNECTION LIMIT 0"}},
+		{"and changes it in a transaction", []string{"GRANT SELECT ON t TO $name", "BEGIN",
+			"ALTER TABLE t ADD COLUMN y integer"}},
+		{"and keeps it so", []string{"GRANT SELECT ON t TO $name", "ALTER DATABASE $other CONNECTION LIMIT 0", "BEGIN",
+			"ALTER DATABASE $other CONNECTION LIMIT 0"}},
 	} {
 		t.Run(it.name, func(t *testing.T) {
 			of, other := created(t, d), created(t, d)
@@ -118,6 +124,36 @@ func TestWhatAnotherCustomerHolds(t *testing.T) {
 			wantThere(t, d, other, broker.Whole)
 		})
 	}
+}
+
+// What the role owns in another customer's database goes, and what that customer has made to depend on it. The rest of
+// the other database stays.
+func TestWhatDependsOnIt(t *testing.T) {
+	r := newRig(t)
+	d := r.open()
+	of, other := created(t, d), created(t, d)
+	name, others := postgres.NameOf(of.request.Key), postgres.NameOf(other.request.Key)
+	pgtest.Exec(t, r.customer(other.request.Key), "GRANT ALL ON DATABASE "+others+" TO "+name, "CREATE TABLE kept ()")
+	pgtest.Exec(t, r.login(name, postgres.PasswordOf(secret, of.request.Key), others), "CREATE SCHEMA theirs",
+		"CREATE TABLE theirs.t (x integer)", "GRANT ALL ON SCHEMA theirs TO PUBLIC", "GRANT ALL ON theirs.t TO PUBLIC")
+	pgtest.Exec(t, r.customer(other.request.Key), "CREATE VIEW v AS SELECT * FROM theirs.t")
+	wantQuick(t, "Delete", func() error { return d.Delete(of.ctx, of.request) })
+	r.wantNothing(of.request.Key)
+	pgtest.Exec(t, r.customer(other.request.Key), "SELECT FROM kept")
+}
+
+// A database that another customer has closed altogether is opened again.
+func TestADatabaseThatAcceptsNobody(t *testing.T) {
+	r := newRig(t)
+	d := r.open()
+	of, other := created(t, d), created(t, d)
+	pgtest.Exec(t, r.customer(other.request.Key), "GRANT CONNECT ON DATABASE "+postgres.NameOf(other.request.Key)+
+		" TO "+postgres.NameOf(of.request.Key), "CREATE TABLE t (x integer)",
+		"GRANT SELECT ON t TO "+postgres.NameOf(of.request.Key))
+	pgtest.Exec(t, r.admin, "ALTER DATABASE "+postgres.NameOf(other.request.Key)+" ALLOW_CONNECTIONS false")
+	wantQuick(t, "Delete", func() error { return d.Delete(of.ctx, of.request) })
+	r.wantNothing(of.request.Key)
+	wantThere(t, d, other, broker.Whole)
 }
 
 // A customer that connects again and again, and holds up what it can, keeps nothing.

@@ -4,6 +4,8 @@ import (
 	"context"
 	"database/sql"
 	"fmt"
+
+	"pippinterm/broker/postgres/session"
 )
 
 // A server is what the backend has to know of the server, and of its own role there.
@@ -37,11 +39,12 @@ func readServer(ctx context.Context, db *sql.DB) (s server, err error) {
 		return s, err
 	}
 	if s.version < oldest {
-		return s, fmt.Errorf("PostgreSQL %d is too old: version %d or later is needed", s.version/10000, oldest/10000)
+		return s, session.Lasting(
+			fmt.Errorf("PostgreSQL %d is too old: version %d or later is needed", s.version/10000, oldest/10000))
 	}
 	if !s.mayCreateDatabase || !s.mayCreateRole {
-		return s, fmt.Errorf("the role %s may not create databases and roles. Run as a superuser: "+
-			"ALTER ROLE %s CREATEDB CREATEROLE", s.role, quote(s.role))
+		return s, session.Lasting(fmt.Errorf("the role %s may not create databases and roles. Run as a superuser: "+
+			"ALTER ROLE %s CREATEDB CREATEROLE", s.role, quote(s.role)))
 	}
 	s.limitsTempFiles = s.isSuperuser
 	if !s.isSuperuser && s.version >= 150000 {
