@@ -9,52 +9,68 @@ import (
 	"pippinterm/osb"
 )
 
-// The answers that come from no table.
-var (
-	stopping = []byte(`{"description":"The broker is being stopped.","error":"ServiceUnavailable"}`)
-	tooMany  = []byte(`{"description":"Too many logins from this address have failed.","error":"ServiceUnavailable"}`)
-)
+// stopping is the body of each answer of a broker that is being stopped.
+var stopping = []byte(`{"description":"The broker is being stopped. Send the request again later.","error":"ServiceUnavailable"}`)
 
 // read reads what a request asks, and judges what the plan asks of it.
 func (h *Handler) read(x *exchange, body []byte) (asked Asked, err error) {
 	path, _, _ := strings.Cut(x.request.RequestURI, "?")
+	isBinding := strings.Contains(path, "/service_bindings")
 	err = osb.ErrRefusedTarget
-	if strings.Contains(path, "/service_bindings") {
+	if isBinding {
 		asked, err = h.readBinding(x, body)
 	}
 	if errors.Is(err, osb.ErrRefusedTarget) { // an instance may have that name
+		isBinding = false
 		asked, err = h.readInstance(x, body)
 	}
 	if err != nil {
+		if !errors.Is(err, osb.ErrRefusedTarget) && !errors.Is(err, osb.ErrRefusedMethod) {
+			x.Route = routeOf(x.request.Method, path, isBinding)
+		}
 		return asked, err
 	}
 	x.Key, x.IsNamed = asked.Key, true
 	return asked, nil
 }
 
-func (h *Handler) readInstance(x *exchange, body []byte) (asked Asked, err error) {
-	method, target := x.request.Method, x.request.RequestURI
-	if method != http.MethodPut {
-		asked.Asked, err = osb.ReadRequest("", h.LongestBody, method, target, body)
-		asked.Key, asked.Origin = InstanceKey(asked.Asked.ID), h.origin(x)
-		x.Route = routes[asked.Asked.Kind]
-		return asked, err
+// routeOf is the route of a request that was rejected, although there is its target with this method.
+func routeOf(method, path string, isBinding bool) string {
+	kind := osb.KindPoll
+	switch method {
+	case http.MethodPut:
+		kind = osb.KindProvision
+	case http.MethodDelete:
+		kind = osb.KindDeprovision
 	}
-	x.Route = "provision"
-	received, err := osb.ReceiveRequest("", h.LongestBody, method, target, body)
+	switch {
+	case !isBinding:
+		return routes[kind]
+	case kind == osb.KindPoll && !strings.HasSuffix(path, "/last_operation"):
+		return "fetch-binding"
+	}
+	return bindingRoutes[kind]
+}
+
+func (h *Handler) readInstance(x *exchange, body []byte) (asked Asked, err error) {
+	received, err := osb.ReceiveRequest("", h.LongestBody, x.request.Method, x.request.RequestURI, body)
 	if err != nil {
 		return asked, err
 	}
-	asked.Asked, asked.Key = received.Asked, InstanceKey(received.Asked.ID)
+	asked.Asked, asked.Key, asked.Names.Instance =
+		received.Asked, InstanceKey(received.Asked.ID), received.Names.Instance
+	x.Route = routes[asked.Asked.Kind]
+	if asked.Asked.Kind != osb.KindProvision {
+		asked.Origin = h.origin(x)
+		return asked, nil
+	}
 	if asked.Attributes, err = osb.AttributesDigest(body); err != nil {
 		return asked, err
 	}
 	if err := h.conflict(plan{asked.Asked.Service, asked.Asked.Plan}, body); err != nil {
 		return asked, err
 	}
-	return h.creation(x, asked, body, Request{
-		InstanceID: received.Names.Instance, ServiceID: received.Names.Service, PlanID: received.Names.Plan,
-	})
+	return h.creation(x, asked, body, Request{ServiceID: received.Names.Service, PlanID: received.Names.Plan})
 }
 
 var routes = map[osb.Kind]string{
@@ -74,34 +90,27 @@ func (h *Handler) conflict(of plan, body []byte) error {
 var errPredecessor = errors.New("binding rotation isn't served: no plan is binding_rotatable")
 
 func (h *Handler) readBinding(x *exchange, body []byte) (asked Asked, err error) {
-	method, target := x.request.Method, x.request.RequestURI
-	if method != http.MethodPut {
-		read, err := osb.ReadBindingRequest("", h.LongestBody, method, target, body)
-		x.Route = bindingRoutes[read.Asked.Kind]
-		if read.IsFetch {
-			x.Route = "fetch-binding"
-		}
-		return Asked{
-			Key: BindingKey(read.Instance, read.Asked.ID), Asked: read.Asked, IsFetch: read.IsFetch, Origin: h.origin(x),
-		}, err
-	}
-	x.Route = "bind"
-	received, err := osb.ReceiveBindingRequest("", h.LongestBody, method, target, body)
+	received, err := osb.ReceiveBindingRequest("", h.LongestBody, x.request.Method, x.request.RequestURI, body)
 	if err != nil {
 		return asked, err
+	}
+	asked.Asked, asked.IsFetch = received.Asked.Asked, received.Asked.IsFetch
+	asked.Key = BindingKey(received.Asked.Instance, asked.Asked.ID)
+	asked.Names = Names{Instance: received.Names.Instance, Binding: received.Names.Binding}
+	if x.Route = bindingRoutes[asked.Asked.Kind]; asked.IsFetch {
+		x.Route = "fetch-binding"
+	}
+	if asked.Asked.Kind != osb.KindProvision {
+		asked.Origin = h.origin(x)
+		return asked, nil
 	}
 	if received.Parts.PredecessorBindingID != nil {
 		return asked, errPredecessor
 	}
-	asked.Asked = received.Asked.Asked
-	asked.Key = BindingKey(received.Asked.Instance, asked.Asked.ID)
 	if asked.Attributes, err = bindingDigest(received.Parts, body); err != nil {
 		return asked, err
 	}
-	return h.creation(x, asked, body, Request{
-		InstanceID: received.Names.Instance, BindingID: received.Names.Binding,
-		ServiceID: received.Names.Service, PlanID: received.Names.Plan,
-	})
+	return h.creation(x, asked, body, Request{ServiceID: received.Names.Service, PlanID: received.Names.Plan})
 }
 
 var bindingRoutes = map[osb.Kind]string{
@@ -110,14 +119,15 @@ var bindingRoutes = map[osb.Kind]string{
 
 // creation adds what is stored of a creation.
 func (h *Handler) creation(x *exchange, asked Asked, body []byte, request Request) (Asked, error) {
+	request.InstanceID, request.BindingID = asked.Names.Instance, asked.Names.Binding
 	request.Body, request.Origin = body, h.origin(x)
 	var err error
 	asked.Request, err = json.Marshal(request)
 	return asked, err
 }
 
-// bindingDigest is the digest of what a Bind asks for: of its parameters, and of its bind_resource if there is one. That
-// bind_resource counts is this project's choice.
+// bindingDigest is the digest of what a Bind asks for: of its parameters, and of its bind_resource if there is one.
+// That bind_resource counts is this project's choice.
 func bindingDigest(parts osb.BindingParts, body []byte) (osb.Digest, error) {
 	if parts.BindResource == nil {
 		return osb.AttributesDigest(body)
@@ -148,8 +158,8 @@ func (h *Handler) origin(x *exchange) Origin {
 	return origin
 }
 
-// told writes an answer. There are few without a description, so each of those is written by the library once.
-func (h *Handler) told(x *exchange, answered Answered) reply {
+// told writes an answer, with its own description if it has one, and else with the sentence, which may be empty.
+func (h *Handler) told(x *exchange, answered Answered, sentence string) reply {
 	status := int(answered.Status)
 	if x.Reason == "" {
 		x.Reason = answered.Description
@@ -166,7 +176,7 @@ func (h *Handler) told(x *exchange, answered Answered) reply {
 		}
 		h.report(x, "description_not_sent", err)
 	}
-	body, err := h.written(answered.Answer)
+	body, err := h.written(wording{answered.Answer, sentence})
 	if err != nil {
 		return h.failed(x, err)
 	}
@@ -176,14 +186,30 @@ func (h *Handler) told(x *exchange, answered Answered) reply {
 	return reply{status, body}
 }
 
-// written is the body of an answer without a description.
-func (h *Handler) written(answer osb.Answer) ([]byte, error) {
-	if body, isKnown := h.bodies.Load(answer); isKnown {
+// otherError writes an error of this status, which says the sentence.
+func (h *Handler) otherError(x *exchange, status uint16, sentence string) reply {
+	return h.told(x, Answered{Answer: osb.Answer{Status: status, Body: osb.BodyOtherError}}, sentence)
+}
+
+// A wording is an answer with a sentence of this package, or with none. There are few, so the library writes the body
+// of each once.
+type wording struct {
+	osb.Answer
+	sentence string
+}
+
+// written is the body of an answer.
+func (h *Handler) written(it wording) ([]byte, error) {
+	if body, isKnown := h.bodies.Load(it); isKnown {
 		return body.([]byte), nil
 	}
-	body, err := osb.WriteAnswer(answer, nil)
+	var sentence *string
+	if it.sentence != "" {
+		sentence = &it.sentence
+	}
+	body, err := osb.WriteDescribedAnswer(it.Answer, nil, sentence)
 	if err == nil {
-		h.bodies.Store(answer, body)
+		h.bodies.Store(it, body)
 	}
 	return body, err
 }
@@ -205,11 +231,14 @@ func isOwnCode(code string) bool {
 // rejected writes a rejection with the backend's code.
 func (h *Handler) rejected(x *exchange, status int, rejected *Rejected) reply {
 	description := []rune(rejected.Description)
+	if len(description) == 0 {
+		description = []rune(notByUs)
+	}
 	if len(description) > 1000 {
 		description = description[:1000]
 	}
 	body, err := json.Marshal(struct {
-		Description string `json:"description,omitempty"`
+		Description string `json:"description"`
 		Error       string `json:"error"`
 	}{string(description), rejected.Code})
 	if err != nil {
@@ -222,10 +251,7 @@ func (h *Handler) rejected(x *exchange, status int, rejected *Rejected) reply {
 func (h *Handler) refused(x *exchange, err error) reply {
 	x.Reason = err.Error()
 	if errors.Is(err, errPredecessor) {
-		description := errPredecessor.Error()
-		return h.told(x, Answered{
-			Answer: osb.Answer{Status: http.StatusBadRequest, Body: osb.BodyOtherError}, Description: description,
-		})
+		return h.otherError(x, http.StatusBadRequest, predecessor)
 	}
 	var refusal osb.Status
 	if !errors.As(err, &refusal) {
@@ -238,12 +264,15 @@ func (h *Handler) refused(x *exchange, err error) reply {
 	if status == 0 {
 		return h.failed(x, err)
 	}
+	if refusal == osb.ErrRefusedMethod && x.header.Get("Allow") == "" {
+		x.header.Set("Allow", allowed(x.request.RequestURI))
+	}
+	if sentence := h.refusal(refusal); sentence != "" {
+		return h.otherError(x, status, sentence)
+	}
 	body, err := write(refusal)
 	if err != nil {
 		return h.failed(x, err)
-	}
-	if refusal == osb.ErrRefusedMethod && x.header.Get("Allow") == "" {
-		x.header.Set("Allow", allowed(x.request.RequestURI))
 	}
 	return reply{int(status), body}
 }
@@ -266,7 +295,7 @@ func (h *Handler) failed(x *exchange, err error) reply {
 	h.report(x, "request_failed", err)
 	if !errors.Is(err, osb.ErrMemory) {
 		answer := osb.Answer{Status: http.StatusInternalServerError, Body: osb.BodyOtherError}
-		if body, err := osb.WriteAnswer(answer, nil); err == nil {
+		if body, err := h.written(wording{answer, failedHere}); err == nil {
 			return reply{http.StatusInternalServerError, body}
 		}
 	}

@@ -9,6 +9,9 @@ import (
 
 // begin is what becomes of what is held, or nil if that stays, and what comes of the request at once.
 func (s *Service) begin(held Held, asked Asked) (next *Entry, given begun, err error) {
+	if isAnother, err := asked.namesAnother(held.Entry); err != nil || isAnother {
+		return nil, begun{answered: asked.unknown()}, err
+	}
 	request, err := asked.Asked.Request(held.Holding.Row())
 	if err != nil {
 		return nil, given, err
@@ -46,7 +49,10 @@ func (s *Service) beginHolding(
 	mode := s.catalogue.mode(asked.Key.IsBinding, plan{request.Service, request.Plan})
 	rules := osb.Rules{FirstPoll: s.rules.FirstPoll, Attributes: asked.Attributes}
 	if asked.Key.IsBinding {
-		holding, happened, err = held.Holding.BeginBinding(beside(held.Instance, request), mode, request, rules)
+		instance, err := asked.instance(held)
+		if err == nil {
+			holding, happened, err = held.Holding.BeginBinding(beside(instance, request), mode, request, rules)
+		}
 		return holding, happened, false, err
 	}
 	holding, happened, err = held.Holding.Begin(mode, request, rules)

@@ -59,10 +59,14 @@ func (c *calls) withCredentials(ctx context.Context) (There, error) {
 		credentials, err = backend.Credentials(ctx, c.request)
 		return err
 	})
-	if err == nil && c.keep(credentials) != nil {
-		return Part, nil // what can't be sent is of no use to anybody
+	if err != nil {
+		return Whole, err
 	}
-	return Whole, err
+	if err := c.keep(credentials); err != nil { // what can't be sent is of no use to anybody
+		c.observer.Failed(Failure{Event: "credentials_useless", Key: c.request.Key, IsNamed: true, Err: err})
+		return Part, nil
+	}
+	return Whole, nil
 }
 
 // keep makes the object of the binding from its credentials.

@@ -21,7 +21,7 @@ type Config struct {
 	Users       *Users
 	LongestBody int     // in bytes, 1 or more; a longer body is answered with 413
 	AtOnce      int     // so many requests are carried out at once, 1 or more; others wait
-	Limiter     Limiter // of failed logins, or nil for no limit
+	Limiter     Limiter // of the passwords that can be tried, or nil for no limit
 	// Touch is called with a key that somebody has to go on with: Sweeper.Touch.
 	Touch    func(Key)
 	Observer Observer
@@ -33,12 +33,11 @@ type Handler struct {
 	Config
 	ctx         context.Context
 	service     *Service
-	known       known
 	reading     chan struct{} // a place for each body that is read
 	slots       chan struct{} // a place for each request that is carried out
 	isStopping  atomic.Bool
 	first, next uint64   // of which the ids of requests that have none are made
-	bodies      sync.Map // of answers: osb.Answer to []byte
+	bodies      sync.Map // of answers: wording to []byte
 }
 
 // NewHandler makes a handler over a service.
@@ -57,8 +56,8 @@ func NewHandler(ctx context.Context, service *Service, config Config) (*Handler,
 	}, nil
 }
 
-// slowBodies is how many bodies may be read at once, besides those of the requests that are carried out. So some platforms
-// that send slowly don't keep others waiting.
+// slowBodies is how many bodies may be read at once, besides those of the requests that are carried out. So some
+// platforms that send slowly don't keep others waiting.
 const slowBodies = 256
 
 // Stop has every request from now on answered with 503.
@@ -115,7 +114,7 @@ func (h *Handler) answer(x *exchange) reply {
 	body, err := h.body(x.request)
 	if err != nil { // it was cut on its way, or came too slowly
 		x.header.Set("Connection", "close")
-		return h.told(x, Answered{Answer: osb.Answer{Status: http.StatusRequestTimeout, Body: osb.BodyOtherError}})
+		return h.otherError(x, http.StatusRequestTimeout, cutBody)
 	}
 	asked, err := h.read(x, body)
 	if err != nil {
@@ -124,14 +123,23 @@ func (h *Handler) answer(x *exchange) reply {
 	return h.carriedOut(x, asked)
 }
 
-// body reads the body, and of one that is too long one byte more than is allowed, which the library refuses.
+// mostDiscarded is how many bytes are read of a body beyond LongestBody.
+const mostDiscarded = 32 << 20
+
+// body reads the body. Of one that is too long it returns one byte more than is allowed, which the library refuses. It
+// reads the rest too, so that a platform that sends all of the body before it reads gets the answer: the connection
+// would be closed otherwise while the platform still sends.
 func (h *Handler) body(r *http.Request) ([]byte, error) {
 	if r.ContentLength == 0 {
 		return nil, nil
 	}
 	h.reading <- struct{}{}
 	defer func() { <-h.reading }()
-	return io.ReadAll(io.LimitReader(r.Body, int64(h.LongestBody)+1))
+	body, err := io.ReadAll(io.LimitReader(r.Body, int64(h.LongestBody)+1))
+	if len(body) > h.LongestBody {
+		_, _ = io.CopyN(io.Discard, r.Body, mostDiscarded) // the answer is the same if the body ends, or is cut
+	}
+	return body, err
 }
 
 // catalogue answers the document of the catalogue.
@@ -157,7 +165,7 @@ func (h *Handler) carriedOut(x *exchange, asked Asked) reply {
 		return h.failed(x, fmt.Errorf("%v: %w", asked.Key, err))
 	}
 	h.follow(x, asked, answered)
-	return h.told(x, answered)
+	return h.told(x, answered, h.sentence(asked, answered))
 }
 
 // follow has somebody go on with a key: an operation has begun, or work is pending whose worker may be dead. After the
@@ -181,27 +189,47 @@ func (h *Handler) follow(x *exchange, asked Asked, answered Answered) {
 
 // admit judges who asks, and which version is spoken.
 func (h *Handler) admit(x *exchange) (reply, bool) {
-	if h.Limiter != nil && !h.Limiter.Allow(x.Address) && !h.known.has(x.Address) {
-		x.header.Set("Retry-After", "3")
-		return reply{http.StatusServiceUnavailable, tooMany}, false
-	}
-	user, err := h.Users.judge(x.request.Header["Authorization"])
+	h.delay(x.Address)
+	authorization := x.request.Header["Authorization"]
+	user, err := h.Users.judge(authorization)
 	if errors.Is(err, osb.ErrUnauthorized) {
 		if h.Limiter != nil {
 			h.Limiter.Failed(x.Address)
 		}
 		x.header.Set("WWW-Authenticate", `Basic realm="service broker", charset="UTF-8"`)
-		return h.told(x, Answered{Answer: osb.Answer{Status: http.StatusUnauthorized, Body: osb.BodyOtherError}}), false
+		sentence := wrongLogin
+		if len(authorization) == 0 {
+			sentence = noLogin
+		}
+		return h.otherError(x, http.StatusUnauthorized, sentence), false
 	}
 	if err == nil {
 		x.User = user
-		h.known.add(x.Address)
 		err = version(x.request.Header["X-Broker-Api-Version"])
 	}
 	if err != nil {
 		return h.refused(x, err), false
 	}
 	return reply{}, true
+}
+
+// delay waits before the password of a request is judged, if too many logins from its address have failed. The right
+// password is delayed as a wrong one is. Otherwise the time would tell them apart, and passwords could be tried faster.
+// A client that goes away meanwhile ends nothing, so its place among the connections isn't free sooner.
+func (h *Handler) delay(address string) {
+	if h.Limiter == nil {
+		return
+	}
+	wait := h.Limiter.Delay(address)
+	if wait <= 0 {
+		return
+	}
+	timer := time.NewTimer(wait)
+	defer timer.Stop()
+	select {
+	case <-timer.C:
+	case <-h.ctx.Done():
+	}
 }
 
 // version judges the header X-Broker-API-Version. One that stands twice is judged as one with both values.
@@ -221,7 +249,8 @@ func version(values []string) error {
 
 // requestID is the id that the platform gave the request, or one that is made up here.
 func (h *Handler) requestID(r *http.Request) string {
-	if given := r.Header[requestIdentity]; len(given) == 1 && len(given[0]) <= 200 && osb.RequestIdentity(given[0]) == nil {
+	given := r.Header[requestIdentity]
+	if len(given) == 1 && len(given[0]) <= 200 && osb.RequestIdentity(given[0]) == nil {
 		return given[0]
 	}
 	return strconv.FormatUint(h.first, 16) + "-" + strconv.FormatUint(atomic.AddUint64(&h.next, 1), 16)

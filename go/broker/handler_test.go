@@ -85,6 +85,19 @@ type observed struct {
 	turn      sync.Mutex
 	exchanges []broker.Exchange
 	failures  []broker.Failure
+	finished  []finished
+}
+
+// A finished is an end that an Observer was told of.
+type finished struct {
+	key broker.Key
+	ok  bool
+}
+
+func (o *observed) Finished(key broker.Key, ok bool) {
+	o.turn.Lock()
+	defer o.turn.Unlock()
+	o.finished = append(o.finished, finished{key, ok})
 }
 
 func (o *observed) Answered(x broker.Exchange) {
@@ -188,7 +201,8 @@ func TestRefusals(t *testing.T) {
 		{"no service", "PUT", instances + "i", `{"plan_id":"p","organization_guid":"o","space_guid":"s"}`, nil, 400},
 		{"an unknown plan", "PUT", instances + "i", bodyOf("ff", ""), nil, 400},
 		{"async wanted", "PUT", instances + "i", bodyOf(later, ""), nil, 422},
-		{"a predecessor", "PUT", instances + "i/service_bindings/b", bodyOf(now, `,"predecessor_binding_id":"a"`), nil, 400},
+		{"a predecessor", "PUT", instances + "i/service_bindings/b", bodyOf(now, `,"predecessor_binding_id":"a"`), nil,
+			400},
 	} {
 		t.Run(it.name, func(t *testing.T) {
 			if it.change == nil {
@@ -373,7 +387,8 @@ func TestFailures(t *testing.T) {
 			[]string{`"error":"Quota"`, "all used"}, ""},
 		{"the standard's code", &broker.Rejected{Status: 422, Code: "ConcurrencyError", Description: "x"}, 422, nil,
 			"ConcurrencyError"},
-		{"public", broker.Public(errors.New("secret"), "the disk is full"), 500, []string{"the disk is full"}, "secret"},
+		{"public", broker.Public(errors.New("secret"), "the disk is full"), 500, []string{"the disk is full"},
+			"secret"},
 		{"any other", errors.New("secret"), 500, nil, "secret"},
 		{"a panic", nil, 500, nil, "boom"},
 	} {
@@ -505,32 +520,13 @@ func TestUsers(t *testing.T) {
 			t.Errorf("the log has the user %q", s.observed.last().User)
 		}
 	}
-	for _, wrong := range []map[string][]string{nil, {"u": nil}, {"u": {""}}, {"": {"p"}}, {"a:b": {"p"}}, {"u": {"\xff"}}} {
+	for _, wrong := range []map[string][]string{
+		nil, {"u": nil}, {"u": {""}}, {"": {"p"}}, {"a:b": {"p"}}, {"u": {"\xff"}},
+	} {
 		if _, err := broker.NewUsers(wrong); err == nil || strings.Contains(err.Error(), "\xff") {
 			t.Errorf("%q: %v", wrong, err)
 		}
 	}
-}
-
-// few lets one login fail.
-type few struct{ left int }
-
-func (f *few) Allow(string) bool { return f.left > 0 }
-func (f *few) Failed(string)     { f.left-- }
-
-// An address whose logins have failed is answered with 503, unless somebody has logged in from it.
-func TestFailedLogins(t *testing.T) {
-	wrong := func(r *http.Request) { r.SetBasicAuth("u", "q") }
-	s := newSite(t, setting{limiter: &few{left: 1}})
-	s.expect(t, 401, "GET", "/v2/catalog", "", wrong)
-	given, _ := s.ask("GET", "/v2/catalog", "")
-	if given.StatusCode != 503 || given.Header.Get("Retry-After") == "" {
-		t.Errorf("%d, %v", given.StatusCode, given.Header)
-	}
-	s = newSite(t, setting{limiter: &few{left: 1}})
-	s.expect(t, 200, "GET", "/v2/catalog", "")
-	s.expect(t, 401, "GET", "/v2/catalog", "", wrong)
-	s.expect(t, 200, "GET", "/v2/catalog", "")
 }
 
 // What a log is told of a request.
@@ -541,8 +537,8 @@ func TestObserved(t *testing.T) {
 	got := s.observed.last()
 	got.Duration = 0
 	want := broker.Exchange{
-		RequestID: "r-2", Key: keyOf("i"), IsNamed: true, Route: "provision", Method: "PUT", Target: instances + "i?x=1",
-		Status: 201, User: "u", Address: "192.0.2.1", Traceparent: "00-1", VcapRequest: "v-1",
+		RequestID: "r-2", Key: keyOf("i"), IsNamed: true, Route: "provision", Method: "PUT",
+		Target: instances + "i?x=1", Status: 201, User: "u", Address: "192.0.2.1", Traceparent: "00-1", VcapRequest: "v-1",
 	}
 	if got != want {
 		t.Errorf("%+v, and %+v is wanted", got, want)
@@ -561,6 +557,35 @@ func TestObserved(t *testing.T) {
 	}
 }
 
+// A request that is rejected has its route in the log, if its target and its method exist.
+func TestRoutesOfRejectedRequests(t *testing.T) {
+	s := newSite(t, setting{})
+	long := strings.Repeat("a", 300)
+	for _, it := range []struct{ method, target, body, route string }{
+		{"PUT", "i", "{", "provision"},
+		{"DELETE", "i", "", "deprovision"},
+		{"GET", "i/last_operation?plan_id=", "", "poll"},
+		{"GET", "i", "", "other"},
+		{"POST", "i", "", "other"},
+		{"PUT", "i/b", "{}", "other"},
+		{"PUT", "service_bindings", "{", "provision"},
+		{"PUT", "i/service_bindings/b", "{", "bind"},
+		{"PUT", "i/service_bindings/b", bodyOf(now, `,"predecessor_binding_id":"a"`), "bind"},
+		{"DELETE", "i/service_bindings/b?service_id=" + long, "", "unbind"},
+		{"GET", "i/service_bindings/b/last_operation?plan_id=", "", "poll-binding"},
+		{"GET", "i/service_bindings/" + long, "", "fetch-binding"},
+		{"POST", "i/service_bindings/b", "", "other"},
+	} {
+		given, body := s.ask(it.method, instances+it.target, it.body)
+		if given.StatusCode < 400 || given.StatusCode > 413 {
+			t.Errorf("%s %s: %d %s", it.method, it.target, given.StatusCode, body)
+		}
+		if got := s.observed.last().Route; got != it.route {
+			t.Errorf("%s %s: the log has the route %q, want %q", it.method, it.target, got, it.route)
+		}
+	}
+}
+
 // Ten thousand hostile requests: each is answered with a 4xx, and nothing is changed.
 func TestHostile(t *testing.T) {
 	s := newSite(t, setting{})
@@ -573,7 +598,8 @@ func TestHostile(t *testing.T) {
 		return string(text)
 	}
 	targets := []string{"i", "i%2f..", "%00", strings.Repeat("a", 300), "i/last_operation", "../catalog", "",
-		"i/service_bindings/", "i/service_bindings/b/c", "i/service_bindings/%ff", "i/service_bindings/b/last_operation"}
+		"i/service_bindings/", "i/service_bindings/b/c", "i/service_bindings/%ff",
+		"i/service_bindings/b/last_operation"}
 	methods := []string{"GET", "PUT", "DELETE", "PATCH", "POST", "TRACE", "OPTIONS", "HEAD", "BREW", "put"}
 	bodies := []string{"", "{}", "[]", `{"service_id":`, `{"service_id":1}`, "\xff", "null", strings.Repeat("[", 900),
 		`{"service_id":"s","plan_id":"p","organization_guid":"","space_guid":"s"}`, bodyOf("ff", "")}

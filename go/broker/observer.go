@@ -11,7 +11,8 @@ type Observer interface {
 	Failed(Failure)
 	// Committed is called after each commit of a store that writes several changes together, with their number.
 	Committed(changes int)
-	// Finished is called when an operation that went on after its answer has ended, well (ok) or badly.
+	// Finished is called when an operation that went on after its answer has ended, well (ok) or badly. It is called too
+	// when pending work has ended that a dead worker had left.
 	Finished(key Key, ok bool)
 }
 

@@ -44,6 +44,7 @@ func NewService(
 // An Asked is what a request asks of an instance or of a binding.
 type Asked struct {
 	Key        Key
+	Names      Names
 	Asked      osb.Asked // of a binding: under the ID of the binding
 	IsFetch    bool      // whether it is the Fetch of a binding
 	Attributes osb.Digest
@@ -86,13 +87,13 @@ func (s *Service) Handle(ctx context.Context, asked Asked) (Answered, error) {
 		if err != nil || begun.work == osb.WorkNone {
 			return begun.answered, err
 		}
-		if lock != nil {
-			return s.do(ctx, lock, asked.Key, begun.entry, !s.locks.CanBeLost())
+		isSure := lock != nil && !s.locks.CanBeLost()
+		if lock == nil {
+			if lock, err = s.lock(ctx, asked.Key); err != nil {
+				return Answered{}, err
+			}
 		}
-		if lock, err = s.lock(ctx, asked.Key); err != nil {
-			return Answered{}, err
-		}
-		answered, err := s.do(ctx, lock, asked.Key, begun.entry, false)
+		answered, err := s.do(ctx, lock, asked.Key, begun.entry, isSure)
 		if !errors.Is(err, errDoneBefore) {
 			return answered, err
 		}
@@ -136,6 +137,9 @@ func (s *Service) fetch(ctx context.Context, asked Asked) (Answered, error) {
 	held, err := s.read(ctx, asked.Key)
 	if err != nil {
 		return Answered{}, err
+	}
+	if isAnother, err := asked.namesAnother(held.Entry); err != nil || isAnother {
+		return asked.unknown(), err
 	}
 	answer, err := held.Holding.Fetch()
 	if err != nil {

@@ -37,8 +37,8 @@ func (e Entry) IsUnfinished() bool {
 // A Held is what a transaction reads.
 type Held struct {
 	Entry
-	// Instance is the holding of a binding's instance. For an instance it is the zero Holding.
-	Instance osb.Holding
+	// Instance is the entry of a binding's instance. For an instance it is the zero Entry.
+	Instance Entry
 	// AnyBinding returns whether a binding of an instance is held (osb.Holding.IsHeld). It may be called until the
 	// transaction ends. For a binding it is nil.
 	AnyBinding func() (bool, error)

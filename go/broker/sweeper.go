@@ -2,6 +2,7 @@ package broker
 
 import (
 	"context"
+	"errors"
 	"sync"
 	"time"
 )
@@ -107,7 +108,11 @@ func (s *Sweeper) tendNext(ctx context.Context) bool {
 		delete(s.told, key)
 	case s.told[key] != err.Error():
 		s.told[key] = err.Error()
-		s.observer.Failed(Failure{Event: "not_ended", Key: key, IsNamed: true, Err: err})
+		event := "not_ended"
+		if errors.Is(err, ErrStillTaken) {
+			event = "lock_stays_taken"
+		}
+		s.observer.Failed(Failure{Event: event, Key: key, IsNamed: true, Err: err})
 	}
 	if s.tended[key] && !s.isOver {
 		s.tended[key] = false

@@ -2,20 +2,34 @@ package broker
 
 import (
 	"context"
+	"fmt"
+	"net/http"
 	"time"
 
 	"pippinterm/broker/crash"
 	"pippinterm/osb"
 )
 
+// longWork is how long a worker may be at a key before that is reported. Five runs of a command take 25 minutes at most, by
+// default.
+const longWork = 30 * time.Minute
+
+// ErrStillTaken reports that the lock of unfinished work has been taken for long. The work goes on, or its process hangs.
+var ErrStillTaken = fmt.Errorf("another worker has the lock, and the work began more than %v ago. "+
+	"See whether its process hangs", longWork)
+
 // TakeUp goes on with a key: it does pending work that a dead worker has left, goes on with the operation that runs, and
 // gives up a creation that has waited too long for its first Poll. If somebody else is at the key, it does nothing.
 //
-// Errors: those of the store, the locks and the backend. What isn't done stays as it is, to be taken up again.
+// Errors: those of the store, the locks and the backend; ErrStillTaken. What isn't done stays as it is, to be taken up
+// again.
 func (s *Service) TakeUp(ctx context.Context, key Key) error {
 	lock, err := s.locks.TryLock(ctx, key)
-	if err != nil || lock == nil {
+	if err != nil {
 		return err
+	}
+	if lock == nil {
+		return s.stillTaken(ctx, key)
 	}
 	defer lock.Unlock()
 	held, err := s.read(ctx, key)
@@ -23,8 +37,12 @@ func (s *Service) TakeUp(ctx context.Context, key Key) error {
 		return err
 	}
 	if _, isPending := held.Holding.Work(); isPending {
-		if _, err := s.do(ctx, lock, key, held.Entry, !s.locks.CanBeLost()); err != nil {
+		answered, err := s.do(ctx, lock, key, held.Entry, !s.locks.CanBeLost())
+		if err != nil {
 			return err
+		}
+		if answered.Status != http.StatusAccepted {
+			s.observer.Finished(key, answered.Status < http.StatusMultipleChoices)
 		}
 		if held, err = s.read(ctx, key); err != nil {
 			return err
@@ -40,6 +58,15 @@ func (s *Service) TakeUp(ctx context.Context, key Key) error {
 		return s.giveUpWaiting(ctx, key)
 	}
 	return nil
+}
+
+// stillTaken returns ErrStillTaken if somebody else has been at the key for long.
+func (s *Service) stillTaken(ctx context.Context, key Key) error {
+	held, err := s.read(ctx, key)
+	if err == nil && held.IsUnfinished() && !held.Since.IsZero() && time.Since(held.Since) > longWork {
+		err = ErrStillTaken
+	}
+	return err
 }
 
 // operate goes on with the operation that runs, and ends it.
@@ -119,11 +146,15 @@ func (s *Service) UnbindFailed(ctx context.Context, instance osb.ID) error {
 		if !isHeld || row.Phase != osb.PhaseFailed {
 			continue
 		}
+		request, err := requestOf(key, row, held.Request)
+		if err != nil {
+			return err
+		}
 		unbind := osb.Asked{
 			Kind: osb.KindDeprovision, AcceptsIncomplete: true, HasService: true, HasPlan: true,
 			ID: binding, Service: row.Service, Plan: row.Plan,
 		}
-		if _, err := s.Handle(ctx, Asked{Key: key, Asked: unbind}); err != nil {
+		if _, err := s.Handle(ctx, Asked{Key: key, Names: request.names(), Asked: unbind}); err != nil {
 			return err
 		}
 	}

@@ -7,7 +7,7 @@ import (
 	"net/http"
 	"sort"
 	"strings"
-	"sync"
+	"time"
 
 	"pippinterm/osb"
 )
@@ -45,8 +45,8 @@ func NewUsers(passwords map[string][]string) (*Users, error) {
 	return users, nil
 }
 
-// judge returns the user whose password the header Authorization names. A header that stands twice is judged as one with
-// both values, which names nobody. Each login is compared, so the time doesn't tell which one it is.
+// judge returns the user whose password the header Authorization names. A header that stands twice is judged as one
+// with both values, which names nobody. Each login is compared, so the time doesn't tell which one it is.
 //
 // Errors: osb.ErrUnauthorized, osb.ErrMemory.
 func (u *Users) judge(values []string) (string, error) {
@@ -73,37 +73,10 @@ func (u *Users) judge(values []string) (string, error) {
 	return found, nil
 }
 
-// A Limiter limits the failed logins of an address.
+// A Limiter limits how many passwords can be tried from an address.
 type Limiter interface {
-	// Allow is whether another login may fail.
-	Allow(address string) bool
+	// Delay returns how long a login from this address waits before its password is judged, or 0.
+	Delay(address string) time.Duration
 	// Failed counts a login that failed.
 	Failed(address string)
-}
-
-// known are addresses from which somebody has logged in. Those aren't kept out by failed logins, so that nobody behind
-// the platform's proxy can keep the platform out.
-type known struct {
-	turn      sync.RWMutex
-	addresses map[string]bool
-}
-
-const mostKnown = 4096
-
-func (k *known) has(address string) bool {
-	k.turn.RLock()
-	defer k.turn.RUnlock()
-	return k.addresses[address]
-}
-
-func (k *known) add(address string) {
-	if k.has(address) {
-		return
-	}
-	k.turn.Lock()
-	defer k.turn.Unlock()
-	if len(k.addresses) >= mostKnown || k.addresses == nil {
-		k.addresses = map[string]bool{}
-	}
-	k.addresses[address] = true
 }

@@ -80,8 +80,9 @@ func (w worker) create(ctx context.Context, request Request) (result, error) {
 	}
 	if there == Part {
 		var second error
-		if there, second, err = calls.try(ctx, calls.delete); err != nil || there == Part {
-			return result{}, unknown(err, either(failed, second))
+		there, second, err = calls.try(ctx, calls.delete)
+		if failed = either(failed, second); err != nil || there == Part {
+			return result{}, unknown(err, failed)
 		}
 	}
 	return w.told(request, "create", there == Whole, failed, calls)
@@ -109,13 +110,15 @@ func (w worker) delete(ctx context.Context, request Request) (result, error) {
 
 // told is the result of work after which it is known what exists.
 func (w worker) told(request Request, what string, isDone bool, failed error, calls *calls) (result, error) {
+	if !isDone && failed == nil {
+		failed = errors.New("the backend returned no error, and it isn't so")
+	}
+	if failed != nil {
+		w.observer.Failed(Failure{Event: "backend_failed_to_" + what, Key: request.Key, IsNamed: true, Err: failed})
+	}
 	if isDone {
 		return result{outcome: osb.OutcomeDone, binding: calls.binding}, nil
 	}
-	if failed == nil {
-		failed = errors.New("the backend returned no error, and it isn't so")
-	}
-	w.observer.Failed(Failure{Event: "backend_failed_to_" + what, Key: request.Key, IsNamed: true, Err: failed})
 	given := result{outcome: osb.OutcomeBefore, description: Description(failed)}
 	if what == "create" && errors.As(failed, &given.rejected) {
 		given.outcome = osb.OutcomeRefused400

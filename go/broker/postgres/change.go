@@ -76,11 +76,9 @@ func (c change) lock() (held broker.Held, err error) {
 		}
 		return held, err
 	}
-	instance, err := c.locked(broker.InstanceKey(c.key.Instance), "FOR SHARE")
-	if err != nil {
+	if held.Instance, err = c.locked(broker.InstanceKey(c.key.Instance), "FOR SHARE"); err != nil {
 		return held, err
 	}
-	held.Instance = instance.Holding
 	held.Entry, err = c.locked(c.key, "FOR UPDATE")
 	return held, err
 }
@@ -91,7 +89,8 @@ func (c change) locked(key broker.Key, how string) (broker.Entry, error) {
 	if err != nil || isThere {
 		return entry, err
 	}
-	if err := c.insert(key); err != nil {
+	isNew, err := c.insert(key)
+	if err != nil || isNew {
 		return entry, err
 	}
 	entry, isThere, err = c.find(key, how)
@@ -108,20 +107,26 @@ func (c change) find(key broker.Key, how string) (broker.Entry, bool, error) {
 	return scanned(key, c.tx.QueryRowContext(c.ctx, instanceColumns+" "+how, key.Instance))
 }
 
-// insert inserts the row of the zero Holding, unless another transaction does it first, which it waits for.
-func (c change) insert(key broker.Key) error {
+// insert inserts the row of the zero Holding, unless another transaction does it first, which it waits for. It returns
+// whether the row is new. A new row is locked.
+func (c change) insert(key broker.Key) (bool, error) {
 	text, err := textOf(key.IsBinding, osb.Holding{})
 	if err != nil {
-		return err
+		return false, err
 	}
+	query := "INSERT INTO osb_holdings (id, holding, unfinished) VALUES ($1, $2, false) ON CONFLICT DO NOTHING"
+	arguments := []any{key.Instance, text}
 	if key.IsBinding {
-		_, err = c.tx.ExecContext(c.ctx, "INSERT INTO osb_bindings (instance, binding, holding, held, unfinished) "+
-			"VALUES ($1, $2, $3, false, false) ON CONFLICT DO NOTHING", key.Instance, key.Binding, text)
-		return err
+		query = "INSERT INTO osb_bindings (instance, binding, holding, held, unfinished) " +
+			"VALUES ($1, $2, $3, false, false) ON CONFLICT DO NOTHING"
+		arguments = []any{key.Instance, key.Binding, text}
 	}
-	_, err = c.tx.ExecContext(c.ctx, "INSERT INTO osb_holdings (id, holding, unfinished) "+
-		"VALUES ($1, $2, false) ON CONFLICT DO NOTHING", key.Instance, text)
-	return err
+	done, err := c.tx.ExecContext(c.ctx, query, arguments...)
+	if err != nil {
+		return false, err
+	}
+	count, err := done.RowsAffected()
+	return count == 1, err
 }
 
 func (c change) write(entry broker.Entry) error {

@@ -4,7 +4,6 @@ import (
 	"context"
 	"database/sql"
 	"errors"
-	"fmt"
 
 	"pippinterm/broker"
 	"pippinterm/osb"
@@ -12,7 +11,8 @@ import (
 
 // One statement reads a binding and its instance, so both are of the same moment.
 const readBinding = `
-SELECT b.holding, b.request, b.object, b.description, b.since, i.holding
+SELECT b.holding, b.request, b.object, b.description, b.since,
+    i.holding, i.request, NULL, i.description, i.since
 FROM (SELECT $1::uuid AS instance, $2::uuid AS binding) AS k
 LEFT JOIN osb_bindings AS b ON b.instance = k.instance AND b.binding = k.binding
 LEFT JOIN osb_holdings AS i ON i.id = k.instance
@@ -40,16 +40,13 @@ func (s *Store) Read(ctx context.Context, key broker.Key) (held broker.Held, err
 }
 
 func readHeldBinding(ctx context.Context, db *sql.DB, key broker.Key) (held broker.Held, err error) {
-	var it row
-	var instance sql.NullString
+	var it, instance row
 	found := db.QueryRowContext(ctx, readBinding, key.Instance, key.Binding)
-	if err := found.Scan(it.into(&instance)...); err != nil {
+	if err := found.Scan(it.into(instance.into()...)...); err != nil {
 		return held, err
 	}
-	if instance.Valid {
-		if held.Instance, err = holdingOf(false, instance.String); err != nil {
-			return held, fmt.Errorf("what is held of %v: %w", key.Instance, err)
-		}
+	if held.Instance, err = instance.entry(broker.InstanceKey(key.Instance)); err != nil {
+		return held, err
 	}
 	held.Entry, err = it.entry(key)
 	return held, err
@@ -108,27 +105,43 @@ func (s *Store) each(ctx context.Context, query string, arguments []any, call fu
 	})
 }
 
-// Texts of holdings have no spaces: docs/instance.md. Before 0.3.0 a tombstone was written as marked.
-const stats = `
+// Partial indexes have the rows that are unfinished.
+const unfinishedStats = `
 WITH unfinished AS (
     SELECT holding::json, since FROM osb_holdings WHERE unfinished
     UNION ALL SELECT holding::json, since FROM osb_bindings WHERE unfinished)
 SELECT count(*) FILTER (WHERE holding ->> 'work' IS NOT NULL),
     count(*) FILTER (WHERE holding #>> '{row,phase}' IN ('making', 'deleting')),
     count(*) FILTER (WHERE holding #>> '{row,phase}' = 'waiting'),
-    min(since),
-    (SELECT count(*) FROM osb_holdings
-        WHERE NOT unfinished AND (holding LIKE '%"tombstone":true%' OR holding LIKE '%"marked":true%'))
-    + (SELECT count(*) FROM osb_bindings WHERE NOT held AND holding LIKE '%"tombstone":true%')
+    min(since)
 FROM unfinished
 `
 
-// Stats counts what is kept, in one query. The tombstones are counted over all rows.
-func (s *Store) Stats(ctx context.Context) (counted broker.Stats, err error) {
+// Texts of holdings have no spaces: docs/instance.md. Before 0.3.0 a tombstone was written as marked.
+const tombstones = `
+SELECT (SELECT count(*) FROM osb_holdings
+        WHERE NOT unfinished AND (holding LIKE '%"tombstone":true%' OR holding LIKE '%"marked":true%'))
+    + (SELECT count(*) FROM osb_bindings WHERE NOT held AND holding LIKE '%"tombstone":true%')
+`
+
+// Stats counts what is kept. It counts the tombstones over all rows, which takes some tenths of a second for a million.
+func (s *Store) Stats(ctx context.Context) (broker.Stats, error) {
+	counted, err := s.UnfinishedStats(ctx)
+	if err != nil {
+		return counted, err
+	}
+	err = s.query(func(db *sql.DB) error {
+		return db.QueryRowContext(ctx, tombstones).Scan(&counted.Tombstones)
+	})
+	return counted, err
+}
+
+// UnfinishedStats returns Stats without Tombstones. It reads only the rows that are unfinished.
+func (s *Store) UnfinishedStats(ctx context.Context) (counted broker.Stats, err error) {
 	var oldest sql.NullTime
 	err = s.query(func(db *sql.DB) error {
-		return db.QueryRowContext(ctx, stats).Scan(
-			&counted.Pending, &counted.Operating, &counted.Waiting, &oldest, &counted.Tombstones)
+		return db.QueryRowContext(ctx, unfinishedStats).Scan(
+			&counted.Pending, &counted.Operating, &counted.Waiting, &oldest)
 	})
 	if err == nil && oldest.Valid {
 		counted.Oldest = oldest.Time.UTC()

@@ -73,8 +73,8 @@ func (s *Store) prepare(ctx context.Context) error {
 		return err
 	}
 	if encoding != "UTF8" && encoding != "SQL_ASCII" {
-		return fmt.Errorf("the encoding of the database is %s. Create one with: CREATE DATABASE .. "+
-			"ENCODING 'UTF8' TEMPLATE template0", encoding)
+		return session.Lasting(fmt.Errorf("the encoding of the database is %s. Create one with: CREATE DATABASE .. "+
+			"ENCODING 'UTF8' TEMPLATE template0", encoding))
 	}
 	return s.migrate(ctx)
 }

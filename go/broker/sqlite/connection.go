@@ -141,11 +141,9 @@ func (c *connection) held(key broker.Key) (held broker.Held, err error) {
 		}
 		return held, err
 	}
-	instance, err := c.instance(key.Instance)
-	if err != nil {
+	if held.Instance, err = c.instance(key.Instance); err != nil {
 		return held, err
 	}
-	held.Instance = instance.Holding
 	row, err := one(c.readBinding, 5, key.Instance.String(), key.Binding.String())
 	if err != nil || row == nil {
 		return held, err

@@ -123,6 +123,8 @@ func (s *Store) read(ctx context.Context, call func(*connection) error) error {
 	case reader := <-s.readers:
 		defer func() { s.readers <- reader }()
 		return call(reader)
+	case <-s.over:
+		return errClosed
 	case <-ctx.Done():
 		return ctx.Err()
 	}

@@ -19,9 +19,7 @@ func testNothing(t *testing.T, open func(*testing.T) broker.NamedStore) {
 		wantEntry(t, key.String(), read(t, store, key).Entry, broker.Entry{})
 		err := store.Change(context.Background(), key, 0, func(held broker.Held) (*broker.Entry, error) {
 			wantEntry(t, "in the step of "+key.String(), held.Entry, broker.Entry{})
-			if held.Instance != (osb.Holding{}) {
-				t.Errorf("%v: the instance is %v", key, held.Instance)
-			}
+			wantEntry(t, "the instance of "+key.String(), held.Instance, broker.Entry{})
 			return nil, nil
 		})
 		if err != nil {
@@ -118,16 +116,12 @@ func testNoEntry(t *testing.T, open func(*testing.T) broker.NamedStore) {
 func testInstanceOfBinding(t *testing.T, open func(*testing.T) broker.NamedStore) {
 	first, second := opened(t, open), opened(t, open)
 	for _, phase := range []string{"ready", "deleting"} {
-		of := in(t, phase)
-		write(t, first, instance(1), broker.Entry{Holding: of})
+		of := broker.Entry{Holding: in(t, phase), Request: json.RawMessage(`{"instance_id":"` + phase + `"}`)}
+		write(t, first, instance(1), of)
 		for _, key := range []broker.Key{binding(1, 1), binding(2, 1)} {
-			if got := read(t, second, key).Instance; got != of {
-				t.Errorf("Read of %v: the instance is %v, want %v", key, got, of)
-			}
+			wantEntry(t, "the instance, by Read of "+key.String(), read(t, second, key).Instance, of)
 			err := second.Change(context.Background(), key, 0, func(held broker.Held) (*broker.Entry, error) {
-				if held.Instance != of {
-					t.Errorf("Change of %v: the instance is %v, want %v", key, held.Instance, of)
-				}
+				wantEntry(t, "the instance, by Change of "+key.String(), held.Instance, of)
 				return &broker.Entry{Holding: in(t, "ready")}, nil
 			})
 			if err != nil {
@@ -135,7 +129,8 @@ func testInstanceOfBinding(t *testing.T, open func(*testing.T) broker.NamedStore
 			}
 		}
 	}
-	wantEntry(t, "the instance", read(t, first, instance(1)).Entry, broker.Entry{Holding: in(t, "deleting")})
+	instance := read(t, first, instance(1)).Entry
+	wantEntry(t, "the instance", instance, broker.Entry{Holding: in(t, "deleting"), Request: instance.Request})
 }
 
 func testHeldBindings(t *testing.T, open func(*testing.T) broker.NamedStore) {

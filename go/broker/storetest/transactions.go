@@ -185,7 +185,7 @@ func seesFirst(one, other broker.Key, held broker.Held, written broker.Entry) er
 	var err error
 	switch {
 	case !one.IsBinding && other.IsBinding:
-		sees = held.Instance == written.Holding
+		sees = held.Instance.Holding == written.Holding
 	case one.IsBinding && !other.IsBinding:
 		sees, err = held.AnyBinding()
 	}

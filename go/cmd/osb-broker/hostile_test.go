@@ -163,8 +163,8 @@ func TestBesideSlowBodies(t *testing.T) {
 	for n := range slow {
 		conn := s.dial()
 		slow[n] = bufio.NewReadWriter(bufio.NewReader(conn), bufio.NewWriter(conn))
-		fmt.Fprintf(slow[n], "PUT %s-%d HTTP/1.1%sExpect: 100-continue\r\nConnection: close\r\nContent-Length: %d\r\n\r\n",
-			one, n, headers(), len(order))
+		const head = "PUT %s-%d HTTP/1.1%sExpect: 100-continue\r\nConnection: close\r\nContent-Length: %d\r\n\r\n"
+		fmt.Fprintf(slow[n], head, one, n, headers(), len(order))
 		s.line(slow[n], "HTTP/1.1 100 Continue\r\n") // the broker waits for the body
 		s.line(slow[n], "\r\n")
 		s.flush(slow[n], order[:9])

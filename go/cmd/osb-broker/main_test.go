@@ -10,6 +10,7 @@ import (
 	"net/http"
 	"os"
 	"os/exec"
+	"os/signal"
 	"path/filepath"
 	"regexp"
 	"strings"
@@ -21,6 +22,7 @@ import (
 // The test binary is the program too.
 func TestMain(m *testing.M) {
 	if os.Getenv("OSB_BROKER_TEST") == "program" {
+		signal.Ignore(syscall.SIGXFSZ) // which ends a process that writes beyond its limit (TestFullDisk)
 		main()
 		return
 	}
@@ -30,7 +32,8 @@ func TestMain(m *testing.M) {
 // osbBroker is the program with these arguments and variables.
 func osbBroker(environment []string, arguments ...string) *exec.Cmd {
 	command := exec.Command(os.Args[0], arguments...)
-	command.Env = append([]string{"OSB_BROKER_TEST=program", "PATH=" + os.Getenv("PATH"), "HOME=/nowhere"}, environment...)
+	own := []string{"OSB_BROKER_TEST=program", "PATH=" + os.Getenv("PATH"), "HOME=/nowhere"}
+	command.Env = append(own, environment...)
 	return command
 }
 
@@ -199,11 +202,13 @@ func TestUnusable(t *testing.T) {
 		{[]string{password}, []string{"serve", "--user", "a:b"}, "--user"},
 		{[]string{password}, []string{"serve", "--state", empty, "--existing"}, "--existing"},
 		{[]string{password}, []string{"serve", "--state", file("f", "")}, "the state folder can't be created"},
-		{[]string{password}, []string{"serve", "--state", empty, "--catalog", file("c", "{}")}, "can't be the catalogue"},
+		{[]string{password}, []string{"serve", "--state", empty, "--catalog", file("c", "{}")},
+			"can't be the catalogue"},
 		{[]string{password}, []string{"serve", "--state", empty, "--catalog", "/nowhere/c"}, "/nowhere/c"},
 		{[]string{password}, []string{"serve", "--state", empty, "--backend", "command:/nowhere/b"}, "/nowhere/b"},
 		{[]string{password}, []string{"serve", "--state", empty, "--store", "postgresql://u:pw@h/d"}, "PGPASSWORD"},
-		{[]string{password}, []string{"serve", "--state", empty, "--tls-certificate", "/nowhere/t", "--tls-key", "/nowhere/k"}, "/nowhere/t"},
+		{[]string{password}, []string{"serve", "--state", empty, "--tls-certificate", "/nowhere/t", "--tls-key", "/n/k"},
+			"/nowhere/t"},
 		{[]string{password}, []string{"serve", "--state", empty, "--listen", "192.0.2.1:1"}, "--listen 192.0.2.1:1"},
 		{nil, []string{"serve", "--users-file", file("u", "nobody\n")}, "user:password"},
 		{nil, []string{"password", "one"}, "OSB_BACKEND_KEY"},
@@ -284,20 +289,22 @@ func TestTLS(t *testing.T) {
 	folder := t.TempDir()
 	certificate, key := filepath.Join(folder, "c"), filepath.Join(folder, "k")
 	make := func(name string) {
-		line := []string{"req", "-x509", "-newkey", "ec", "-pkeyopt", "ec_paramgen_curve:prime256v1", "-nodes", "-days", "1",
-			"-subj", "/CN=" + name, "-keyout", key, "-out", certificate}
+		line := []string{"req", "-x509", "-newkey", "ec", "-pkeyopt", "ec_paramgen_curve:prime256v1", "-nodes",
+			"-days", "1", "-subj", "/CN=" + name, "-keyout", key, "-out", certificate}
 		if out, err := exec.Command("openssl", line...).CombinedOutput(); err != nil {
 			t.Fatalf("openssl: %v: %s", err, out)
 		}
 	}
 	make("first")
-	s := start(t, []string{password}, "--state", filepath.Join(folder, "s"), "--tls-certificate", certificate, "--tls-key", key)
+	s := start(t, []string{password}, "--state", filepath.Join(folder, "s"), "--tls-certificate", certificate,
+		"--tls-key", key)
 	transport := s.client.Transport.(*http.Transport)
 	seen := ""
-	transport.TLSClientConfig = &tls.Config{InsecureSkipVerify: true, VerifyConnection: func(c tls.ConnectionState) error {
+	remember := func(c tls.ConnectionState) error {
 		seen = c.PeerCertificates[0].Subject.CommonName
 		return nil
-	}}
+	}
+	transport.TLSClientConfig = &tls.Config{InsecureSkipVerify: true, VerifyConnection: remember}
 	if status, _ := s.ask("GET", "/v2/catalog", ""); status != 200 || seen != "first" {
 		t.Error(status, seen)
 	}

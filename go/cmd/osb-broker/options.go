@@ -47,8 +47,8 @@ GET /healthz, /readyz and /metrics need no password. The log is lines of JSON on
 error. SIGTERM and SIGINT end the broker with status 0, once the running work has ended.
 SIGHUP reads the certificate again.
 
-exit status: 0 done; 2 an argument or a file can't be used; 75 the store or the backend is
-away, so try again; 70 any other error`
+exit status: 0 done; 2 change something first: an argument, a file, a password or a right;
+75 the store or the backend is away, so try again; 70 any other error`
 
 func serveCommand() *cobra.Command {
 	s := &settings{}
@@ -84,7 +84,8 @@ func (s *settings) addPlaces(flags *pflag.FlagSet) {
 		"a second `host:port` for /healthz, /readyz and /metrics, which a full first one doesn't block")
 	flags.BoolVar(&s.sharePort, "share-port", false,
 		"let other brokers of the same store listen at the same address")
-	flags.StringVar(&s.state, "state", stateFolder(), "the `folder` with what --store and --backend don't place elsewhere")
+	flags.StringVar(&s.state, "state", stateFolder(),
+		"the `folder` with what --store and --backend don't place elsewhere")
 	flags.BoolVar(&s.existing, "existing", false, "start only over a store that has been used before")
 	flags.StringVar(&s.catalogue, "catalog", "", "the `file` with the document of GET /v2/catalog")
 	flags.StringVar(&s.store, "store", "", "where to keep holdings: a `file` of SQLite, or postgresql://..")
@@ -98,11 +99,13 @@ func (s *settings) addAccess(flags *pflag.FlagSet) {
 	flags.StringVar(&s.user, "user", "platform", "the `name` with which the platform logs in")
 	flags.StringVar(&s.passwordFile, "password-file", "",
 		"a `file` with the platform's password; a second line is a second valid password")
-	flags.StringVar(&s.usersFile, "users-file", "", "a `file` with lines user:password, in place of --user and its password")
+	flags.StringVar(&s.usersFile, "users-file", "",
+		"a `file` with lines user:password, in place of --user and its password")
 	flags.StringVar(&s.keyFile, "backend-key-file", "", "a `file` with the key of the databases' passwords")
 	flags.StringVar(&s.certificate, "tls-certificate", "", "a `file` with the certificates, to speak TLS")
 	flags.StringVar(&s.key, "tls-key", "", "the `file` with the key of --tls-certificate")
-	flags.StringVar(&s.clientCA, "tls-client-ca", "", "a `file` with the authorities whose client certificates are required")
+	flags.StringVar(&s.clientCA, "tls-client-ca", "",
+		"a `file` with the authorities whose client certificates are required")
 }
 
 func (s *settings) addRules(flags *pflag.FlagSet) {

@@ -76,7 +76,7 @@ func (p *parts) closeAll() {
 func (p *parts) openBackend(ctx context.Context, s *settings, log *logs.Logger) (err error) {
 	if name := strings.TrimPrefix(s.backend, "command:"); name != s.backend {
 		p.sells = "resource"
-		options := command.Options{State: filepath.Join(s.state, "command"), Limit: s.commandTime}
+		options := command.Options{State: filepath.Join(s.state, "command"), Limit: s.commandTime, Existing: s.existing}
 		p.backend, err = command.New(ctx, name, options)
 		return program.Unusable(wrapped("the backend can't be used", err))
 	}
@@ -102,7 +102,7 @@ func (p *parts) openDatabases(ctx context.Context, s *settings, log *logs.Logger
 		return err
 	}
 	options := postgres.Options{Key: key, ConnectionsPerInstance: s.perInstance, Sessions: s.threads + s.workers}
-	if options.Host, options.Port, err = customersOf(s.customers); err != nil {
+	if options.Host, options.Port, err = customersOf(s.customers, s.backend); err != nil {
 		return program.Unusable(fmt.Errorf("--customer-address: %w", err))
 	}
 	databases, err := postgres.Open(ctx, s.backend, options)
@@ -122,9 +122,15 @@ func (p *parts) openDatabases(ctx context.Context, s *settings, log *logs.Logger
 }
 
 // customersOf is the address at which applications reach the databases, or an empty host and 0 for that of the backend.
-func customersOf(address string) (string, int, error) {
+// No application on another machine reaches a socket of this one.
+func customersOf(address, backend string) (string, int, error) {
 	if address == "" {
-		return "", 0, nil
+		host, _, err := session.HostAndPort(backend)
+		if err == nil && strings.HasPrefix(host, "/") {
+			err = errors.New("--backend names a socket of this machine. Give the address at which applications reach " +
+				"the server")
+		}
+		return "", 0, err
 	}
 	host, text, err := net.SplitHostPort(address)
 	if err != nil {
@@ -218,11 +224,23 @@ func withoutPassword(url string) error {
 
 // away is the error of a server: it may be back later, unless an operator has to change something.
 func away(what string, err error) error {
+	remedy, isLasting := session.Remedy(err)
 	err = wrapped(what, err)
-	if errors.Is(err, postgres.ErrWrongKey) || errors.Is(err, session.ErrBadAddress) || errors.Is(err, session.ErrNotDurable) {
+	switch {
+	case isLasting && remedy != "":
+		return program.Unusable(fmt.Errorf("%w. %s", err, remedy))
+	case isLasting || errors.Is(err, postgres.ErrWrongKey):
 		return program.Unusable(err)
+	case isOfNetwork(err):
+		return program.Unavailable(fmt.Errorf("%w. Check that the server runs, and the host and port of the URL", err))
 	}
 	return program.Unavailable(err)
+}
+
+// isOfNetwork returns whether a connection failed before the server has answered.
+func isOfNetwork(err error) bool {
+	var failed *net.OpError
+	return errors.As(err, &failed)
 }
 
 func wrapped(what string, err error) error {

@@ -5,6 +5,7 @@ import (
 	"errors"
 	"fmt"
 	"io"
+	"net"
 	"os"
 	"os/signal"
 	"runtime/debug"
@@ -13,6 +14,7 @@ import (
 	"time"
 
 	"pippinterm/broker"
+	"pippinterm/broker/crash"
 	"pippinterm/program"
 	"pippinterm/program/health"
 	"pippinterm/program/limiter"
@@ -39,6 +41,9 @@ type running struct {
 
 // serve serves until SIGTERM or SIGINT. It writes the log to standard error.
 func serve(ctx context.Context, s *settings, stderr io.Writer) error {
+	if err := crash.Check(); err != nil {
+		return program.Unusable(err)
+	}
 	debug.SetGCPercent(400) // it has little in memory, and makes much that is short-lived
 	syscall.Umask(0o077)
 	stop, forget := signal.NotifyContext(ctx, syscall.SIGTERM, syscall.SIGINT)
@@ -64,13 +69,12 @@ func (r *running) open(ctx, stop context.Context, queue *logs.Queue) (err error)
 	if err != nil {
 		return err
 	}
-	late := &lateStore{}
-	r.metrics = metrics.New(ctx, metrics.Options{Store: late, DroppedLines: queue.Dropped, Connections: r.connections})
+	r.metrics = metrics.New(metrics.Options{DroppedLines: queue.Dropped, Connections: r.connections})
 	r.observer = program.Observers(logs.Observer(r.log), r.metrics)
 	if r.parts, err = partsOf(stop, s, r.log, r.observer); err != nil {
 		return err
 	}
-	late.store = r.parts.store
+	r.metrics.AddStore(ctx, r.parts.store)
 	defer func() {
 		if err != nil {
 			r.parts.closeAll()
@@ -93,16 +97,6 @@ func (r *running) open(ctx, stop context.Context, queue *logs.Queue) (err error)
 		Observer: r.observer,
 	})
 	return program.Unusable(err)
-}
-
-// A lateStore is a store for the metrics, which are made before the store.
-type lateStore struct{ store broker.Store }
-
-func (l *lateStore) Stats(ctx context.Context) (broker.Stats, error) {
-	if l.store == nil {
-		return broker.Stats{}, errors.New("the store isn't open")
-	}
-	return l.store.Stats(ctx)
 }
 
 func (r *running) connections() int {
@@ -185,6 +179,9 @@ func (r *running) sites(ctx context.Context) ([]server.Site, error) {
 	if err != nil {
 		return nil, program.Unusable(fmt.Errorf("--listen %s: %w", s.listen, err))
 	}
+	if certificates == nil && !isLoopback(r.main.Addr()) {
+		r.log.Warning("no_tls").Str("listen", s.listen).Send()
+	}
 	if err := server.CheckFiles(uint64(s.connections) + 100); err != nil {
 		return nil, program.Unusable(err)
 	}
@@ -200,6 +197,12 @@ func (r *running) sites(ctx context.Context) ([]server.Site, error) {
 	options.Next = r.handler
 	r.health = health.New(ctx, options)
 	return []server.Site{{Listener: r.main, Handler: r.health}}, nil
+}
+
+// isLoopback is whether only this machine reaches an address.
+func isLoopback(address net.Addr) bool {
+	tcp, ok := address.(*net.TCPAddr)
+	return ok && tcp.IP.IsLoopback()
 }
 
 // certificates are those of TLS, or nil. They are read again at SIGHUP.

@@ -64,6 +64,31 @@ func TestExistingBeginsNothing(t *testing.T) {
 	}
 }
 
+// --existing wants the folder of a command backend as it was used before. The store alone isn't enough.
+func TestExistingCommand(t *testing.T) {
+	state := t.TempDir()
+	own := filepath.Join(state, "command")
+	sold := []string{"--state", state, "--backend", "command:/bin/true"}
+	start(t, []string{password}, sold...).stop()
+	sold = append(sold, "--existing")
+	start(t, []string{password}, sold...).stop()
+	isMissing := func() { // the broker can't listen at that address, so it ends in any case
+		t.Helper()
+		unusable(t, own+" has no file .locks", append([]string{"serve", "--listen", "192.0.2.1:1"}, sold...)...)
+	}
+	if err := os.Rename(own, own+".elsewhere"); err != nil {
+		t.Fatal(err)
+	}
+	isMissing()
+	if err := os.Mkdir(own, 0o700); err != nil { // where the disk is mounted
+		t.Fatal(err)
+	}
+	isMissing()
+	if found, err := os.ReadDir(own); len(found) != 0 || err != nil {
+		t.Errorf("the folder has %v, %v", found, err)
+	}
+}
+
 // The password of a database depends on the key and on the id, and on nothing else.
 func TestPassword(t *testing.T) {
 	const key = "a key that is long enough for a broker"

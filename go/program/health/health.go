@@ -69,9 +69,10 @@ func (h *Handler) ServeHTTP(w http.ResponseWriter, r *http.Request) {
 
 const (
 	fine     = `{"status":"ok"}`
-	notReady = `{"description":"The store can't be used now.","error":"ServiceUnavailable"}`
+	notReady = `{"description":"The store can't be used now. The log has the reason: not_ready.",` +
+		`"error":"ServiceUnavailable"}`
 	stopping = `{"description":"The broker is being stopped.","error":"ServiceUnavailable"}`
-	notGet   = `{"error":"MethodNotAllowed"}`
+	notGet   = `{"description":"The path takes GET and HEAD.","error":"MethodNotAllowed"}`
 )
 
 func (h *Handler) answer(w http.ResponseWriter, r *http.Request, check func(context.Context) error) {

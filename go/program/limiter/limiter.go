@@ -8,18 +8,23 @@ import (
 )
 
 const (
-	burst    = 20              // failures at once
-	interval = 3 * time.Second // after which one more is allowed
-	capacity = 16384           // addresses that are remembered
-	sample   = 8               // of which one is forgotten for a new one
+	burst    = 20                     // failures at once
+	interval = 3 * time.Second        // after which one more is allowed
+	delay    = 500 * time.Millisecond // of a login from an address that has failed too often
+	capacity = 16384                  // addresses that are remembered
+	sample   = 8                      // of which one is forgotten for a new one
 )
 
-// A Limiter limits the failed logins of each address: 20 at once, and one more each 3 seconds. All IPv6 addresses of a
-// /64 count as one address, since one client usually has them all. A Limiter remembers at most 16,384 addresses, in
-// about 2 MiB. If there are more, it forgets addresses whose limit is nearly restored. Any number of goroutines may use
-// a Limiter. (The numbers are this project's choice.)
+// A Limiter counts the failed logins of each address: 20 are free at once, and one more each 3 seconds. Each further
+// login from the address has to wait for half a second. All IPv6 addresses of a /64 count as one address, since one
+// client usually has them all. A Limiter remembers at most 16,384 addresses, in about 2 MiB. If there are more, it
+// forgets addresses whose failures are nearly over. Any number of goroutines may use a Limiter. (The numbers are this
+// project's choice.)
 //
-// The address is that of the connection, so all clients behind a proxy share one limit.
+// The address is that of the connection, so all clients behind a proxy share one limit. Nobody can tell the client with
+// the right password from one that guesses it. So a Limiter delays all logins from an address alike, and rejects none:
+// whoever has the right password gets in half a second late, and whoever guesses can try two passwords a second on each
+// connection.
 type Limiter struct {
 	now func() time.Time
 
@@ -30,14 +35,15 @@ type Limiter struct {
 // New returns a Limiter without failures.
 func New() *Limiter { return &Limiter{now: time.Now, free: make(map[netip.Prefix]time.Time)} }
 
-// Allow returns whether a login from this address may be tried. The address is an IP address without a port. All texts
-// that are no IP address count as one address. Allow counts nothing.
-//
-// If Allow returns false, answer 503 and not 429: a 4xx of a broker has to depend on the request alone.
-func (l *Limiter) Allow(address string) bool {
+// Delay returns how long a login from this address has to wait before its password is judged: 0, or half a second. The
+// address is an IP address without a port. All texts that are no IP address count as one address. Delay counts nothing.
+func (l *Limiter) Delay(address string) time.Duration {
 	l.mutex.Lock()
 	defer l.mutex.Unlock()
-	return l.free[keyOf(address)].Sub(l.now()) <= (burst-1)*interval
+	if l.free[keyOf(address)].Sub(l.now()) <= (burst-1)*interval {
+		return 0
+	}
+	return delay
 }
 
 // Failed counts a failed login from this address.

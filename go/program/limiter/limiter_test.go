@@ -14,10 +14,10 @@ func at() (*Limiter, func(time.Duration)) {
 	return limiter, func(by time.Duration) { now = now.Add(by) }
 }
 
-// failures counts how many failures are allowed in a row.
+// failures counts how many failures in a row are free.
 func failures(limiter *Limiter, address string) int {
 	for count := 0; ; count++ {
-		if !limiter.Allow(address) || count > 2*burst {
+		if limiter.Delay(address) > 0 || count > 2*burst {
 			return count
 		}
 		limiter.Failed(address)
@@ -32,7 +32,7 @@ func TestTwentyFailuresAndOneMoreEachThreeSeconds(t *testing.T) {
 	}{{0, 20}, {0, 0}, {2999 * time.Millisecond, 0}, {time.Millisecond, 1}, {9 * time.Second, 3}, {time.Hour, 20}} {
 		pass(step.after)
 		if got := failures(limiter, "192.0.2.1"); got != step.want {
-			t.Errorf("%v later %d failures are allowed, want %d", step.after, got, step.want)
+			t.Errorf("%v later %d failures are free, want %d", step.after, got, step.want)
 		}
 	}
 }
@@ -44,15 +44,27 @@ func TestFailuresBeyondTheLimitDontExtendIt(t *testing.T) {
 	}
 	pass(burst * interval)
 	if got := failures(limiter, "192.0.2.1"); got != burst {
-		t.Errorf("%d failures are allowed a minute later, want %d", got, burst)
+		t.Errorf("%d failures are free a minute later, want %d", got, burst)
 	}
 }
 
-func TestAllowCountsNothing(t *testing.T) {
+// The guide and the handler promise that nobody waits for longer than a second.
+func TestTheDelay(t *testing.T) {
+	limiter, _ := at()
+	failures(limiter, "192.0.2.1")
+	for count := 0; count < 1000; count++ {
+		if got := limiter.Delay("192.0.2.1"); got != 500*time.Millisecond {
+			t.Fatalf("after %d more failures the delay is %v", count, got)
+		}
+		limiter.Failed("192.0.2.1")
+	}
+}
+
+func TestDelayCountsNothing(t *testing.T) {
 	limiter, _ := at()
 	for count := 0; count < 100; count++ {
-		if !limiter.Allow("192.0.2.1") {
-			t.Fatal("an address that never failed isn't allowed")
+		if limiter.Delay("192.0.2.1") != 0 {
+			t.Fatal("an address that never failed is delayed")
 		}
 	}
 }
@@ -73,7 +85,7 @@ func TestWhichAddressesShareALimit(t *testing.T) {
 	} {
 		limiter, _ := at()
 		failures(limiter, test.first)
-		if isShared := !limiter.Allow(test.second); isShared != test.isShared {
+		if isShared := limiter.Delay(test.second) > 0; isShared != test.isShared {
 			t.Errorf("%q and %q: shared is %v", test.first, test.second, isShared)
 		}
 	}
@@ -100,7 +112,7 @@ func TestAFullLimiterKeepsTheWorst(t *testing.T) {
 	for number := 0; number < 2*capacity; number++ {
 		limiter.Failed(fmt.Sprintf("10.%d.%d.%d", number>>16&255, number>>8&255, number&255))
 	}
-	if limiter.Allow("192.0.2.1") {
+	if limiter.Delay("192.0.2.1") == 0 {
 		t.Error("an address at its limit is forgotten for others that failed once")
 	}
 }
@@ -113,11 +125,11 @@ func TestManyGoroutines(t *testing.T) {
 		go func() {
 			defer all.Done()
 			limiter.Failed("192.0.2.1")
-			limiter.Allow("192.0.2.1")
+			limiter.Delay("192.0.2.1")
 		}()
 	}
 	all.Wait()
 	if got := failures(limiter, "192.0.2.1"); got != burst-10 {
-		t.Errorf("%d more failures are allowed after 10, want %d", got, burst-10)
+		t.Errorf("%d more failures are free after 10, want %d", got, burst-10)
 	}
 }

@@ -14,7 +14,8 @@ import (
 //	request          info: a request and its answer, with request (the id of the request), instance, binding, route,
 //	                 method, target, status, reason, milliseconds, user, address, traceparent, vcap_request_id
 //	                 and originating_identity
-//	operation_ended  info: an asynchronous operation has ended, with instance, binding and succeeded
+//	operation_ended  info: an asynchronous operation has ended, or pending work that a dead worker had left, with
+//	                 instance, binding and succeeded
 //	Failure.Event    error: a failure, with request, instance, binding and error
 func Observer(logger *Logger) broker.Observer { return observer{logger} }
 
@@ -53,7 +54,7 @@ func (o observer) Failed(failure broker.Failure) {
 // Committed logs nothing.
 func (o observer) Committed(int) {}
 
-// Finished logs the end of an operation.
+// Finished logs the end of an operation, or of pending work.
 func (o observer) Finished(key broker.Key, ok bool) {
 	event := o.Info("operation_ended")
 	addKey(event, key, true)

@@ -16,8 +16,6 @@ import (
 
 // Options give the metrics that aren't counted from events. If a member is nil, its metrics are left out.
 type Options struct {
-	// Store gives the metrics of the store. It is asked at most once a second.
-	Store Store
 	// DroppedLines returns how many lines of the log were dropped, as logs.Queue.Dropped does.
 	DroppedLines func() uint64
 	// Connections returns how many connections are open, as server.Listener.Connections does.
@@ -31,11 +29,12 @@ type Options struct {
 //	osb_broker_request_seconds{route}         durations of requests, a histogram
 //	osb_broker_failures_total{event}          failures, such as those of the store and the backend
 //	osb_broker_commit_changes                 changes that were committed together, a histogram
-//	osb_broker_operations_total{result}       ended asynchronous operations: succeeded or failed
+//	osb_broker_operations_total{result}       ended asynchronous operations, and ended pending work that a dead worker
+//	                                          had left: succeeded or failed
 //	osb_broker_pending                        instances and bindings with pending work
 //	osb_broker_operating                      instances and bindings with a running operation
 //	osb_broker_waiting                        instances and bindings that wait for their first Poll
-//	osb_broker_tombstones                     ids with a tombstone
+//	osb_broker_tombstones                     ids with a tombstone, counted once a minute
 //	osb_broker_oldest_unfinished_seconds      age of the oldest of pending, operating and waiting, or 0
 //	osb_broker_store_up                       1, or 0 if the store fails: then the five before it are left out
 //	osb_broker_log_lines_dropped_total        dropped lines of the log
@@ -52,13 +51,13 @@ type Metrics struct {
 
 const prefix = "osb_broker_"
 
-// New returns Metrics that count from zero. After ctx is done, Store.Stats isn't called any more.
-func New(ctx context.Context, options Options) *Metrics {
+// New returns Metrics that count from zero.
+func New(options Options) *Metrics {
 	m := &Metrics{
 		registry:   prometheus.NewRegistry(),
 		requests:   counter("requests_total", "Answered requests.", "route", "status"),
 		failures:   counter("failures_total", "Failures, by their event in the log.", "event"),
-		operations: counter("operations_total", "Ended asynchronous operations.", "result"),
+		operations: counter("operations_total", "Ended asynchronous operations, and work that was taken up.", "result"),
 		durations: prometheus.NewHistogramVec(prometheus.HistogramOpts{
 			Name: prefix + "request_seconds", Help: "Durations of requests, in seconds.",
 			Buckets: []float64{.001, .0025, .005, .01, .025, .05, .1, .25, .5, 1, 2.5, 5, 10, 30, 60, 300},
@@ -70,18 +69,21 @@ func New(ctx context.Context, options Options) *Metrics {
 	}
 	m.registry.MustRegister(m.requests, m.durations, m.failures, m.operations, m.commits, collectors.NewGoCollector(),
 		collectors.NewProcessCollector(collectors.ProcessCollectorOpts{}))
-	m.addOptions(ctx, options)
+	m.addOptions(options)
 	return m
+}
+
+// AddStore adds the metrics of the store, which is asked at most once a second, and not after ctx is done. Call it once
+// at most.
+func (m *Metrics) AddStore(ctx context.Context, store Store) {
+	m.registry.MustRegister(newCollector(ctx, store))
 }
 
 func counter(name, help string, labels ...string) *prometheus.CounterVec {
 	return prometheus.NewCounterVec(prometheus.CounterOpts{Name: prefix + name, Help: help}, labels)
 }
 
-func (m *Metrics) addOptions(ctx context.Context, options Options) {
-	if options.Store != nil {
-		m.registry.MustRegister(newCollector(ctx, options.Store))
-	}
+func (m *Metrics) addOptions(options Options) {
 	if dropped := options.DroppedLines; dropped != nil {
 		m.registry.MustRegister(prometheus.NewCounterFunc(prometheus.CounterOpts{
 			Name: prefix + "log_lines_dropped_total", Help: "Dropped lines of the log.",
@@ -115,7 +117,7 @@ func (m *Metrics) Failed(failure broker.Failure) {
 // Committed counts a commit.
 func (m *Metrics) Committed(changes int) { m.commits.Observe(float64(changes)) }
 
-// Finished counts an operation that has ended.
+// Finished counts an operation that has ended, or pending work.
 func (m *Metrics) Finished(_ broker.Key, ok bool) {
 	result := "failed"
 	if ok {

@@ -44,7 +44,7 @@ func expect(t *testing.T, metrics *Metrics, want map[string]string) {
 }
 
 func TestEventsAreCounted(t *testing.T) {
-	metrics := New(context.Background(), Options{})
+	metrics := New(Options{})
 	for _, exchange := range []broker.Exchange{
 		{Route: "provision", Status: 201, Duration: 3 * time.Millisecond},
 		{Route: "provision", Status: 201, Duration: 2 * time.Second},
@@ -79,7 +79,7 @@ func TestEventsAreCounted(t *testing.T) {
 }
 
 func TestTheNumberOfEventsIsBounded(t *testing.T) {
-	metrics := New(context.Background(), Options{})
+	metrics := New(Options{})
 	for number := 0; number < 3*mostNames; number++ {
 		metrics.Failed(broker.Failure{Event: fmt.Sprint("event-", number)})
 	}
@@ -100,7 +100,7 @@ func TestTheNumberOfEventsIsBounded(t *testing.T) {
 }
 
 func TestTwoMetricsShareNothing(t *testing.T) {
-	first, second := New(context.Background(), Options{}), New(context.Background(), Options{})
+	first, second := New(Options{}), New(Options{})
 	first.Answered(broker.Exchange{Route: "poll", Status: 200})
 	if got := lines(t, second)[`osb_broker_requests_total{route="poll",status="200"}`]; got != "" {
 		t.Errorf("the second counts %s", got)
@@ -108,7 +108,7 @@ func TestTwoMetricsShareNothing(t *testing.T) {
 }
 
 func TestTheProcessIsMeasured(t *testing.T) {
-	got := lines(t, New(context.Background(), Options{}))
+	got := lines(t, New(Options{}))
 	for _, name := range []string{"process_open_fds", "go_goroutines"} {
 		if got[name] == "" {
 			t.Errorf("%s is missing", name)
@@ -118,10 +118,9 @@ func TestTheProcessIsMeasured(t *testing.T) {
 
 func TestOptions(t *testing.T) {
 	names := []string{"osb_broker_store_up", "osb_broker_log_lines_dropped_total", "osb_broker_connections"}
-	none := lines(t, New(context.Background(), Options{}))
-	all := New(context.Background(), Options{
-		Store: &store{}, DroppedLines: func() uint64 { return 3 }, Connections: func() int { return 4 },
-	})
+	none := lines(t, New(Options{}))
+	all := New(Options{DroppedLines: func() uint64 { return 3 }, Connections: func() int { return 4 }})
+	all.AddStore(context.Background(), &store{})
 	for _, name := range names {
 		if none[name] != "" {
 			t.Errorf("%s is %s without its option", name, none[name])
@@ -146,8 +145,8 @@ func (s *store) Stats(context.Context) (broker.Stats, error) {
 }
 
 // over returns Metrics over a store, with a clock that the second function moves.
-func over(store *store) (*Metrics, func(time.Duration)) {
-	metrics, now := New(context.Background(), Options{}), time.Date(2024, 1, 1, 0, 0, 0, 0, time.UTC)
+func over(store Store) (*Metrics, func(time.Duration)) {
+	metrics, now := New(Options{}), time.Date(2024, 1, 1, 0, 0, 0, 0, time.UTC)
 	collector := newCollector(context.Background(), store)
 	collector.now = func() time.Time { return now }
 	metrics.registry.MustRegister(collector)
@@ -220,4 +219,65 @@ func TestAStoreThatCantBeAsked(t *testing.T) {
 	failing.err = nil
 	pass(keptFor)
 	expect(t, metrics, map[string]string{"osb_broker_store_up": "1", "osb_broker_pending": "7"})
+}
+
+// A slowStore counts how often all its rows are read.
+type slowStore struct {
+	store
+	failed error // of Stats
+}
+
+func (s *slowStore) Stats(ctx context.Context) (broker.Stats, error) {
+	stats, err := s.store.Stats(ctx)
+	if s.failed != nil {
+		return broker.Stats{}, s.failed
+	}
+	return stats, err
+}
+
+func (s *slowStore) UnfinishedStats(context.Context) (broker.Stats, error) {
+	stats := s.stats
+	stats.Tombstones = 0
+	return stats, s.err
+}
+
+func TestTombstonesAreCountedOnceAMinute(t *testing.T) {
+	slow := &slowStore{store: store{stats: broker.Stats{Pending: 1, Tombstones: 4}}}
+	metrics, pass := over(slow)
+	for _, step := range []struct {
+		after               time.Duration
+		pending, tombstones int // what the store has from then on
+		asked               int
+		shown               string
+	}{
+		{0, 1, 4, 1, "4"}, {time.Second, 2, 5, 1, "4"}, {58 * time.Second, 3, 6, 1, "4"}, {time.Second, 4, 7, 2, "7"},
+		{59 * time.Second, 5, 8, 2, "7"}, {time.Hour, 6, 9, 3, "9"},
+	} {
+		pass(step.after)
+		slow.stats = broker.Stats{Pending: step.pending, Tombstones: step.tombstones}
+		expect(t, metrics, map[string]string{
+			"osb_broker_pending": fmt.Sprint(step.pending), "osb_broker_tombstones": step.shown,
+		})
+		if slow.asked != step.asked {
+			t.Errorf("%v later all rows were read %d times, want %d", step.after, slow.asked, step.asked)
+		}
+	}
+}
+
+func TestTombstonesThatCantBeCounted(t *testing.T) {
+	slow := &slowStore{store: store{stats: broker.Stats{Pending: 1, Tombstones: 4}}, failed: errors.New("too slow")}
+	metrics, pass := over(slow)
+	shown := map[string]string{"osb_broker_store_up": "1", "osb_broker_pending": "1", "osb_broker_tombstones": ""}
+	expect(t, metrics, shown)
+	slow.failed = nil
+	pass(time.Second)
+	expect(t, metrics, shown)
+	pass(time.Minute)
+	shown["osb_broker_tombstones"] = "4"
+	expect(t, metrics, shown)
+	slow.err = errors.New("away")
+	pass(time.Second)
+	expect(t, metrics, map[string]string{
+		"osb_broker_store_up": "0", "osb_broker_pending": "", "osb_broker_tombstones": "",
+	})
 }

@@ -11,8 +11,9 @@ import (
 )
 
 const (
-	keptFor  = time.Second     // how long counts of a store are used
-	mostTime = 5 * time.Second // how long the store may take to count
+	keptFor       = time.Second     // how long counts of a store are used
+	tombstonesFor = time.Minute     // how long the count of the tombstones of a SlowStore is used
+	mostTime      = 5 * time.Second // how long the store may take to count
 )
 
 // A Store returns counts of what it keeps. Every broker.Store is one.
@@ -20,8 +21,16 @@ type Store interface {
 	Stats(ctx context.Context) (broker.Stats, error)
 }
 
+// A SlowStore is a Store whose Stats reads all rows to count the tombstones.
+type SlowStore interface {
+	Store
+	// UnfinishedStats returns Stats without Tombstones, and reads only what is unfinished.
+	UnfinishedStats(ctx context.Context) (broker.Stats, error)
+}
+
 // A collector is a prometheus.Collector over the counts of a store. If the store fails, only osb_broker_store_up is
-// sent: old counts would hide the failure.
+// sent: old counts would hide the failure. The tombstones of a SlowStore are counted once a minute at most. If that
+// fails, they alone are left out until they are counted again.
 type collector struct {
 	ctx   context.Context // Collect has none
 	store Store
@@ -38,6 +47,10 @@ type collector struct {
 	at    time.Time  // when it was asked
 	stats broker.Stats
 	err   error
+	// of the tombstones of a SlowStore:
+	counted    int
+	hasCounted bool      // whether the last count has succeeded
+	countedAt  time.Time // when it ended
 }
 
 func newCollector(ctx context.Context, store Store) *collector {
@@ -62,9 +75,9 @@ func (c *collector) Describe(to chan<- *prometheus.Desc) {
 	}
 }
 
-// Collect sends the counts, which are at most a second old.
+// Collect sends the counts, which are at most a second old, but for the tombstones of a SlowStore.
 func (c *collector) Collect(to chan<- prometheus.Metric) {
-	stats, err := c.ask()
+	stats, hasTombstones, err := c.ask()
 	send := func(desc *prometheus.Desc, value float64) {
 		to <- prometheus.MustNewConstMetric(desc, prometheus.GaugeValue, value)
 	}
@@ -76,21 +89,46 @@ func (c *collector) Collect(to chan<- prometheus.Metric) {
 	send(c.pending, float64(stats.Pending))
 	send(c.operating, float64(stats.Operating))
 	send(c.waiting, float64(stats.Waiting))
-	send(c.tombstones, float64(stats.Tombstones))
+	if hasTombstones {
+		send(c.tombstones, float64(stats.Tombstones))
+	}
 	send(c.oldest, c.ageOf(stats.Oldest))
 }
 
-func (c *collector) ask() (broker.Stats, error) {
+// ask returns the counts, and whether the tombstones are among them.
+func (c *collector) ask() (stats broker.Stats, hasTombstones bool, err error) {
 	c.mutex.Lock()
 	defer c.mutex.Unlock()
-	if !c.at.IsZero() && c.now().Sub(c.at) < keptFor {
-		return c.stats, c.err
+	slow, isSlow := c.store.(SlowStore)
+	if c.at.IsZero() || c.now().Sub(c.at) >= keptFor {
+		if !isSlow {
+			c.stats, c.err = c.within(c.store.Stats)
+		} else if c.stats, c.err = c.within(slow.UnfinishedStats); c.err == nil {
+			c.count(slow)
+		}
+		c.at = c.now()
 	}
+	if !isSlow {
+		return c.stats, true, c.err
+	}
+	stats = c.stats
+	stats.Tombstones = c.counted
+	return stats, c.hasCounted, c.err
+}
+
+// count counts the tombstones, unless that was done lately.
+func (c *collector) count(slow SlowStore) {
+	if !c.countedAt.IsZero() && c.now().Sub(c.countedAt) < tombstonesFor {
+		return
+	}
+	all, err := c.within(slow.Stats)
+	c.counted, c.hasCounted, c.countedAt = all.Tombstones, err == nil, c.now()
+}
+
+func (c *collector) within(ask func(context.Context) (broker.Stats, error)) (broker.Stats, error) {
 	ctx, cancel := context.WithTimeout(c.ctx, mostTime)
 	defer cancel()
-	c.stats, c.err = c.store.Stats(ctx)
-	c.at = c.now()
-	return c.stats, c.err
+	return ask(ctx)
 }
 
 // ageOf returns how many seconds ago a time was. It returns 0 for the zero Time and for a time in the future.

@@ -39,20 +39,20 @@ func (f front) ServeHTTP(w http.ResponseWriter, r *http.Request) {
 	}
 	r.TLS = c.state() // as net/http does for a *tls.Conn
 	f.next.ServeHTTP(w, r)
-	drain(w, r)
+	drain(r)
 }
 
-// drained is how many bytes of a body are read that the handler left.
-const drained = 256 << 10
+// drained is how many bytes of a body are read that the handler left: more than most bodies have. net/http reads
+// 256 KiB, and none if the connection is closed after the answer.
+const drained = 2 << 20
 
-// drain reads what the handler left of the body if the connection is closed after the answer. net/http does so on a
-// connection that stays open. Otherwise the kernel may reset the connection while the client still sends, and the client
-// never sees the answer.
-func drain(w http.ResponseWriter, r *http.Request) {
-	isClosed := r.Close || w.Header().Get("Connection") == "close"
-	if isClosed && r.Header.Get("Expect") == "" { // a client that expects 100-continue sends nothing
-		_, _ = io.CopyN(io.Discard, r.Body, drained)
+// drain reads what the handler left of the body. Otherwise the connection would be closed while the client still sends,
+// and a client that sends all of the body before it reads would never see the answer.
+func drain(r *http.Request) {
+	if r.ContentLength == 0 || r.Header.Get("Expect") != "" { // a client that expects 100-continue sends nothing
+		return
 	}
+	_, _ = io.CopyN(io.Discard, r.Body, drained) // the answer is the same if the body ends, or is cut
 }
 
 // reject answers a request with a bad head. The answer isn't JSON, so a platform doesn't take it for a decision of the

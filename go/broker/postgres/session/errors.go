@@ -1,9 +1,11 @@
 package session
 
 import (
+	"crypto/x509"
 	"database/sql/driver"
 	"errors"
 	"io"
+	"io/fs"
 	"net"
 
 	"github.com/lib/pq"
@@ -11,6 +13,11 @@ import (
 
 // Codes of errors of the server (PostgreSQL's documentation, appendix "PostgreSQL Error Codes").
 const (
+	InvalidParameterValue = "22023"
+	InvalidAuthorization  = "28000"
+	InvalidPassword       = "28P01"
+	InvalidCatalogName    = "3D000" // the name of a database
+	InvalidSchemaName     = "3F000"
 	SerializationFailure  = "40001"
 	DeadlockDetected      = "40P01"
 	InsufficientPrivilege = "42501"
@@ -27,8 +34,8 @@ var (
 	// ErrNotBegun reports that a transaction couldn't begin on a connection, for example because the server had closed
 	// it. Nothing was done.
 	ErrNotBegun = errors.New("the transaction couldn't begin")
-	// ErrUnknownCommit reports that a transaction may have been committed or not, or that its commit may not outlive the
-	// loss of the server.
+	// ErrUnknownCommit reports that a transaction may have been committed or not, or that its commit may not outlive
+	// the loss of the server.
 	ErrUnknownCommit = errors.New("nobody knows whether the transaction was committed")
 	// ErrNotDurable reports that the setting synchronous_commit is off.
 	ErrNotDurable = errors.New("synchronous_commit is off, so a commit might not outlive a power cut")
@@ -56,4 +63,64 @@ func IsLost(err error) bool {
 	var failed *net.OpError
 	return errors.Is(err, driver.ErrBadConn) || errors.Is(err, io.EOF) || errors.Is(err, io.ErrUnexpectedEOF) ||
 		errors.As(err, &failed)
+}
+
+// Lasting returns an error with the text of err, for which Remedy returns that it lasts. Use it for what a database or
+// a role has to be changed for, such as an encoding. It returns nil if err is nil.
+func Lasting(err error) error {
+	if err == nil {
+		return nil
+	}
+	return lasting{err}
+}
+
+type lasting struct{ error }
+
+func (l lasting) Unwrap() error { return l.error }
+
+// remedies are what to do about an error of the server that lasts until somebody does it.
+var remedies = map[pq.ErrorCode]string{
+	InvalidPassword:       "Set PGPASSWORD to the password of the role, or PGPASSFILE to a file that has it",
+	InvalidAuthorization:  "Create the role, let it log in, and let it connect by pg_hba.conf",
+	InvalidCatalogName:    "Create the database, or name another one in the URL",
+	InvalidSchemaName:     "Create the schema of search_path, or let the role use it",
+	InsufficientPrivilege: "Grant the right to the role of the URL, or name another role",
+	InvalidParameterValue: "Correct the parameters of the URL, and the server's settings for the role and the database",
+	UndefinedObject:       "Correct the parameters of the URL",
+}
+
+// Remedy returns whether an error of a connection or a server lasts until somebody changes the configuration, the role
+// or the database, and what to do about it. It returns "" if the text of the error says that. Every other error may be
+// over soon: the server can't be reached, starts or stops, or has no connection left. (Which errors last is this
+// project's choice.)
+func Remedy(err error) (remedy string, isLasting bool) {
+	var failed *pq.Error
+	if errors.As(err, &failed) {
+		remedy, isLasting = remedies[failed.Code]
+		return remedy, isLasting
+	}
+	var known lasting
+	if errors.As(err, &known) || errors.Is(err, ErrBadAddress) || errors.Is(err, ErrNotDurable) {
+		return "", true
+	}
+	return remedyOfTLS(err)
+}
+
+// remedyOfTLS is Remedy for an error of TLS, or of one of its files.
+func remedyOfTLS(err error) (remedy string, isLasting bool) {
+	var file *fs.PathError
+	var authority x509.UnknownAuthorityError
+	var host x509.HostnameError
+	var certificate x509.CertificateInvalidError
+	switch {
+	case errors.Is(err, pq.ErrSSLNotSupported):
+		return "Turn on ssl in the server, or set sslmode=disable in the URL if nobody else can use the network", true
+	case errors.As(err, &authority), errors.As(err, &host), errors.As(err, &certificate):
+		return "Name the server as its certificate does, and the authority by sslrootcert in the URL", true
+	case errors.Is(err, pq.ErrSSLKeyHasWorldPermissions), errors.Is(err, pq.ErrSSLKeyUnknownOwnership):
+		return "Let nobody else read the file of sslkey", true
+	case errors.As(err, &file):
+		return "Correct the name of the file in the URL, or its permissions", true
+	}
+	return "", false
 }

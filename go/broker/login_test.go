@@ -1,0 +1,109 @@
+package broker_test
+
+import (
+	"net/http"
+	"strings"
+	"sync"
+	"sync/atomic"
+	"testing"
+	"time"
+
+	"pippinterm/program/limiter"
+)
+
+// few lets some logins fail, and delays each later one.
+type few struct {
+	left  int
+	delay time.Duration
+}
+
+func (f *few) Failed(string) { f.left-- }
+
+func (f *few) Delay(string) time.Duration {
+	if f.left > 0 {
+		return 0
+	}
+	return f.delay
+}
+
+func wrongLogin(r *http.Request) { r.SetBasicAuth("u", "q") }
+
+// After failed logins from an address, a wrong password and the right one are judged equally late.
+func TestFailedLoginsAreDelayed(t *testing.T) {
+	limiter := &few{left: 1, delay: 60 * time.Millisecond}
+	s := newSite(t, setting{limiter: limiter})
+	s.expect(t, 401, "GET", "/v2/catalog", "", wrongLogin)
+	for _, it := range []struct {
+		status int
+		change func(*http.Request)
+	}{{401, wrongLogin}, {200, func(*http.Request) {}}, {401, wrongLogin}} {
+		began := time.Now()
+		s.expect(t, it.status, "GET", "/v2/catalog", "", it.change)
+		if took := time.Since(began); took < limiter.delay {
+			t.Errorf("%d came after %v, before the password may be judged", it.status, took)
+		}
+	}
+	if limiter.left != -2 {
+		t.Errorf("%d failures were counted, want 3", 1-limiter.left)
+	}
+}
+
+// The right password is accepted while others at its address try wrong ones without a pause, also by a broker that has
+// just started and has seen no login. The wrong ones are judged at the rate that the guide states.
+func TestGuessesDontShutOutThePlatform(t *testing.T) {
+	const guessers, free = 16, 20
+	s := newSite(t, setting{limiter: limiter.New(), atOnce: guessers})
+	began, stop := time.Now(), make(chan struct{})
+	var judged atomic.Int64
+	var all sync.WaitGroup
+	var once sync.Once
+	end := func() { once.Do(func() { close(stop) }); all.Wait() }
+	defer end()
+	for n := 0; n < guessers; n++ {
+		all.Add(1)
+		go func() {
+			defer all.Done()
+			for isOver := false; !isOver; {
+				given, body := s.ask("GET", "/v2/catalog", "", wrongLogin)
+				if given.StatusCode != 401 {
+					t.Errorf("a wrong password: %d %s", given.StatusCode, body)
+					return
+				}
+				judged.Add(1)
+				select {
+				case <-stop:
+					isOver = true
+				default:
+				}
+			}
+		}()
+	}
+	for late := time.Now().Add(20 * time.Second); judged.Load() < free+guessers; time.Sleep(time.Millisecond) {
+		if time.Now().After(late) {
+			t.Fatal("the wrong passwords aren't judged")
+		}
+	}
+	for n := 0; n < 3; n++ {
+		s.expect(t, 200, "GET", "/v2/catalog", "")
+	}
+	end()
+	// two a second for each of them, besides those that are free, and those that began before others had failed
+	most := free + guessers + guessers*(2*time.Since(began).Seconds()+1)
+	if got := judged.Load(); float64(got) > most {
+		t.Errorf("%d passwords were judged in %v, want at most %.0f", got, time.Since(began), most)
+	}
+}
+
+// A request without a login is told so, and one with a wrong login isn't told which part of it is wrong.
+func TestWhatALoginIsTold(t *testing.T) {
+	s := newSite(t, setting{})
+	none := s.expect(t, 401, "GET", "/v2/catalog", "", func(r *http.Request) { r.Header.Del("Authorization") })
+	if !strings.Contains(none, "The header Authorization is missing.") {
+		t.Error(none)
+	}
+	user := s.expect(t, 401, "GET", "/v2/catalog", "", func(r *http.Request) { r.SetBasicAuth("v", "p") })
+	if wrong := s.expect(t, 401, "GET", "/v2/catalog", "", wrongLogin); wrong != user ||
+		!strings.Contains(wrong, "The user or the password is wrong.") {
+		t.Error(wrong, user)
+	}
+}

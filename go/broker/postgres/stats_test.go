@@ -1,0 +1,51 @@
+package postgres
+
+import (
+	"context"
+	"strings"
+	"testing"
+
+	"pippinterm/broker"
+	"pippinterm/broker/postgres/pgtest"
+)
+
+// However many rows have ended, the unfinished ones are counted by the indexes that have them alone.
+func TestUnfinishedStatsReadNoOtherRows(t *testing.T) {
+	url := pgtest.Schema(t, pgtest.URL(t), "osb_store_stats")
+	ctx := context.Background()
+	store, err := Open(ctx, url, 1, broker.Silent{})
+	if err != nil {
+		t.Fatal(err)
+	}
+	defer store.Close()
+	const ended = `'{"attributes":null,"row":null,"tombstone":true,"version":1,"work":null}'`
+	pgtest.Exec(t, store.db,
+		"INSERT INTO osb_holdings (id, holding, unfinished) SELECT gen_random_uuid(), "+ended+
+			", false FROM generate_series(1, 20000)",
+		"INSERT INTO osb_bindings (instance, binding, holding, held, unfinished) SELECT id, id, "+ended+
+			", false, false FROM osb_holdings",
+		"ANALYZE osb_holdings", "ANALYZE osb_bindings")
+	if stats, err := store.Stats(ctx); err != nil || stats != (broker.Stats{Tombstones: 40_000}) {
+		t.Errorf("%+v, %v", stats, err)
+	}
+	if stats, err := store.UnfinishedStats(ctx); err != nil || stats != (broker.Stats{}) {
+		t.Errorf("%+v, %v", stats, err)
+	}
+	rows, err := store.db.Query("EXPLAIN " + unfinishedStats)
+	if err != nil {
+		t.Fatal(err)
+	}
+	defer rows.Close()
+	var plan []string
+	for rows.Next() {
+		var line string
+		if err := rows.Scan(&line); err != nil {
+			t.Fatal(err)
+		}
+		plan = append(plan, line)
+	}
+	all := strings.Join(plan, "\n")
+	if rows.Err() != nil || strings.Contains(all, "Seq Scan") || strings.Count(all, "osb_unfinished_") != 2 {
+		t.Errorf("%v, the plan is\n%s", rows.Err(), all)
+	}
+}

@@ -1,0 +1,124 @@
+package broker
+
+import (
+	"fmt"
+	"net/http"
+
+	"pippinterm/osb"
+)
+
+// What a person is told if nothing is known of the instance.
+const (
+	noLogin     = "The header Authorization is missing. Log in with HTTP's Basic scheme."
+	wrongLogin  = "The user or the password is wrong."
+	cutBody     = "The body didn't arrive whole and in time. Send the request again."
+	predecessor = "The broker doesn't rotate bindings. Send the Bind without predecessor_binding_id."
+	failedHere  = "The broker failed. Its log has the reason, under the id of this request."
+	idTaken     = "The id is taken. Choose another id."
+	notByUs     = "The backend rejected the request."
+)
+
+// refusal is the sentence for a refusal of the library, or "" if the library's own says what to do.
+func (h *Handler) refusal(refusal osb.Status) string {
+	switch refusal {
+	case osb.ErrRefusedTarget:
+		return "The broker has no such path. Send the request to /v2/catalog, or below /v2/service_instances/ID."
+	case osb.ErrRefusedMethod:
+		return "The path doesn't take this method. The header Allow has those that it takes."
+	case osb.ErrRefusedVersion:
+		return "The header X-Broker-API-Version must be " + osb.VersionSent + ", or another 2.x."
+	case osb.ErrRefusedLength:
+		return fmt.Sprintf("The body is longer than %d bytes. Send a shorter one.", h.LongestBody)
+	case osb.ErrRefusedRepeated:
+		return "A parameter of the query stands twice. Send each once."
+	case osb.ErrRefusedBody:
+		return "The body must be an object of JSON, in UTF-8."
+	}
+	return ""
+}
+
+// A subject is what a request is about.
+type subject struct{ name, an string }
+
+func subjectOf(key Key) subject {
+	if key.IsBinding {
+		return subject{"binding", "A binding"}
+	}
+	return subject{"instance", "An instance"}
+}
+
+// sentence is what a person is told of an answer that has no description of its own, or "" for one of success.
+func (h *Handler) sentence(asked Asked, answered Answered) string {
+	of := subjectOf(asked.Key)
+	switch {
+	case answered.Description != "":
+		return ""
+	case answered.Rejected != nil:
+		return notByUs
+	case answered.Body == osb.BodyAsyncRequired:
+		return "The plan is asynchronous. Send the request with accepts_incomplete=true."
+	case answered.Body == osb.BodyConcurrencyError:
+		return "Another operation on this " + of.name + " is in progress. Repeat the request once it has ended."
+	case answered.Body == osb.BodyOtherError:
+		return h.otherSentence(asked, answered.Status, of)
+	}
+	return ""
+}
+
+func (h *Handler) otherSentence(asked Asked, status uint16, of subject) string {
+	isCreation := !asked.IsFetch && asked.Asked.Kind == osb.KindProvision
+	switch status {
+	case http.StatusBadRequest:
+		return badRequest(isCreation, of)
+	case http.StatusNotFound:
+		return "No binding of this id can be fetched. It doesn't exist, isn't ready, or isn't retrievable."
+	case http.StatusConflict:
+		return h.conflictSentence(asked, of)
+	case http.StatusGone:
+		return "No " + of.name + " of this id exists."
+	case http.StatusServiceUnavailable:
+		if asked.Key.IsBinding {
+			return "The instance isn't available, or work on the binding is pending. Repeat the request later."
+		}
+		return "Work on this instance is pending, or it still has bindings. Repeat the request later."
+	case http.StatusInternalServerError:
+		return "The backend failed. The broker's log has the reason."
+	}
+	return ""
+}
+
+// badRequest is the sentence of a 400 to a request that can be read.
+func badRequest(isCreation bool, of subject) string {
+	switch {
+	case !isCreation:
+		return "The " + of.name + " has another service_id or plan_id."
+	case of.name == "binding":
+		return "The catalogue has no such service and plan, or the plan isn't bindable."
+	}
+	return "The catalogue has no such service and plan."
+}
+
+// conflictSentence says why an id is taken, by what is held now. If that has changed since the request was answered, or
+// can't be read, the sentence names no reason.
+func (h *Handler) conflictSentence(asked Asked, of subject) string {
+	held, err := h.service.read(h.ctx, asked.Key)
+	if err != nil {
+		return idTaken
+	}
+	row, differs := rowOf(held.Holding), "other parameters"
+	switch {
+	case !held.Holding.IsHeld() && held.Holding.HasTombstone():
+		return of.an + " of this id has ended. An id is never used again: choose a new one."
+	case !held.Holding.IsHeld():
+		return idTaken
+	case row.Service != asked.Asked.Service:
+		differs = "another service_id"
+	case row.Plan != asked.Asked.Plan:
+		differs = "another plan_id"
+	case held.Holding.Attributes() == asked.Attributes:
+		return idTaken
+	case asked.Key.IsBinding:
+		differs = "other parameters, or another bind_resource"
+	}
+	return of.an + " of this id exists, with " + differs + ". Choose another id, or repeat the request that created it."
+}

@@ -1,0 +1,128 @@
+package broker_test
+
+import (
+	"encoding/json"
+	"net/http"
+	"strings"
+	"testing"
+
+	"pippinterm/broker"
+)
+
+// descriptionIn returns the description and the code of an error.
+func descriptionIn(t *testing.T, body string) (description, code string) {
+	t.Helper()
+	var read struct{ Description, Error string }
+	if err := json.Unmarshal([]byte(body), &read); err != nil {
+		t.Fatalf("%s: %v", body, err)
+	}
+	return read.Description, read.Error
+}
+
+// Each rejection says what is wrong, and has the code of its status.
+func TestSentencesOfRefusals(t *testing.T) {
+	s := newSite(t, setting{})
+	s.expect(t, 201, "PUT", instances+"i", bodyOf(now, ""))
+	twice := func(r *http.Request) { r.Header.Add("X-Broker-API-Version", "2.17") }
+	one, bound := instances+"i", instances+"i/service_bindings/b"
+	without := func(member string) string {
+		return strings.ReplaceAll(bodyOf(now, ""), `"`+member+`"`, `"x"`)
+	}
+	for _, it := range []struct {
+		method, target, body string
+		change               func(*http.Request)
+		status               int
+		description, code    string
+	}{
+		{"GET", "/v3", "", nil, 404, "The broker has no such path.", "NotFound"},
+		{"POST", one, "", nil, 405, "The path doesn't take this method.", "MethodNotAllowed"},
+		{"POST", "/v2/catalog", "", nil, 405, "The path doesn't take this method.", "MethodNotAllowed"},
+		{"GET", "/v2/catalog", "", header("X-Broker-API-Version", "3.0"), 412,
+			"The header X-Broker-API-Version must be 2.17, or another 2.x.", "PreconditionFailed"},
+		{"GET", "/v2/catalog", "", twice, 412, "The header X-Broker-API-Version must be 2.17", "PreconditionFailed"},
+		{"PUT", one, bodyOf(now, strings.Repeat(" ", 1000)), nil, 413, "longer than 1000 bytes", "ContentTooLarge"},
+		{"PUT", one, "{", nil, 400, "The body must be an object of JSON", "BadRequest"},
+		{"PUT", one, "[]", nil, 400, "The body must be an object of JSON", "BadRequest"},
+		{"PUT", one, without("service_id"), nil, 400, "service_id must be", "BadRequest"},
+		{"PUT", one, without("plan_id"), nil, 400, "plan_id must be", "BadRequest"},
+		{"PUT", one, without("organization_guid"), nil, 400, "organization_guid must be", "BadRequest"},
+		{"PUT", one, without("space_guid"), nil, 400, "space_guid must be", "BadRequest"},
+		{"PUT", one + "?accepts_incomplete=1", bodyOf(now, ""), nil, 400, "accepts_incomplete must be", "BadRequest"},
+		{"PUT", one + "?accepts_incomplete=true&accepts_incomplete=true", bodyOf(now, ""), nil, 400,
+			"A parameter of the query stands twice.", "BadRequest"},
+		{"DELETE", one, "", nil, 400, "service_id must be", "BadRequest"},
+		{"PUT", bound, bodyOf(now, `,"predecessor_binding_id":"a"`), nil, 400, "predecessor_binding_id", "BadRequest"},
+		{"PUT", instances + "%2e", bodyOf(now, ""), nil, 400, "The instance id must be", "BadRequest"},
+	} {
+		if it.change == nil {
+			it.change = func(*http.Request) {}
+		}
+		body := s.expect(t, it.status, it.method, it.target, it.body, it.change)
+		description, code := descriptionIn(t, body)
+		if !strings.Contains(description, it.description) || code != it.code {
+			t.Errorf("%s %s: %s, want %q and %q", it.method, it.target, body, it.description, it.code)
+		}
+	}
+}
+
+// Each answer by what is held says why.
+func TestSentencesOfAnswers(t *testing.T) {
+	s := newSite(t, setting{})
+	s.expect(t, 201, "PUT", instances+"i", bodyOf(now, ""))
+	s.expect(t, 201, "PUT", instances+"i/service_bindings/b", bodyOf(now, ""))
+	s.expect(t, 201, "PUT", instances+"ended", bodyOf(now, ""))
+	s.expect(t, 200, "DELETE", instances+"ended"+names(now), "")
+	for _, it := range []struct {
+		method, target, body string
+		status               int
+		description          string
+	}{
+		{"PUT", "new", bodyOf("ff", ""), 400, "The catalogue has no such service and plan."},
+		{"PUT", "new", bodyOf(later, ""), 422, "Send the request with accepts_incomplete=true."},
+		{"PUT", "i", bodyOf(bindLater, ""), 409, "An instance of this id exists, with another plan_id."},
+		{"PUT", "i", bodyOf(now, `,"parameters":{"a":1}`), 409,
+			"An instance of this id exists, with other parameters."},
+		{"PUT", "ended", bodyOf(now, ""), 409, "An instance of this id has ended. An id is never used again"},
+		{"PUT", "i/service_bindings/b", bodyOf(now, `,"parameters":{"a":1}`), 409,
+			"A binding of this id exists, with other parameters"},
+		{"PUT", "i/service_bindings/c", bodyOf("ff", ""), 400, "or the plan isn't bindable."},
+		{"PUT", "new/service_bindings/b", bodyOf(now, ""), 503, "The instance isn't available"},
+		{"DELETE", "i" + names(bindLater), "", 400, "The instance has another service_id or plan_id."},
+		{"DELETE", "i/service_bindings/b" + names(bindLater), "", 400,
+			"The binding has another service_id or plan_id."},
+		{"DELETE", "none" + names(now), "", 410, "No instance of this id exists."},
+		{"DELETE", "i/service_bindings/none" + names(now), "", 410, "No binding of this id exists."},
+		{"GET", "no/last_operation", "", 410, "No instance of this id exists."},
+		{"GET", "i/service_bindings/no/last_operation", "", 410, "No binding of this id exists."},
+		{"GET", "i/service_bindings/no", "", 404, "No binding of this id can be fetched"},
+	} {
+		body := s.expect(t, it.status, it.method, instances+it.target, it.body)
+		if description, _ := descriptionIn(t, body); !strings.Contains(description, it.description) {
+			t.Errorf("%s %s: %s, want %q", it.method, it.target, body, it.description)
+		}
+		if reason := s.observed.last().Reason; !strings.Contains(reason, it.description) {
+			t.Errorf("%s %s: the log has the reason %q", it.method, it.target, reason)
+		}
+	}
+}
+
+// A rejection of the backend that says nothing has a sentence too, and so has a failure.
+func TestSentencesOfTheBackend(t *testing.T) {
+	for _, it := range []struct {
+		failure     error
+		status      int
+		description string
+	}{
+		{&broker.Rejected{Status: 400}, 400, "The backend rejected the request."},
+		{&broker.Rejected{Status: 422}, 422, "The backend rejected the request."},
+		{&broker.Rejected{Status: 422, Code: "Quota"}, 422, "The backend rejected the request."},
+		{&broker.Rejected{Status: 400, Description: "no such size"}, 400, "no such size"},
+		{http.ErrNotSupported, 500, "The backend failed. The broker's log has the reason."},
+	} {
+		s := newSite(t, setting{over: func(s *shelf) broker.Backend { return refusing{s, it.failure} }})
+		body := s.expect(t, it.status, "PUT", instances+"i", bodyOf(now, ""))
+		if description, _ := descriptionIn(t, body); description != it.description {
+			t.Errorf("%v: %s", it.failure, body)
+		}
+	}
+}
