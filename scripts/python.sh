@@ -12,17 +12,17 @@ python_that_finds() {
     python_where "import importlib.util; importlib.util.find_spec('$1') or sys.exit(1)"
 }
 
-# python_where STATEMENTS: the first one that runs them.
-python_where() {
-    local found
+# python_where STATEMENTS: the first one that runs them. With -c, Python looks for modules in the current folder first:
+# that has to be one that only root writes to.
+python_where() (
     for found in python3 /usr/bin/python3; do
-        if "$found" -c "import sys; $1; sys.exit(sys.version_info < (3, 9))" 2>/dev/null; then
+        if cd / && "$found" -c "import sys; $1; sys.exit(sys.version_info < (3, 9))" 2>/dev/null; then
             echo "$found"
-            return 0
+            exit 0
         fi
     done
-    return 1
-}
+    exit 1
+)
 
 # run_program NAME PYTHON TOP ARGUMENT ..: runs the program of this name in place of this shell, over the proved
 # library: the one that $LIBOSB names, else the one for this checkout's sources (scripts/artifacts.sh). If the program

@@ -19,6 +19,9 @@ type ClientConfig struct {
 
 	// HTTP makes the exchanges. Its Timeout is the limit on time of a whole one; where it isn't above 0, or HTTP is nil,
 	// it is one minute. No redirect is followed, whatever it says.
+	//
+	// If HTTP is nil or has no Transport, no proxy is used, whatever HTTP_PROXY says: a proxy of plain HTTP sees the
+	// password, and its answer would be taken for the broker's. To use one, give a Transport with Proxy.
 	HTTP *http.Client
 
 	LongestAnswer int // the greatest length of a body that is read, in bytes; 0 is 1 MiB. A longer one is a timeout
@@ -86,7 +89,7 @@ func NewClient(config ClientConfig) (*Client, error) {
 	}, nil
 }
 
-// exchanger is the user's HTTP client, with a limit on time and without redirects.
+// exchanger is the user's HTTP client, with a limit on time and without redirects. It has the user's proxy, if any.
 func exchanger(given *http.Client) http.Client {
 	var client http.Client
 	if given != nil {
@@ -96,6 +99,11 @@ func exchanger(given *http.Client) http.Client {
 		client.Timeout = time.Minute
 	}
 	client.CheckRedirect = func(*http.Request, []*http.Request) error { return http.ErrUseLastResponse }
+	if usual, ok := http.DefaultTransport.(*http.Transport); ok && client.Transport == nil {
+		direct := usual.Clone()
+		direct.Proxy = nil
+		client.Transport = direct
+	}
 	return client
 }
 

@@ -5,6 +5,9 @@ import (
 	"errors"
 	"io"
 	"net/http"
+	"net/http/httptest"
+	"os"
+	"os/exec"
 	"strings"
 	"sync/atomic"
 	"testing"
@@ -12,6 +15,46 @@ import (
 
 	"pippinterm/osb"
 )
+
+// proxied is set in a process that TestNoProxy starts.
+const proxied = "OSB_TEST_PROXIED"
+
+// A proxy of the environment isn't used, since it would get the password. net/http reads the environment once, so the
+// client is one of another process. Nobody listens at the broker's address, which isn't one for which net/http would
+// use no proxy anyway.
+func TestNoProxy(t *testing.T) {
+	if os.Getenv(proxied) != "" {
+		for _, exchanges := range []*http.Client{nil, {Timeout: 5 * time.Second}} {
+			client, err := osb.NewClient(osb.ClientConfig{
+				URL: "http://0.0.0.0:1", User: "u", Password: "p", Organization: "o", Space: "s",
+				Store: osb.NewMemoryRecords(), HTTP: exchanges,
+			})
+			if err != nil {
+				t.Fatal(err)
+			}
+			standing, err := client.Create(context.Background(), instance, service, plan)
+			if err != nil || standing.Lost == nil {
+				t.Errorf("%+v, %v", standing, err)
+			}
+		}
+		return
+	}
+	asked := make(chan string, 9)
+	proxy := httptest.NewServer(http.HandlerFunc(func(w http.ResponseWriter, r *http.Request) {
+		asked <- r.Header.Get("Authorization")
+		w.WriteHeader(http.StatusCreated)
+		_, _ = io.WriteString(w, "{}")
+	}))
+	defer proxy.Close()
+	child := exec.Command(os.Args[0], "-test.run", "^TestNoProxy$", "-test.v")
+	child.Env = append(os.Environ(), proxied+"=1", "HTTP_PROXY="+proxy.URL, "http_proxy="+proxy.URL)
+	if output, err := child.CombinedOutput(); err != nil || !strings.Contains(string(output), "--- PASS") {
+		t.Errorf("%v: %s", err, output)
+	}
+	if len(asked) > 0 {
+		t.Errorf("the proxy got %q", <-asked)
+	}
+}
 
 // What isn't surely the broker's, or doesn't come whole, is a timeout: the platform cleans up.
 func TestLost(t *testing.T) {
@@ -123,6 +166,20 @@ func TestOperation(t *testing.T) {
 	if stored, _ = p.records.Record(instance); stored.Operation != nil || standing.RetryAfter < 9e9*time.Second {
 		t.Errorf("%v, %v", stored.Operation, standing.RetryAfter)
 	}
+}
+
+// An operation with NUL counts as none, since a store may not be able to keep it. The instance is polled all the same.
+func TestOperationWithNUL(t *testing.T) {
+	p, ctx := newPair(t), context.Background()
+	p.answering(202, `{"operation":"making\u00001"}`)
+	standing, err := p.client.Create(ctx, instance, service, async)
+	p.stands(standing, err, osb.StatePolling, none, 0)
+	if stored, _ := p.records.Record(instance); stored.Operation != nil {
+		t.Errorf("%q", *stored.Operation)
+	}
+	p.answering(200, `{"state":"succeeded"}`)
+	standing, err = p.client.Step(ctx, instance)
+	p.stands(standing, err, osb.StateReady, none, 0)
 }
 
 // What a platform sends, header by header.

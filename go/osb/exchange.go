@@ -8,6 +8,7 @@ import (
 	"io"
 	"math"
 	"net/http"
+	"strings"
 	"time"
 )
 
@@ -111,6 +112,15 @@ func retryAfter(header http.Header) time.Duration {
 	return time.Duration(seconds) * time.Second
 }
 
+// storable is the operation, or nil if it contains NUL, which a text of PostgreSQL can't contain: its store would
+// fail, and the answer would be lost. (This is this project's choice.)
+func storable(operation *string) *string {
+	if operation != nil && strings.ContainsRune(*operation, 0) {
+		return nil
+	}
+	return operation
+}
+
 // take is the last transaction of a request: its answer is taken under its number, or a timeout. It is written though
 // the context has been cancelled meanwhile, as the one that ended the exchange.
 func (c *Client) take(ctx context.Context, sent Sent, in incoming) (Standing, error) {
@@ -121,7 +131,7 @@ func (c *Client) take(ctx context.Context, sent Sent, in incoming) (Standing, er
 		}
 		s.Record, err = s.Record.Answer(sent.Attempt, in.answer)
 		if sent.Request.Kind != KindPoll {
-			s.Operation = in.details.Operation
+			s.Operation = storable(in.details.Operation)
 		}
 		return s, err
 	})

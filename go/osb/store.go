@@ -22,7 +22,7 @@ type RecordStore interface {
 }
 
 // A Stored is what a platform keeps of an instance: the record, and beside it the operation that the broker named,
-// which is sent back in Polls, or nil.
+// which is sent back in Polls, or nil. An operation that contains NUL counts as none.
 type Stored struct {
 	Record    Record
 	Operation *string

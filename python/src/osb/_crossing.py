@@ -1,6 +1,8 @@
 """Values as the structs that cross to the library, and back."""
 from __future__ import annotations
 
+import sys
+
 from osb._header import KIND_NONE, MODE_NONE, CAnswer, CBrokerRow, CEndpoints, CId, CPlan, CPlatformRow, CRequest
 from osb.enums import Body, Kind, Mode, Phase, State
 from osb.ids import Id
@@ -51,6 +53,13 @@ def status_to(status: int) -> int:
     if status not in range(2**16):
         raise ValueError("the status of a response is a number from 0 to 65535")
     return status
+
+
+def longest_to(longest_body: int) -> int:
+    """ctypes would let another number wrap around, and -1 would be no limit at all."""
+    if not 0 <= longest_body <= sys.maxsize:
+        raise ValueError(f"longest_body is a number from 0 to {sys.maxsize}")
+    return longest_body
 
 
 def answer_to(answer: Answer) -> CAnswer:

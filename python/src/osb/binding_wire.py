@@ -10,7 +10,7 @@ import ctypes as c
 from dataclasses import dataclass
 
 from osb._catalogues import plans_of
-from osb._crossing import id_from, id_to, request_to, status_to
+from osb._crossing import id_from, id_to, longest_to, request_to, status_to
 from osb._header import CBindingAsked, CBindingReceived
 from osb._lib import lib
 from osb._texts import texts_of, with_lengths
@@ -146,11 +146,12 @@ class BindingAsked:
 def read_binding_request(method: str, target: bytes, body: bytes, longest_body: int, prefix: str = "") -> BindingAsked:
     """Reads what a request asks of a binding, as `osb.wire.read_request` does of an instance: a Bind, an Unbind, a Poll
     of a binding's last operation, or a Fetch (sections Binding, Unbinding, Polling Last Operation for Service Bindings
-    and Fetching a Service Binding). Raises `Refusal`, the first that fits in the order of docs/binding.md, and
-    NOT_UTF8.
+    and Fetching a Service Binding). Raises `Refusal`, the first that fits in the order of docs/binding.md, NOT_UTF8,
+    and ValueError if `longest_body` is below 0 or above `sys.maxsize`.
     """
-    front, way, asked = with_lengths(prefix), with_lengths(method), CBindingAsked()
-    check(lib.osb_read_binding_request(*front, longest_body, *way, target, len(target), body, len(body), asked))
+    texts = [*with_lengths(prefix), longest_to(longest_body), *with_lengths(method)]
+    asked = CBindingAsked()
+    check(lib.osb_read_binding_request(*texts, target, len(target), body, len(body), asked))
     return _asked_from(asked)
 
 
@@ -189,7 +190,8 @@ def receive_binding_request(
     """Reads what a request asks of a binding as `read_binding_request` does, with the texts of its ids and the parts of
     a Bind's body (section Binding). Raises what `read_binding_request` does.
     """
-    texts = [*with_lengths(prefix), longest_body, *with_lengths(method), target, len(target), body, len(body)]
+    texts = [*with_lengths(prefix), longest_to(longest_body), *with_lengths(method)]
+    texts += [target, len(target), body, len(body)]
     asked, lengths = CBindingAsked(), CBindingReceived()
     text = text_of(lambda *to: int(lib.osb_receive_binding_request(*texts, asked, lengths, *to)))
     instance, text = text[: lengths.instance], text[lengths.instance :]

@@ -16,7 +16,7 @@ from osb._catalogues import (
     plan_version,
     served_catalogue,
 )
-from osb._crossing import answer_from, answer_to, id_from, id_to, request_from, request_to, status_to
+from osb._crossing import answer_from, answer_to, id_from, id_to, longest_to, request_from, request_to, status_to
 from osb._header import CAnswer, CAsked, CDetails, CId, CReceived, CRequest
 from osb._lib import lib
 from osb._texts import texts_of, utf8, with_lengths, written
@@ -254,13 +254,11 @@ class Asked:
 def read_request(method: str, target: bytes, body: bytes, longest_body: int, prefix: str = "") -> Asked:
     """Reads what a request asks of a broker, from its method, its target (path and query, as the request line has them)
     and all of its body. A body of more than `longest_body` bytes is refused unread. Raises `Refusal`, the first that
-    fits in the order of docs/wire.md, and NOT_UTF8.
+    fits in the order of docs/wire.md, NOT_UTF8, and ValueError if `longest_body` is below 0 or above `sys.maxsize`.
     """
-    front, way, asked = utf8(prefix), utf8(method), CAsked()
+    front, way, longest, asked = utf8(prefix), utf8(method), longest_to(longest_body), CAsked()
     check(
-        lib.osb_read_request(
-            front, len(front), longest_body, way, len(way), target, len(target), body, len(body), asked
-        )
+        lib.osb_read_request(front, len(front), longest, way, len(way), target, len(target), body, len(body), asked)
     )
     return asked_from(asked)
 
@@ -302,7 +300,8 @@ def receive_request(method: str, target: bytes, body: bytes, longest_body: int, 
     Provision's body (sections Provisioning, Polling Last Operation for Service Instances and Deprovisioning). Raises
     what `read_request` does.
     """
-    texts, asked, lengths = [*with_lengths(prefix), longest_body, *with_lengths(method)], CAsked(), CReceived()
+    texts = [*with_lengths(prefix), longest_to(longest_body), *with_lengths(method)]
+    asked, lengths = CAsked(), CReceived()
     text = text_of(
         lambda buffer, length, needed: int(
             lib.osb_receive_request(
