@@ -3,6 +3,7 @@ beside the proved model.
 """
 from __future__ import annotations
 
+import re
 import subprocess
 from pathlib import Path
 
@@ -15,7 +16,26 @@ pytestmark = pytest.mark.slow
 SEEDS = 500
 """So many runs over a network go into the gate."""
 
-TAGS = pytest.mark.parametrize("tags", ["libsqlite3", "libsqlite3 crashpoints"], ids=["plain", "crashpoints"])
+FEW_SEEDS = 16
+"""So many runs with a store in PostgreSQL."""
+
+FURTHER: dict[str, list[str]] = {
+    "plain": [],
+    "crashpoints": ["crashpoints"],
+    "storm": ["storm"],
+    "both": ["crashpoints", "storm"],
+}
+"""All combinations of the build tags that change the packages."""
+
+TAGS = pytest.mark.parametrize("tags", [" ".join(["libsqlite3", *it]) for it in FURTHER.values()], ids=list(FURTHER))
+
+
+def test_tags() -> None:
+    """Each build tag of a source is among those that the sources are checked with."""
+    sources = [path.read_text(encoding="utf-8") for path in (TOP / "go").rglob("*.go")]
+    lines = [it for source in sources for it in re.findall(r"^//go:build (.*)$", source, re.MULTILINE)]
+    found = {tag for line in lines for tag in re.findall(r"\w+", line)}
+    assert found - {"linux"} == {tag for tags in FURTHER.values() for tag in tags}
 
 
 @TAGS
@@ -50,9 +70,23 @@ def test_crashes(packages: Packages, tmp_path: Path) -> None:
     walks = tmp_path / "walks"
     line = ["-count=1", "-timeout", "10m", "-tags", "libsqlite3 crashpoints", *but_osb(packages)]
     packages("test", *line, WALKS=str(walks), SEEDS=str(SEEDS), OSB_TEST_POSTGRESQL="")
+    assert compared(walks) > 20 * SEEDS
+
+
+@pytest.mark.postgres
+def test_crashes_over_postgresql(packages: Packages, tmp_path: Path) -> None:
+    """The same, of a broker whose store and locks are PostgreSQL's."""
+    walks = tmp_path / "walks"
+    line = ["-count=1", "-timeout", "10m", "-tags", "libsqlite3 crashpoints", "-run", "TestAnyNetworkOverPostgreSQL"]
+    packages("test", *line, "./broker", WALKS=str(walks), SEEDS=str(FEW_SEEDS))
+    assert compared(walks) > 20 * FEW_SEEDS
+
+
+def compared(walks: Path) -> int:
+    """How many events of a run there are. After each, all is as the proved model says."""
     steps = [it.partition("  ") for it in walks.read_text(encoding="ascii").splitlines()]
-    assert len(steps) > 20 * SEEDS
     told = told_by("service_cases")([event for event, _, _ in steps]).splitlines()
     assert len(told) == len(steps)
     for told_line, (event, _, wanted) in zip(told, steps):
         assert told_line.partition(" # ")[0] == f"{event}  {wanted}"
+    return len(steps)

@@ -61,6 +61,13 @@ def read(given: list[str]) -> argparse.Namespace:
         help="where records and holdings are (sqlite); OSB_TEST_POSTGRESQL names PostgreSQL's server",
     )
     parser.add_argument(
+        "--kill-database",
+        type=number,
+        default=0,
+        metavar="COUNT",
+        help="so often PostgreSQL itself is killed; it is a server of the storm's own then (0)",
+    )
+    parser.add_argument(
         "--backend", choices=("folders", "postgresql"), default="folders", help="what is sold (folders)"
     )
     parser.add_argument(
@@ -78,6 +85,8 @@ def read(given: list[str]) -> argparse.Namespace:
     asked = parser.parse_args(given)
     if asked.without in ("locks", "work", "broker", "both") and asked.backend == "postgresql":
         parser.error(f"--without {asked.without} works with --backend folders only: those locks are the server's")
+    if asked.kill_database and "postgresql" not in (asked.store, asked.backend):
+        parser.error("--kill-database needs --store postgresql or --backend postgresql")
     asked.unruly = asked.unruly or asked.without in RULES
     if asked.unruly and asked.bindings == 0:
         parser.error("--unruly and the rules about bindings need bindings")

@@ -31,12 +31,20 @@ _REMOVED = {State.READY: 0.004, State.POLLING: 0.004, State.UNSETTLED: 0.02}  # 
 class Binder:
     """Creates so many bindings in so many seconds, and goes on so until `calm`."""
 
-    def __init__(self, asked: Namespace, bindings: Bindings, instances: Instances, url: str) -> None:
+    def __init__(
+        self,
+        asked: Namespace,
+        bindings: Bindings,
+        instances: Instances,
+        url: str,
+        note: Callable[[Exception], None],
+    ) -> None:
         """`asked`: the arguments of the storm. If `unruly` is true, nobody keeps the platform's rules: bindings are
         created and instances are removed at any time. Then only the broker's two rules keep an instance that has ended
-        from having credentials. `url` is the broker's.
+        from having credentials. `url` is the broker's. `note`: gets each error.
         """
         self._bindings, self._instances, self._is_unruly = bindings, instances, asked.unruly
+        self._note = note
         self._chance, self._guard = Random(f"{asked.seed} bindings"), threading.Lock()
         self._count, self._seconds, self._began = asked.bindings, asked.seconds, time.monotonic()
         self._is_calm, self._is_over = threading.Event(), threading.Event()
@@ -46,7 +54,6 @@ class Binder:
         """How many bindings were created."""
         self.removed: set[Pair] = set()
         """What was asked to be removed by chance."""
-        self.failed: list[str] = []
 
     def run(self) -> None:
         """Goes on until `end`."""
@@ -56,7 +63,7 @@ class Binder:
                 try:
                     self._turn(pool)
                 except Exception as error:
-                    self.failed.append(repr(error))
+                    self._note(error)
 
     def calm(self) -> None:
         """From now on no binding is created, none is removed by chance, and what is begun is gone on with."""
@@ -162,7 +169,7 @@ class Binder:
         try:
             call()
         except Exception as error:
-            self.failed.append(repr(error))
+            self._note(error)
 
     def _step(self, row: Binding) -> None:
         """Does what is due: at most one request is sent."""

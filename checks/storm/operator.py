@@ -24,12 +24,18 @@ class Operator:
     """
 
     def __init__(
-        self, instances: Instances, seed: int, count: int, seconds: float, remove: Callable[[str], None]
+        self,
+        instances: Instances,
+        seed: int,
+        count: int,
+        seconds: float,
+        remove: Callable[[str], None],
+        note: Callable[[Exception], None],
     ) -> None:
         """`seed`: repeats which ids are ordered with which plans. `remove`: has an instance removed, as soon as it has
-        no bindings.
+        no bindings. `note`: gets each error.
         """
-        self._have_removed = remove
+        self._have_removed, self._note = remove, note
         self._instances, self._chance, self._orders = instances, Random(f"{seed} removals"), Random(f"{seed} orders")
         self._crashed = Random(f"{seed} orders that are killed")
         self._count, self._seconds = count, seconds
@@ -37,7 +43,6 @@ class Operator:
         """What was ordered: the ids."""
         self.removed: set[str] = set()
         """What was asked to be removed: the ids."""
-        self.failed: list[str] = []
 
     def crash_ordering(self, create: Sequence[str], environment: dict[str, str]) -> list[str]:
         """Has `osb-platform create` killed at each of its crash points, and then called again; the points hit."""
@@ -63,7 +68,8 @@ class Operator:
                 self._remove_some()
                 stop.wait(max(0.0, began + len(self.orders) * gap - time.monotonic()))
             except Exception as error:
-                self.failed.append(repr(error))
+                self._note(error)
+                stop.wait(0.1)
 
     def undone(self) -> list[str]:
         """What was ordered and has no record, and what was to be removed and is there still."""
@@ -94,7 +100,7 @@ def _id(chance: Random) -> Id:
     return Id(chance.getrandbits(64), chance.getrandbits(64))
 
 
-def python_environment(top: str, seed: int) -> dict[str, str]:
+def python_environment(top: str) -> dict[str, str]:
     """What the programs find in their environment."""
     path = os.pathsep.join([f"{top}/programs", f"{top}/python/src", f"{top}/checks"])
     return {
@@ -102,7 +108,6 @@ def python_environment(top: str, seed: int) -> dict[str, str]:
         "PYTHONPATH": path,
         "PYTHONSAFEPATH": "1",
         "PYTHONDONTWRITEBYTECODE": "1",
-        "STORM_SEED": str(seed),
         "OSB_BROKER_PASSWORD": PASSWORD,
         "OSB_PLATFORM_PASSWORD": PASSWORD,
         "OSB_BACKEND_KEY": KEY.decode(),

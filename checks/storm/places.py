@@ -3,6 +3,7 @@ from __future__ import annotations
 
 import contextlib
 import os
+from argparse import Namespace
 from pathlib import Path
 from typing import Callable, Iterator, NamedTuple
 
@@ -10,6 +11,7 @@ from osb_platform.instances import Instances
 from osb_platform.pg_database import PgDatabase
 from osb_platform.sqlite_database import SqliteDatabase
 from storm.bindings import Bindings
+from storm.cluster import Cluster, cluster
 from storm.held import Held, in_postgresql, in_sqlite
 from storm.operator import KEY
 from storm.resources import Databases, Folders, Resources, execute
@@ -29,15 +31,19 @@ class Places(NamedTuple):
     """The keys at which two have worked at once, as far as that is seen."""
     disturb: Callable[[], None]
     """Ends one of the sessions that the programs have with PostgreSQL, if there are any."""
+    server: Cluster | None
+    """PostgreSQL, if it is to be killed."""
     broker_words: list[str]
     platform_words: list[str]
 
 
 @contextlib.contextmanager
-def places(folder: Path, store: str, backend: str) -> Iterator[Places]:
-    """New ones, with nothing in them; `store` is `sqlite` or `postgresql`, `backend` `folders` or `postgresql`."""
+def places(folder: Path, asked: Namespace) -> Iterator[Places]:
+    """New ones, with nothing in them, as the arguments say."""
+    store, backend = asked.store, asked.backend
     with contextlib.ExitStack() as stack:
-        url = stack.enter_context(_database()) if "postgresql" in (store, backend) else ""
+        server = stack.enter_context(cluster(folder / "postgresql.log")) if asked.kill_database else None
+        url = stack.enter_context(_database(server)) if "postgresql" in (store, backend) else ""
         state = folder / "broker"
         state.mkdir()
         instances, words, platform = _records(folder, url if store == "postgresql" else "")
@@ -59,7 +65,7 @@ def places(folder: Path, store: str, backend: str) -> Iterator[Places]:
 
         words = ["--state", str(state), *words]
         try:
-            yield Places(instances, bindings, held, resources, together, disturb, words, platform)
+            yield Places(instances, bindings, held, resources, together, disturb, server, words, platform)
         finally:
             resources.clear({id for id, _ in instances.states()})
 
@@ -86,15 +92,15 @@ def _records(folder: Path, url: str) -> tuple[Instances, list[str], list[str]]:
 
 
 @contextlib.contextmanager
-def _database() -> Iterator[str]:
-    """The URL of a new database on the server of OSB_TEST_POSTGRESQL, which ends with the storm."""
-    server = os.environ.get("OSB_TEST_POSTGRESQL", "")
-    if not server:
+def _database(server: Cluster | None) -> Iterator[str]:
+    """The URL of a new database on the server, or else on that of OSB_TEST_POSTGRESQL, which ends with the storm."""
+    url = server.url("postgres") if server else os.environ.get("OSB_TEST_POSTGRESQL", "")
+    if not url:
         raise SystemExit("storm: OSB_TEST_POSTGRESQL names no database of a server that may be used")
     name = f"storm_{os.getpid()}"
-    execute(server, f"CREATE DATABASE {name}")
+    execute(url, f"CREATE DATABASE {name}")
     try:
-        head, _, query = server.partition("?")
+        head, _, query = url.partition("?")
         yield head.rpartition("/")[0] + "/" + name + (f"?{query}" if query else "")
     finally:
-        execute(server, f"DROP DATABASE {name} WITH (FORCE)")
+        execute(url, f"DROP DATABASE {name} WITH (FORCE)")

@@ -31,13 +31,15 @@ class Killed:
     """A program that is killed again and again: at each of its crash points, and in between at random."""
 
     def __init__(self, program: Program, points: Sequence[str], chance: Random, refusals: Sequence[int]) -> None:
-        """`refusals`: statuses with which it may end by itself, if its store ends a session while it starts."""
+        """`refusals`: statuses with which it may end by itself, if its store goes away while it starts."""
         self._program, self._chance = program, chance
         self._usual = [-9, *refusals]
         self._open = list(points)
         self.hit: list[str] = []
         self._tried = ""  # the point at which it is to be killed now, where that hasn't come about
         self.kills = 0
+        self.ends = 0
+        """How often it has ended by itself, with one of `refusals`."""
         self._odd: list[str] = []
         self._process: subprocess.Popen[bytes] | None = None
         self._stop = threading.Event()
@@ -109,6 +111,7 @@ class Killed:
         while time.monotonic() < until and not self._stop.is_set():
             try:
                 self._note(process.wait(0.1), self._usual)
+                self.ends += process.returncode != -9
                 return process.returncode == -9
             except subprocess.TimeoutExpired:
                 continue

@@ -6,7 +6,8 @@ import socket
 import socketserver
 import threading
 import time
-from typing import Any, Iterator
+from collections import Counter
+from typing import Any, Callable, Iterator
 
 from storm.faults import Fault, Faults
 
@@ -18,12 +19,17 @@ class Proxy(socketserver.ThreadingTCPServer):
 
     allow_reuse_address, daemon_threads, request_queue_size = True, True, 128
 
-    def __init__(self, faults: Faults, brokers: list[int]) -> None:
-        """`brokers`: the ports of the brokers, of which each request reaches one."""
+    def __init__(self, faults: Faults, brokers: list[int], is_outage: Callable[[], bool]) -> None:
+        """`brokers`: the ports of the brokers, of which each request reaches one. `is_outage`: whether they have no
+        database.
+        """
         super().__init__(("127.0.0.1", 0), _Connection)
         self.faults, self.brokers = faults, brokers
         self.in_flight = 0
         """How many requests there are that may still arrive."""
+        self.outage: Counter[str] = Counter()
+        """The statuses of what was answered while the brokers had no database."""
+        self._is_outage = is_outage
         self._guard = threading.Lock()
 
     def port(self) -> int:
@@ -47,9 +53,13 @@ class Proxy(socketserver.ThreadingTCPServer):
             at = ("127.0.0.1", self.brokers[number % len(self.brokers)])
             with socket.create_connection(at, timeout=30) as broker:
                 broker.sendall(request)
-                return b"".join(iter(lambda: broker.recv(1 << 16), b"")) or None
+                answer = b"".join(iter(lambda: broker.recv(1 << 16), b""))
         except OSError:
             return None
+        if answer and self._is_outage():
+            with self._guard:
+                self.outage[answer[9:12].decode()] += 1
+        return answer or None
 
     def deliver_late(self, request: bytes, fault: Fault) -> None:
         """Delivers a copy later; nobody takes its answer."""

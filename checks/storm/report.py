@@ -38,7 +38,7 @@ def _run_in(folder: Path, asked: Namespace) -> Report:
     ports = _free_ports(asked.brokers + 1)
     entrance = ports.pop()
     program = broker(folder)
-    with places(folder, asked.store, asked.backend) as at, contextlib.ExitStack() as stack:
+    with places(folder, asked) as at, contextlib.ExitStack() as stack:
         stack.enter_context(_logged(folder / "bindings.log"))
         if asked.haproxy:
             stack.enter_context(haproxy(folder, entrance, ports))
@@ -82,10 +82,15 @@ def _counts(storm: Storm, counted: list[str]) -> list[str]:
     lines = [
         f"{len(operator.orders) + len(storm.orders_hit)} orders, {len(operator.removed)} removals, "
         f"{binder.created} bindings, {len(binder.removed)} removals of a binding, "
-        f"{sum(it.kills for it in storm.brokers)} kills of brokers, {storm.platform.kills} of the platform",
+        f"{sum(it.kills for it in storm.brokers)} kills of brokers, {storm.platform.kills} of the platform, "
+        f"{storm.server_kills()} of PostgreSQL; {sum(it.ends for it in storm.brokers)} brokers and "
+        f"{storm.platform.ends} platforms have ended by themselves",
         "requests: " + ", ".join(f"{count} {kind}" for kind, count in sorted(storm.faults.counts.items())),
         f"compared during the storm: {looks}; {converged}",
     ]
+    if storm.asked.kill_database:
+        outage = ", ".join(f"{count} {status}" for status, count in sorted(storm.proxy.outage.items()))
+        lines.append(f"answers while PostgreSQL was down: {outage or 'none'}")
     if storm.asked.without is not None:
         lines += [f"false during the storm: {key}: {what}" for key, what in sorted(audit.wrong.items())[:20]]
         lines += [f"wrong at the end: {line}" for line in counted]
@@ -103,7 +108,7 @@ def _ends(storm: Storm) -> list[str]:
     it leaves behind may keep an instance from being deleted.
     """
     odd = [it for program in storm.programs() for it in program.odd()]
-    odd += storm.failed + storm.operator.failed + storm.binder.failed
+    odd += storm.failed
     if storm.converged_in >= 0.0 or storm.asked.without is not None:
         return odd[:5]
     return [*odd[:5], "the instances or their bindings don't converge: " + " ".join(storm.undone()[:3])]

@@ -24,7 +24,7 @@ class Starts:
     def __init__(self, asked: Namespace, folder: Path, at: Places, broker: Path) -> None:
         """`broker` is the program."""
         self._asked, self._folder, self._at, self._program = asked, folder, at, broker
-        self.environment = python_environment(str(TOP), asked.seed)
+        self.environment = python_environment(str(TOP))
         self._catalogue = folder / "catalogue.json"
         self._catalogue.write_bytes(document())
 

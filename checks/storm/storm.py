@@ -31,11 +31,12 @@ class Storm:
         """`ports`: where the brokers listen. `entrances`: where they are reached."""
         self.asked, self.at, self._starts = asked, at, starts
         self.faults = _faults(asked)
-        self._proxy = Proxy(self.faults, entrances)
+        self.failed: list[str] = []
+        self.proxy = Proxy(self.faults, entrances, at.server.is_down if at.server else lambda: False)
         chance = Random(f"{asked.seed} kills")
         points, broker_points = _platform_points(asked, chance), _broker_points(asked, chance)
         is_disturbed = "postgresql" in (asked.store, asked.backend)
-        platform, refusals = starts.platform(self._proxy.port()), [1, 2] if is_disturbed else []
+        platform, refusals = starts.platform(self.proxy.port()), [1, 2] if is_disturbed else []
         self.platform = Killed(platform, points, Random(f"{asked.seed} platform"), refusals)
         self.brokers = [
             Killed(
@@ -46,14 +47,14 @@ class Storm:
             )
             for n, port in enumerate(ports)
         ]
-        self.binder = Binder(asked, at.bindings, at.instances, f"http://127.0.0.1:{self._proxy.port()}")
+        url = f"http://127.0.0.1:{self.proxy.port()}"
+        self.binder = Binder(asked, at.bindings, at.instances, url, self._note)
         remove = self.binder.remove_instance
-        self.operator = Operator(at.instances, asked.seed, asked.instances, asked.seconds, remove)
+        self.operator = Operator(at.instances, asked.seed, asked.instances, asked.seconds, remove, self._note)
         place = Place(at.instances, at.bindings, at.held, at.resources.look)
         self.audit = Audit(place, at.resources.is_usable, at.resources.works)
         self.orders_hit: list[str] = []
         self.converged_in = -1.0
-        self.failed: list[str] = []
 
     def programs(self) -> tuple[Killed, ...]:
         """Both programs; of the broker there may be several."""
@@ -61,11 +62,11 @@ class Storm:
 
     def run(self) -> None:
         """The storm, and the calm after it."""
-        serving = threading.Thread(target=self._proxy.serve_forever, daemon=True)
+        serving = threading.Thread(target=self.proxy.serve_forever, daemon=True)
         serving.start()
         binding = threading.Thread(target=self.binder.run, daemon=True)
         stop, threads = threading.Event(), []
-        for call in (self.operator.run, self._look, self._disturb):
+        for call in (self.operator.run, self._look, self._disturb, self._kill_server):
             threads.append(threading.Thread(target=call, args=[stop], daemon=True))
         for program in self.programs():
             if self.is_killed(program):
@@ -85,8 +86,8 @@ class Storm:
         self._settle()
         self.binder.end()
         binding.join()
-        self._proxy.shutdown()
-        self._proxy.server_close()
+        self.proxy.shutdown()
+        self.proxy.server_close()
         for program in self.programs():
             program.end()
 
@@ -114,7 +115,13 @@ class Storm:
         for program in self.programs():
             if self.is_killed(program) and program.kills < 2:
                 found.append(f"a program was killed {program.kills} times only")
+        if self.server_kills() < asked.kill_database:
+            found.append(f"PostgreSQL was killed {self.server_kills()} times only")
         return found
+
+    def server_kills(self) -> int:
+        """How often PostgreSQL itself was killed."""
+        return self.at.server.kills if self.at.server else 0
 
     def undone(self) -> list[str]:
         """What was ordered, or was to be removed, and isn't done."""
@@ -134,12 +141,32 @@ class Storm:
             with contextlib.suppress(Exception):
                 self.at.disturb()
 
+    def _kill_server(self, stop: threading.Event) -> None:
+        """Kills PostgreSQL as often as is asked for, and starts it again after some seconds."""
+        server, count, began = self.at.server, self.asked.kill_database, time.monotonic()
+        chance = Random(f"{self.asked.seed} server")
+        for number in range(count):
+            at = began + self.asked.seconds * (number + chance.uniform(0.4, 0.6)) / count
+            if server is None or stop.wait(max(0.0, at - time.monotonic())):
+                return
+            server.kill()
+            time.sleep(chance.uniform(1.0, 4.0))
+            try:
+                server.start()
+            except RuntimeError as error:
+                self.failed.append(str(error))
+
+    def _note(self, error: Exception) -> None:
+        """Notes an error, unless PostgreSQL was killed."""
+        if self.at.server is None or not self.at.server.is_away():
+            self.failed.append(repr(error))
+
     def _look(self, stop: threading.Event) -> None:
         while not stop.wait(0.25):
             try:
                 self.audit.look()
             except Exception as error:
-                self.failed.append(repr(error))
+                self._note(error)
 
     def _settle(self) -> None:
         """No more faults: waits until all that was late has come, and each instance and each binding is at rest."""
@@ -150,7 +177,7 @@ class Storm:
         began = time.monotonic()
         while time.monotonic() < began + self.asked.settle:
             states = [state for _, state in self.at.instances.states()]
-            is_late = time.monotonic() > began + _LATE and self._proxy.in_flight == 0
+            is_late = time.monotonic() > began + _LATE and self.proxy.in_flight == 0
             is_still = all(state in REST and state != "unsettled" for state in states) and not self.binder.undone()
             if is_late and is_still and (self.asked.without is not None or not self.operator.undone()):
                 self.converged_in = time.monotonic() - began

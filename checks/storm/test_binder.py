@@ -35,7 +35,8 @@ class Site:
         self.deletion: Said = 503, "{}"
         # one at once, and the next one after this time
         asked = read(["--bindings", "1", "--seconds", "1000000", "--seed", "1", *arguments])
-        self.binder = Binder(asked, self.bindings, self.instances, self.broker.url)
+        self.failed: list[Exception] = []
+        self.binder = Binder(asked, self.bindings, self.instances, self.broker.url, self.failed.append)
 
     def _answer(self, method: str, _: str) -> Said:
         return self.deletion if method == "DELETE" else (201, OBJECT)
@@ -62,7 +63,7 @@ class Site:
             finally:
                 self.binder.end()
                 thread.join()
-        assert self.binder.failed == []
+        assert self.failed == []
 
     def close(self) -> None:
         self.bindings.close()

@@ -5,6 +5,7 @@ import shutil
 
 import pytest
 from storm.arguments import read
+from storm.cluster import INSTALL, programs
 from storm.report import run
 
 pytestmark = [pytest.mark.alone, pytest.mark.slow, pytest.mark.usefixtures("packages")]
@@ -25,12 +26,13 @@ def test_over_files() -> None:
 
 
 @pytest.mark.postgres
-@pytest.mark.usefixtures("postgresql")
 def test_over_postgresql() -> None:
-    """Half a minute, or up to two, of two brokers behind HAProxy. PostgreSQL is the store and the backend, and sessions
-    end at random.
+    """Half a minute, or up to two, of three brokers behind HAProxy. PostgreSQL is the store and the backend. Sessions
+    end at random, and the server is killed once.
     """
+    if programs() is None:
+        pytest.skip(f"PostgreSQL isn't installed (Debian: {INSTALL})")
     if shutil.which("haproxy", path="/usr/sbin:/usr/local/sbin:/usr/bin") is None:
         pytest.skip("haproxy isn't installed (Debian: apt-get install haproxy)")
-    places = ("--store", "postgresql", "--backend", "postgresql", "--brokers", "2", "--haproxy")
+    places = ("--store", "postgresql", "--backend", "postgresql", "--brokers", "3", "--haproxy", "--kill-database", "1")
     assert_calm_after("--seconds", "30", "--instances", "100", "--bindings", "50", "--no-points", *places)

@@ -8,14 +8,12 @@ import (
 	"fmt"
 	"math/rand"
 	"os"
-	"path/filepath"
 	"strconv"
 	"testing"
 	"time"
 
 	"pippinterm/broker"
 	"pippinterm/broker/crash"
-	"pippinterm/broker/sqlite"
 	"pippinterm/osb"
 )
 
@@ -26,28 +24,44 @@ var points = []string{
 	"binding-half",
 }
 
-// A world is one instance with two bindings, their platform and their broker over a real store, a network that does its
-// worst, work that goes as it likes, and kills. It goes by chance, the same for the same seed.
-type world struct {
-	*platform
-	t       *testing.T
-	chance  *rand.Rand
-	calm    bool
-	path    string
-	rules   broker.Rules
-	shelf   *shelf
-	backend broker.Backend
-	store   *sqlite.Store
-	service *broker.Service
-	handler *broker.Handler
-	walk    *walk
-	point   string // where the broker is to be killed
-	isDead  bool
-	kills   map[string]int
+// The points that are in a transaction: nothing else happens there.
+var inTransaction = map[string]bool{
+	"begin-next": true, "mark-next": true, "end-next": true, "finish-next": true, "wait-next": true,
 }
 
-func newWorld(t *testing.T, seed int64, kills map[string]int, walks *bufio.Writer) *world {
-	w := &world{t: t, chance: rand.New(rand.NewSource(seed)), path: filepath.Join(t.TempDir(), "store"), kills: kills}
+// A world is one instance with two bindings, their platform and its broker over a real store, a network that does its
+// worst, work that goes as it likes, and kills. The broker is one process, or two over the same store, of which each is
+// killed by itself. It goes by chance, the same for the same seed, also how the two processes get in each other's way.
+type world struct {
+	*platform
+	t         *testing.T
+	seed      int64
+	chance    *rand.Rand
+	calm      bool
+	rules     broker.Rules
+	shelf     *shelf
+	backend   broker.Backend
+	catalogue *broker.Catalogue
+	open      opener
+	processes []*process
+	walk      *walk
+	point     string   // where the next process is to be killed that comes there
+	active    *process // the one that does something now, or nil
+	turns     []*turn  // what happens and pauses
+	now       *turn    // what happens now, or nil
+	*seen
+}
+
+// Seen is what has happened in all worlds of a test.
+type seen struct {
+	kills     map[string]int // at each point
+	beside    int            // kills of a process while the other one was at work
+	pauses    int
+	overtaken int // requests whose work another process has done while they waited for the lock
+}
+
+func newWorld(t *testing.T, seed int64, open opener, seen *seen, walks *bufio.Writer) *world {
+	w := &world{t: t, seed: seed, chance: rand.New(rand.NewSource(seed)), open: open, seen: seen}
 	w.rules = broker.Rules{FirstPoll: seed%3 != 0, WaitForPoll: time.Hour}
 	if seed%6 == 1 {
 		w.rules.WaitForPoll = 0
@@ -57,20 +71,37 @@ func newWorld(t *testing.T, seed int64, kills map[string]int, walks *bufio.Write
 	if seed%2 == 0 {
 		w.backend = knowing{w.shelf}
 	}
-	crash.Hook = func(place string) {
-		if place == w.point && !w.calm {
-			w.kills[place]++
-			w.isDead, w.point = true, ""
-			panic("killed at " + place) // all that is held is given back, and nothing more is done
-		}
-	}
+	w.catalogue = catalogueFor(t, catalogue)
+	crash.Hook = w.reached
 	w.platform = newPlatform(w, sold[seed%int64(len(sold))])
 	w.isUnruly = seed%7 == 3
 	w.walk = newWalk(w, walks)
 	w.shelf.worked = w.walk.worked
-	w.start()
+	for count := 1 + seed/4%2; count > 0; count-- {
+		it := &process{world: w}
+		it.start()
+		w.processes = append(w.processes, it)
+	}
 	w.walk.begin(w.plan, w.rules.FirstPoll)
 	return w
+}
+
+// reached is called when a process comes to a point.
+func (w *world) reached(point string) {
+	if w.calm {
+		return
+	}
+	if !inTransaction[point] && w.chance.Intn(4) > 0 {
+		w.pause()
+	}
+	if point == w.point && !w.calm {
+		w.kills[point]++
+		if len(w.turns) > 1 {
+			w.beside++
+		}
+		w.active.isDead, w.point = true, ""
+		panic("killed at " + point) // all that is held is given back, and nothing more is done
+	}
 }
 
 func (w *world) check(err error) {
@@ -88,35 +119,15 @@ func (w *world) mood() int {
 	return w.chance.Intn(16)
 }
 
-// start starts the broker, or the next one after it was killed.
-func (w *world) start() {
-	if w.store != nil {
-		w.check(w.store.Close())
-	}
-	w.isDead = false
-	var err error
-	w.store, err = sqlite.Open(context.Background(), w.path, broker.Silent{})
-	w.check(err)
-	store := recorded{w.store, w.walk}
-	w.service = broker.NewService(catalogueFor(w.t, catalogue), store, w.backend, newMemoryLocks(), w.rules, broker.Silent{})
-	w.handler = handlerFor(w.t, w.service)
-}
-
-// arrive is a request at the broker. If that is killed meanwhile, nobody is answered, and it is started again.
+// arrive is a request at a process. If that is killed meanwhile, nobody is answered.
 func (w *world) arrive(it outgoing) *answer {
-	w.walk.arrives(&it)
-	given := &answer{reply: it.serve(w.handler)}
-	if w.isDead {
-		w.restart()
+	visit := &visit{outgoing: it}
+	var given *answer
+	if !w.use(it.of, visit, func(p *process) { given = &answer{reply: it.serve(p.handler)} }) {
 		return nil
 	}
-	w.walk.answered(given)
+	w.walk.answered(visit, given)
 	return given
-}
-
-func (w *world) restart() {
-	w.start()
-	w.walk.crashed()
 }
 
 // happened is called when the platform has done something.
@@ -148,22 +159,45 @@ func (w *world) arriveLate() {
 
 // sweep is what the Sweeper does with each key that is unfinished.
 func (w *world) sweep() {
-	keys, err := w.store.Unfinished(context.Background())
+	keys, err := w.processes[0].store.Unfinished(context.Background())
 	w.check(err)
 	for _, key := range keys {
-		func() {
-			defer func() { _ = recover() }()
-			_ = w.service.TakeUp(context.Background(), key)
-		}()
-		if w.isDead {
-			w.restart()
+		w.use(key, nil, func(p *process) { p.takeUp(key) })
+	}
+}
+
+// goOnOrBegin has something go on that pauses, or something else happen.
+func (w *world) goOnOrBegin() {
+	count := len(w.turns)
+	if count > 0 && (count == len(w.processes) || w.chance.Intn(10) == 0) {
+		w.goOn(w.chance.Intn(count))
+		return
+	}
+	w.begin(w.happen)
+}
+
+// any is a life by chance. If a process pauses at one, it is often that.
+func (w *world) any() *life {
+	it := w.all()[w.chance.Intn(3)]
+	for _, p := range w.processes {
+		if p.isBusy && w.chance.Intn(2) == 0 {
+			it = w.lifeOf(p.key)
 		}
 	}
+	return it
+}
+
+// anyPoint is a crash point by chance, often one of those that only a broker that doesn't wait for a Poll comes to.
+func (w *world) anyPoint() string {
+	if w.rules.WaitForPoll == 0 && w.chance.Intn(2) == 0 {
+		return []string{"wait-next", "wait-written"}[w.chance.Intn(2)]
+	}
+	return points[w.chance.Intn(len(points))]
 }
 
 // happen is one thing that happens.
 func (w *world) happen() {
-	it := w.all()[w.chance.Intn(3)]
+	it := w.any()
 	switch w.chance.Intn(20) {
 	case 0:
 		if it.key.IsBinding || w.chance.Intn(4) == 0 {
@@ -176,48 +210,48 @@ func (w *world) happen() {
 	case 6, 7, 8:
 		w.arriveLate()
 	case 9, 10, 11:
-		w.point = points[w.chance.Intn(len(points))]
+		w.point = w.anyPoint()
 	default:
 		w.step(it)
 	}
 }
 
 // agree is the theorem of docs/binding.md about what is recorded, held and there.
-func (w *world) agree(seed int64) {
+func (w *world) agree() {
 	w.t.Helper()
 	instance := w.look(w.instance.key)
-	w.agrees(seed, w.instance, instance)
+	w.agrees(w.instance, instance)
 	for _, it := range w.bindings {
 		found := w.look(it.key)
-		w.agrees(seed, it, found)
+		w.agrees(it, found)
 		if it.state() == osb.StateReady && string(it.object) != string(found.Binding) {
-			w.t.Fatalf("seed %d: %v has the credentials %s, and %s are stored", seed, it.key, it.object, found.Binding)
+			w.t.Fatalf("seed %d: %v has the credentials %s, stored are %s", w.seed, it.key, it.object, found.Binding)
 		}
 		if it.state() == osb.StateReady && !w.shelf.isCredentials(it.key, it.object) {
-			w.t.Fatalf("seed %d: the credentials %s of %v don't work", seed, it.object, it.key)
+			w.t.Fatalf("seed %d: the credentials %s of %v don't work", w.seed, it.object, it.key)
 		}
 		if !found.isUsed() {
 			continue
 		}
 		if state := w.instance.state(); state == osb.StateGone || state == osb.StateNone {
-			w.t.Fatalf("seed %d: %v is %v, and its binding %v is there", seed, w.instance.key, state, it.key)
+			w.t.Fatalf("seed %d: %v is %v, and its binding %v is there", w.seed, w.instance.key, state, it.key)
 		}
 		if !instance.isReady() || !w.isUnruly && instance.there != broker.Whole {
-			w.t.Fatalf("seed %d: %v is there without its instance: %v", seed, it.key, instance)
+			w.t.Fatalf("seed %d: %v is there without its instance: %v", w.seed, it.key, instance)
 		}
 	}
 }
 
-func (w *world) agrees(seed int64, it *life, found found) {
+func (w *world) agrees(it *life, found found) {
 	w.t.Helper()
 	switch it.state() {
 	case osb.StateReady:
 		if found.there != broker.Whole || !found.isReady() {
-			w.t.Fatalf("seed %d: %v is recorded ready: %v", seed, it.key, found)
+			w.t.Fatalf("seed %d: %v is recorded ready: %v", w.seed, it.key, found)
 		}
 	case osb.StateGone, osb.StateNone:
 		if found.isUsed() {
-			w.t.Fatalf("seed %d: %v is recorded %v: %v", seed, it.key, it.state(), found)
+			w.t.Fatalf("seed %d: %v is recorded %v: %v", w.seed, it.key, it.state(), found)
 		}
 	}
 }
@@ -230,7 +264,7 @@ type found struct {
 
 func (w *world) look(key broker.Key) found {
 	w.t.Helper()
-	held, err := w.store.Read(context.Background(), key)
+	held, err := w.processes[0].store.Read(context.Background(), key)
 	w.check(err)
 	return found{held.Entry, w.shelf.there(key)}
 }
@@ -247,84 +281,118 @@ func (f found) isReady() bool {
 
 func (f found) isUsed() bool { return f.there != broker.None || f.Holding.IsHeld() }
 
-// begin is a calm beginning of most runs, in which the instance comes to be, and sometimes a binding.
-func (w *world) begin(seed int64) {
-	w.calm = seed%5 != 0 && w.rules.WaitForPoll > 0
+// beginCalmly is a calm beginning of most runs, in which the instance comes to be, and sometimes a binding.
+func (w *world) beginCalmly() {
+	w.calm = w.seed%5 != 0 && w.rules.WaitForPoll > 0
 	for round := 0; w.calm && round < 4; round++ {
 		w.sweep()
 		w.step(w.instance)
-		if seed%5 > 2 {
+		if w.seed%5 > 2 {
 			w.step(w.bindings[0])
 		}
-		w.agree(seed)
+		w.agree()
 	}
 	w.calm = false
 }
 
 // settle lets everything come to rest, and says what is recorded then.
-func (w *world) settle(seed int64) {
+func (w *world) settle() {
 	w.t.Helper()
 	w.calm = true
 	for round := 0; round < 5; round++ {
 		for _, it := range w.all() {
 			w.sweep()
 			w.step(it)
-			w.agree(seed)
+			w.agree()
 		}
 	}
 }
 
 func TestAnyNetwork(t *testing.T) {
-	kills, settled, seeds := map[string]int{}, map[osb.State]int{}, 150
-	if n, err := strconv.Atoi(os.Getenv("SEEDS")); err == nil {
-		seeds = n
-	}
-	walks := walksTo(t)
-	for seed := int64(0); seed < int64(seeds); seed++ {
-		w := newWorld(t, seed, kills, walks)
-		w.begin(seed)
-		w.point = points[seed%int64(len(points))]
-		for happened := 0; happened < 90; happened++ {
-			w.happen()
-			w.agree(seed)
-		}
-		w.settle(seed)
+	seen, walks := &seen{kills: map[string]int{}}, walksTo(t)
+	settled := map[osb.State]int{}
+	for seed := int64(0); seed < seedsOr(150); seed++ {
+		w := newWorld(t, seed, inFolder(t.TempDir()), seen, walks)
+		w.run()
 		for _, it := range w.all() {
 			settled[it.state()]++
-			if !w.isUnruly && (it.state() == osb.StatePolling || it.state() == osb.StateCleaning) {
-				t.Errorf("seed %d: %v hasn't settled: %v", seed, it.key, it.state())
-			}
 		}
-		for round := 0; round < 4; round++ {
-			for _, it := range w.bindings {
-				w.remove(it)
-			}
-			w.remove(w.instance)
-			w.settle(seed)
-		}
-		if !w.isUnruly || w.instance.state() == osb.StateGone {
-			w.end(seed)
-		}
-		w.arriveLate()
-		w.agree(seed)
-		w.check(w.store.Close())
+		w.removeAll()
 	}
-	t.Logf("settled: %v; kills: %v", settled, kills)
+	t.Logf("settled: %v; %v", settled, seen)
 	for _, point := range points {
-		if kills[point] == 0 {
+		if seen.kills[point] == 0 {
 			t.Errorf("never killed at %s", point)
+		}
+	}
+	if seen.beside == 0 {
+		t.Error("no process was killed while the other one was at work")
+	}
+	if seen.overtaken == 0 {
+		t.Error("no process has done the work of a request that waited at the other one")
+	}
+}
+
+func (s *seen) String() string {
+	return fmt.Sprintf("kills: %v, %d of them beside a process at work; %d pauses; %d requests whose work was done by "+
+		"the other process", s.kills, s.beside, s.pauses, s.overtaken)
+}
+
+// seedsOr is how many seeds there are: as many as SEEDS says, or so many.
+func seedsOr(count int64) int64 {
+	if n, err := strconv.ParseInt(os.Getenv("SEEDS"), 10, 64); err == nil {
+		return n
+	}
+	return count
+}
+
+// run lets anything happen, and then everything come to rest.
+func (w *world) run() {
+	w.t.Helper()
+	w.beginCalmly()
+	w.point = points[w.seed%int64(len(points))]
+	for happened := 0; happened < 90*len(w.processes); happened++ {
+		w.goOnOrBegin()
+		w.agree()
+	}
+	w.calmDown()
+	w.agree()
+	w.settle()
+	for _, it := range w.all() {
+		if !w.isUnruly && (it.state() == osb.StatePolling || it.state() == osb.StateCleaning) {
+			w.t.Errorf("seed %d: %v hasn't settled: %v", w.seed, it.key, it.state())
 		}
 	}
 }
 
+// removeAll has everything removed, and ends the processes.
+func (w *world) removeAll() {
+	w.t.Helper()
+	for round := 0; round < 4; round++ {
+		for _, it := range w.bindings {
+			w.remove(it)
+		}
+		w.remove(w.instance)
+		w.settle()
+	}
+	if !w.isUnruly || w.instance.state() == osb.StateGone {
+		w.end()
+	}
+	w.arriveLate()
+	w.agree()
+	for _, it := range w.processes {
+		w.check(it.close())
+	}
+}
+
 // end is that everything that was removed is gone.
-func (w *world) end(seed int64) {
+func (w *world) end() {
 	for _, it := range w.all() {
 		if state := it.state(); state != osb.StateGone && state != osb.StateNone {
-			w.t.Errorf("seed %d: %v was removed, and is %v", seed, it.key, state)
+			w.t.Errorf("seed %d: %v was removed, and is %v", w.seed, it.key, state)
 		}
 	}
 	if len(w.shelf.things) > 0 {
-		w.t.Errorf("seed %d: after all was removed there is still %v", seed, w.shelf.things)
+		w.t.Errorf("seed %d: after all was removed there is still %v", w.seed, w.shelf.things)
 	}
 }

@@ -5,13 +5,14 @@ package broker_test
 import (
 	"context"
 	"encoding/json"
+	"errors"
 	"fmt"
 
 	"pippinterm/broker"
 	"pippinterm/osb"
 )
 
-// A network carries a request to the broker, and returns nil if no answer comes back. It is told what the platform does.
+// A network carries a request to the broker, and returns nil if no answer comes back. It hears what the platform does.
 type network interface {
 	deliver(outgoing) *answer
 	happened(it *life, event string)
@@ -66,6 +67,15 @@ func newPlatform(network network, plan osb.Plan) *platform {
 }
 
 func (p *platform) all() []*life { return append([]*life{p.instance}, p.bindings...) }
+
+func (p *platform) lifeOf(key broker.Key) *life {
+	for _, it := range p.bindings {
+		if it.key == key {
+			return it
+		}
+	}
+	return p.instance
+}
 
 // step gives up what is in flight, or sends what is due.
 func (p *platform) step(it *life) {
@@ -133,33 +143,48 @@ func (p *platform) exchange(it *life, sent osb.Sent) {
 		}
 		object, taken = fetched.body, fmt.Sprintf("take-fetched %d %d", given.at, fetched.at)
 	}
-	p.take(it, sent.Attempt, answer, object)
-	p.network.happened(it, taken)
+	p.take(it, sent.Attempt, answer, object, taken)
 }
 
-// take takes an answer. The credentials are written in the transaction in which the record becomes ready.
-func (p *platform) take(it *life, attempt uint64, answer osb.Answer, object []byte) {
+// take takes an answer. The credentials are written in the transaction in which the record becomes ready. If the
+// request was given up meanwhile, the record rejects the answer.
+func (p *platform) take(it *life, attempt uint64, answer osb.Answer, object []byte, event string) {
+	var record osb.Record
 	var err error
 	if it.key.IsBinding {
-		it.record, err = it.record.AnswerBinding(attempt, answer, true)
+		record, err = it.record.AnswerBinding(attempt, answer, true)
 	} else {
-		it.record, err = it.record.Answer(attempt, answer)
+		record, err = it.record.Answer(attempt, answer)
 	}
-	must(err)
-	if it.record.State() != osb.StateReady {
+	if !it.isNext(attempt, record, err) {
+		return
+	}
+	if record.State() != osb.StateReady {
 		object = nil
 	} else if object == nil {
 		object = it.object
 	}
 	it.object = object
+	p.network.happened(it, event)
 }
 
-// timeout gives up a request.
+// timeout gives up a request, unless that was done meanwhile.
 func (p *platform) timeout(it *life, attempt uint64) {
 	record, err := it.record.Timeout(attempt)
+	if it.isNext(attempt, record, err) {
+		p.network.happened(it, "timeout")
+	}
+}
+
+// isNext writes the record that comes of a request of this number, unless that isn't in flight any more.
+func (l *life) isNext(attempt uint64, record osb.Record, err error) bool {
+	isOut := l.record.InFlight() != osb.KindNone && l.record.Attempt() == attempt
+	if !isOut && errors.Is(err, osb.ErrNotInFlight) {
+		return false
+	}
 	must(err)
-	it.record = record
-	p.network.happened(it, "timeout")
+	l.record = record
+	return true
 }
 
 // fetch is the answer to a Fetch that has the object of the binding, or nil.

@@ -4,14 +4,12 @@ package broker_test
 
 import (
 	"bufio"
-	"context"
 	"fmt"
 	"os"
 	"strings"
 	"testing"
 
 	"pippinterm/broker"
-	"pippinterm/broker/sqlite"
 	"pippinterm/osb"
 )
 
@@ -21,16 +19,21 @@ type walk struct {
 	world *world
 	to    *bufio.Writer
 	lives map[broker.Key]*course
-	now   *outgoing // the request that is at the broker
-	began bool      // whether it has changed what is held
 }
 
 // A course is what the model numbers of a life.
 type course struct {
 	name    string
-	given   int  // answers that were given
-	fetched int  // answers to a Fetch that were given
-	waits   bool // whether a request waits for the end of its work
+	given   int    // answers that were given
+	fetched int    // answers to a Fetch that were given
+	waits   *visit // the request that waits for the end of its work, or nil
+}
+
+// A visit is a request at a process.
+type visit struct {
+	outgoing
+	isGiven bool // whether its answer is decided on
+	at      int  // the number of that answer
 }
 
 // walksTo is where the walks of a test are written: the file that WALKS names, or nowhere.
@@ -126,7 +129,8 @@ func (w *walk) life(it *life) string {
 	there := map[broker.There]string{broker.None: "absent", broker.Part: "part", broker.Whole: "whole"}[found.there]
 	text := fmt.Sprintf("%s; %s %s %s; %s", record, phase, work, tombstone, there)
 	if it.key.IsBinding {
-		text += "; credentials " + numberOf(credentialsOf(it.object)) + " " + numberOf(w.world.shelf.credentials(it.key))
+		recorded, made := credentialsOf(it.object), w.world.shelf.credentials(it.key)
+		text += "; credentials " + numberOf(recorded) + " " + numberOf(made)
 	}
 	return text
 }
@@ -148,43 +152,50 @@ func numberOf(credentials string) string {
 
 // ---- what happens at the broker
 
-// arrives is called before a request is handled.
-func (w *walk) arrives(it *outgoing) { w.now, w.began = it, false }
-
-// answered is called after a request was handled and the broker wasn't killed. It numbers the answer.
-func (w *walk) answered(given *answer) {
-	course := w.lives[w.now.of]
+// answered is called after a request was handled and its process wasn't killed. It numbers the answer.
+func (w *walk) answered(visit *visit, given *answer) {
+	course := w.lives[visit.of]
 	switch {
-	case w.now.isFetch:
+	case visit.isFetch:
 		if given.status == 200 {
 			given.at = course.fetched
 			course.fetched++
-			w.event(w.now.of, "fetch")
+			w.event(visit.of, "fetch")
 		}
 		return
-	case !w.began:
-		course.given++
-		w.event(w.now.of, fmt.Sprintf("arrive %d", w.now.attempt))
-	case course.waits: // nobody knows how its work went
-		course.given++
-		course.waits = false
-		w.event(w.now.of, "end-unknown")
+	case course.waits == visit: // nobody knows how its work went
+		course.waits = nil
+		w.gives(visit)
+		w.event(visit.of, "end-unknown")
+	case !visit.isGiven: // nothing was changed
+		w.gives(visit)
+		w.event(visit.of, fmt.Sprintf("arrive %d", visit.attempt))
 	}
-	given.at = course.given - 1
-	w.now = nil
+	given.at = visit.at
 }
 
-// crashed is called after the broker was killed.
-func (w *walk) crashed() {
-	w.now = nil
+// gives numbers the answer to a request.
+func (w *walk) gives(visit *visit) {
+	course := w.lives[visit.of]
+	visit.at, visit.isGiven = course.given, true
+	course.given++
+}
+
+// crashed is called after a process was killed, with the request that it handled, or nil. The model has one broker. In
+// each life it crashes by itself: here in all lives but those whose request waits at another process.
+func (w *walk) crashed(dead *visit) {
 	for _, it := range w.world.all() {
-		w.lives[it.key].waits = false
-		w.event(it.key, "crash-broker")
+		course := w.lives[it.key]
+		if course.waits == nil || course.waits == dead {
+			course.waits = nil
+			w.event(it.key, "crash-broker")
+		}
 	}
 }
 
-// changed is called after a change of what is held was committed.
-func (w *walk) changed(key broker.Key, before, after osb.Holding) {
+// changed is called after a change of what is held was committed, with the request of the process that has changed it,
+// or nil.
+func (w *walk) changed(visit *visit, key broker.Key, before, after osb.Holding) {
 	course := w.lives[key]
 	old, wasHeld := before.Row()
 	row, isHeld := after.Row()
@@ -192,13 +203,10 @@ func (w *walk) changed(key broker.Key, before, after osb.Holding) {
 	_, isPending := after.Work()
 	switch {
 	case !wasPending && isPending:
-		course.waits, w.began = true, true
-		w.event(key, fmt.Sprintf("arrive %d", w.now.attempt))
+		course.waits = visit
+		w.event(key, fmt.Sprintf("arrive %d", visit.attempt))
 	case wasPending:
-		if course.waits {
-			course.waits = false
-			course.given++
-		}
+		w.ended(visit, course)
 		w.event(key, "end "+w.outcome(key, before, after))
 	case wasHeld && old.Phase == osb.PhaseWaiting && isHeld && row.Phase == osb.PhaseFailed:
 		w.event(key, "give-up-waiting")
@@ -206,10 +214,28 @@ func (w *walk) changed(key broker.Key, before, after osb.Holding) {
 		ok := !isHeld || row.Phase == osb.PhaseReady
 		w.event(key, map[bool]string{true: "finish ok", false: "finish failed"}[ok])
 	default: // it was answered at once: a tombstone, a row that waits, or the first Poll
-		w.began = true
-		course.given++
-		w.event(key, fmt.Sprintf("arrive %d", w.now.attempt))
+		w.gives(visit)
+		w.event(key, fmt.Sprintf("arrive %d", visit.attempt))
 	}
+}
+
+// ended is called once the work of a life has ended, with the request that has done it, or nil. In the model the
+// request that waits is answered. If another process has done its work meanwhile, it is in truth as if that request
+// arrived again: so that answer is lost.
+func (w *walk) ended(visit *visit, course *course) {
+	waits := course.waits
+	if waits == nil {
+		if visit != nil {
+			w.world.t.Fatalf("seed %d: request %d of %v ends others' work", w.world.seed, visit.attempt, visit.of)
+		}
+		return
+	}
+	w.gives(waits)
+	if waits != visit {
+		waits.isGiven = false
+		w.world.overtaken++
+	}
+	course.waits = nil
 }
 
 // outcome is the one with which the library ends the work so.
@@ -234,26 +260,4 @@ func (w *walk) worked(key broker.Key, there broker.There, credentials string) {
 		word += " " + numberOf(credentials)
 	}
 	w.event(key, "work "+word)
-}
-
-// A recorded store tells a walk what it has committed.
-type recorded struct {
-	*sqlite.Store
-	walk *walk
-}
-
-func (r recorded) Change(ctx context.Context, key broker.Key, fence int64, step broker.Step) error {
-	var before, after osb.Holding
-	isWritten := false
-	err := r.Store.Change(ctx, key, fence, func(held broker.Held) (*broker.Entry, error) {
-		next, err := step(held)
-		if isWritten = err == nil && next != nil; isWritten {
-			before, after = held.Holding, next.Holding
-		}
-		return next, err
-	})
-	if err == nil && isWritten {
-		r.walk.changed(key, before, after)
-	}
-	return err
 }
