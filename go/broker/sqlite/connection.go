@@ -6,23 +6,19 @@ import (
 	"encoding/json"
 	"errors"
 	"fmt"
-	"io"
-	"runtime/debug"
 	"time"
-
-	"github.com/mattn/go-sqlite3"
 
 	"pippinterm/broker"
 	"pippinterm/osb"
+	"pippinterm/program/sqlite"
 )
 
 // A connection is one of SQLite, with its statements. One goroutine at a time uses it.
 type connection struct {
-	*sqlite3.SQLiteConn
-	begin, end                driver.Stmt
-	readInstance, putInstance driver.Stmt
-	readBinding, putBinding   driver.Stmt
-	anyBinding, readWorker    driver.Stmt
+	*sqlitefile.Conn
+	readInstance, putInstance *sqlitefile.Statement
+	readBinding, putBinding   *sqlitefile.Statement
+	anyBinding, readWorker    *sqlitefile.Statement
 	instances, bindings       texts
 }
 
@@ -39,44 +35,10 @@ func (t *texts) keep(text string, holding osb.Holding) {
 	(*t)[text] = holding
 }
 
-func opened(ctx context.Context, path string, isFirst bool) (c *connection, err error) {
-	var made driver.Conn
-	err = patiently(ctx, func() (err error) { // the driver begins with a statement of its own
-		made, err = (&sqlite3.SQLiteDriver{}).Open("file:" + path + "?_mutex=no&_busy_timeout=0")
-		return err
-	})
-	if err != nil {
-		return nil, err
-	}
-	c = &connection{SQLiteConn: made.(*sqlite3.SQLiteConn)}
-	if err := c.begun(ctx, isFirst); err != nil {
-		_ = c.Close()
-		return nil, err
-	}
-	return c, nil
-}
-
-// begun prepares a connection that was opened.
-func (c *connection) begun(ctx context.Context, isFirst bool) error {
-	for _, statement := range []string{"PRAGMA journal_mode = WAL", "PRAGMA synchronous = FULL"} {
-		statement := statement
-		if err := patiently(ctx, func() error { return c.exec(statement) }); err != nil {
-			return err
-		}
-	}
-	if isFirst {
-		if err := c.makeTables(ctx); err != nil {
-			return err
-		}
-	}
-	return c.prepare(ctx)
-}
-
-// prepare prepares the statements.
-func (c *connection) prepare(ctx context.Context) error {
-	for to, text := range map[*driver.Stmt]string{
-		&c.begin:        "BEGIN IMMEDIATE",
-		&c.end:          "COMMIT",
+// prepared prepares the statements for a connection.
+func prepared(ctx context.Context, conn *sqlitefile.Conn) (*connection, error) {
+	c := &connection{Conn: conn}
+	for to, text := range map[**sqlitefile.Statement]string{
 		&c.readInstance: "SELECT holding, request, description, since FROM holdings WHERE id = ?",
 		&c.putInstance: "INSERT INTO holdings (id, holding, unfinished, request, description, since) " +
 			"VALUES (?, ?, ?, ?, ?, ?) ON CONFLICT (id) DO UPDATE SET holding = excluded.holding, " +
@@ -87,48 +49,17 @@ func (c *connection) prepare(ctx context.Context) error {
 		&c.putBinding: "INSERT INTO bindings (instance, binding, holding, unfinished, request, description, since, " +
 			"object, held) VALUES (?, ?, ?, ?, ?, ?, ?, ?, ?) ON CONFLICT (instance, binding) DO UPDATE SET " +
 			"holding = excluded.holding, unfinished = excluded.unfinished, request = excluded.request, " +
-			"description = excluded.description, since = excluded.since, object = excluded.object, held = excluded.held",
+			"description = excluded.description, since = excluded.since, object = excluded.object, " +
+			"held = excluded.held",
 		&c.anyBinding: "SELECT 1 FROM bindings WHERE instance = ? AND held LIMIT 1",
 		&c.readWorker: "SELECT worker FROM workers WHERE id = ?",
 	} {
-		if err := patiently(ctx, func() (err error) { *to, err = c.Prepare(text); return err }); err != nil {
-			return err
+		var err error
+		if *to, err = conn.Prepare(ctx, text); err != nil {
+			return nil, err
 		}
 	}
-	return patiently(ctx, func() error { _, err := c.held(broker.Key{}); return err })
-}
-
-// commit writes these jobs in one transaction. One that fails, panics or was cancelled is left out of it, and has its
-// error. If the transaction itself fails, none is written.
-func (c *connection) commit(batch []*job) error {
-	begin := func() error { return run(c.begin) }
-	if err := patiently(context.Background(), begin); err != nil {
-		return fmt.Errorf("sqlite: %w", err)
-	}
-	for _, it := range batch {
-		if it.err = it.ctx.Err(); it.err == nil {
-			it.err = c.safely(it.do)
-		}
-		if it.err != nil && c.AutoCommit() {
-			return fmt.Errorf("%w: %v", errNoTransaction, it.err)
-		}
-	}
-	if err := run(c.end); err != nil {
-		if !c.AutoCommit() {
-			_ = c.exec("ROLLBACK")
-		}
-		return fmt.Errorf("sqlite: %w", err)
-	}
-	return nil
-}
-
-func (c *connection) safely(do func(*connection) error) (err error) {
-	defer func() {
-		if what := recover(); what != nil {
-			err = fmt.Errorf("panic: %v\n%s", what, debug.Stack())
-		}
-	}()
-	return do(c)
+	return c, sqlitefile.Patiently(ctx, func() error { _, err := c.held(broker.Key{}); return err })
 }
 
 // held reads what is kept of a key, and for a binding what is held of its instance.
@@ -136,7 +67,7 @@ func (c *connection) held(key broker.Key) (held broker.Held, err error) {
 	if !key.IsBinding {
 		held.Entry, err = c.instance(key.Instance)
 		held.AnyBinding = func() (bool, error) {
-			row, err := one(c.anyBinding, 1, key.Instance.String())
+			row, err := one(c.anyBinding, key.Instance.String())
 			return row != nil, err
 		}
 		return held, err
@@ -144,7 +75,7 @@ func (c *connection) held(key broker.Key) (held broker.Held, err error) {
 	if held.Instance, err = c.instance(key.Instance); err != nil {
 		return held, err
 	}
-	row, err := one(c.readBinding, 5, key.Instance.String(), key.Binding.String())
+	row, err := one(c.readBinding, key.Instance.String(), key.Binding.String())
 	if err != nil || row == nil {
 		return held, err
 	}
@@ -156,7 +87,7 @@ func (c *connection) held(key broker.Key) (held broker.Held, err error) {
 }
 
 func (c *connection) instance(id osb.ID) (entry broker.Entry, err error) {
-	row, err := one(c.readInstance, 4, id.String())
+	row, err := one(c.readInstance, id.String())
 	if err != nil || row == nil {
 		return entry, err
 	}
@@ -205,13 +136,10 @@ func optional(column driver.Value) (json.RawMessage, error) {
 	return nil, fmt.Errorf("a column has %T, and not a text", column)
 }
 
-// errNoTransaction reports that SQLite has rolled back: a write would be committed alone.
-var errNoTransaction = errors.New("sqlite: the transaction was broken off")
-
 // put writes what is kept of a key.
 func (c *connection) put(key broker.Key, entry broker.Entry) error {
-	if c.AutoCommit() {
-		return errNoTransaction
+	if !c.InTransaction() {
+		return fmt.Errorf("sqlite: %w", sqlitefile.ErrBroken)
 	}
 	write, known := entry.Holding.MarshalJSON, &c.instances
 	if key.IsBinding {
@@ -232,9 +160,9 @@ func (c *connection) put(key broker.Key, entry broker.Entry) error {
 	}
 	if key.IsBinding {
 		values = append([]driver.Value{key.Instance.String(), key.Binding.String()}, values...)
-		err = run(c.putBinding, append(values, column(entry.Binding), entry.Holding.IsHeld())...)
+		_, err = c.putBinding.Run(append(values, column(entry.Binding), entry.Holding.IsHeld())...)
 	} else {
-		err = run(c.putInstance, append([]driver.Value{key.Instance.String()}, values...)...)
+		_, err = c.putInstance.Run(append([]driver.Value{key.Instance.String()}, values...)...)
 	}
 	if err != nil {
 		return fmt.Errorf("sqlite: %w", err)
@@ -250,80 +178,39 @@ func column(text json.RawMessage) driver.Value {
 	return string(text)
 }
 
-// run executes a prepared statement.
-func run(statement driver.Stmt, values ...driver.Value) error {
-	//lint:ignore SA1019 with a context that can be cancelled, the driver would start a goroutine for each step
-	_, err := statement.Exec(values)
-	return err
-}
-
 // one is the first row of a query, or nil if there is none.
-func one(query driver.Stmt, columns int, arguments ...driver.Value) ([]driver.Value, error) {
-	//lint:ignore SA1019 with a context that can be cancelled, the driver would start a goroutine for each step
-	rows, err := query.Query(arguments)
+func one(query *sqlitefile.Statement, arguments ...driver.Value) ([]driver.Value, error) {
+	row, err := query.One(arguments...)
 	if err != nil {
 		return nil, fmt.Errorf("sqlite: %w", err)
 	}
-	defer rows.Close()
-	row := make([]driver.Value, columns)
-	switch err := rows.Next(row); err {
-	case nil:
-		return row, nil
-	case io.EOF:
-		return nil, nil
-	default:
-		return nil, fmt.Errorf("sqlite: %w", err)
-	}
+	return row, nil
+}
+
+// listBindings lists the bindings of an instance that are held.
+func (c *connection) listBindings(instance osb.ID) (ids []osb.ID, err error) {
+	err = c.each("SELECT binding FROM bindings WHERE instance = ? AND held", func(row []driver.Value) error {
+		var id osb.ID
+		if err := id.Scan(row[0]); err != nil {
+			return err
+		}
+		ids = append(ids, id)
+		return nil
+	}, instance.String())
+	return ids, err
 }
 
 // each calls with each row of a query.
-func (c *connection) each(query string, arguments []any, call func(row []any) error) error {
-	values := make([]driver.Value, len(arguments))
-	for at, it := range arguments {
-		values[at] = it
-	}
-	rows, err := c.Query(query, values)
-	if err != nil {
+func (c *connection) each(query string, call func(row []driver.Value) error, arguments ...driver.Value) error {
+	if err := c.Each(query, arguments, call); err != nil {
 		return fmt.Errorf("sqlite: %w", err)
 	}
-	defer rows.Close()
-	columns := make([]driver.Value, len(rows.Columns()))
-	row := make([]any, len(columns))
-	for {
-		switch err := rows.Next(columns); err {
-		case nil:
-		case io.EOF:
-			return nil
-		default:
-			return fmt.Errorf("sqlite: %w", err)
-		}
-		for at, it := range columns {
-			row[at] = it
-		}
-		if err := call(row); err != nil {
-			return err
-		}
-	}
+	return nil
 }
 
 func (c *connection) exec(statement string, arguments ...driver.Value) error {
-	_, err := c.Exec(statement, arguments)
-	return err
-}
-
-// patiently calls until no other process is in its way.
-func patiently(ctx context.Context, call func() error) error {
-	for until := time.Now().Add(wait); ; {
-		err := call()
-		var failed sqlite3.Error
-		isBusy := errors.As(err, &failed) && (failed.Code == sqlite3.ErrBusy || failed.Code == sqlite3.ErrLocked)
-		if !isBusy || time.Now().After(until) {
-			return err
-		}
-		select {
-		case <-time.After(again):
-		case <-ctx.Done():
-			return ctx.Err()
-		}
+	if err := c.Exec(statement, arguments...); err != nil {
+		return fmt.Errorf("sqlite: %w", err)
 	}
+	return nil
 }

@@ -2,6 +2,7 @@ package sqlite
 
 import (
 	"context"
+	"database/sql/driver"
 	"sync"
 	"time"
 
@@ -18,7 +19,8 @@ type counted struct {
 
 // Stats counts what is kept. Tombstones are counted at most once a minute, since that reads all rows.
 func (s *Store) Stats(ctx context.Context) (stats broker.Stats, err error) {
-	err = s.read(ctx, func(c *connection) error {
+	err = s.file.Read(ctx, func(c *connection) error {
+		stats = broker.Stats{} // the call may be repeated
 		return c.unfinished(func(key broker.Key) {
 			if held, err := c.held(key); err == nil { // a row that can't be read isn't counted
 				add(&stats, held.Entry)
@@ -54,7 +56,7 @@ func (s *Store) countTombstones(ctx context.Context) (int, error) {
 		return s.tombstones.value, nil
 	}
 	count := 0
-	err := s.read(ctx, func(c *connection) (err error) {
+	err := s.file.Read(ctx, func(c *connection) (err error) {
 		count, err = c.countTombstones()
 		return err
 	})
@@ -73,7 +75,7 @@ func (c *connection) countTombstones() (count int, err error) {
 		{"SELECT holding, count(*) FROM holdings WHERE NOT unfinished GROUP BY holding", instanceOfText},
 		{"SELECT holding, count(*) FROM bindings WHERE NOT unfinished GROUP BY holding", osb.BindingHoldingFromText},
 	} {
-		err := c.each(it.query, nil, func(row []any) error {
+		err := c.each(it.query, func(row []driver.Value) error {
 			text, _ := row[0].(string)
 			holding, err := it.read([]byte(text))
 			if number, ok := row[1].(int64); ok && err == nil && holding.HasTombstone() {
@@ -95,13 +97,13 @@ func instanceOfText(text []byte) (holding osb.Holding, err error) {
 
 // unfinished calls with each key that is unfinished.
 func (c *connection) unfinished(call func(broker.Key)) error {
-	err := c.each("SELECT id FROM holdings WHERE unfinished", nil, func(row []any) error {
+	err := c.each("SELECT id FROM holdings WHERE unfinished", func(row []driver.Value) error {
 		return unfinishedOf(call, row[0], nil)
 	})
 	if err != nil {
 		return err
 	}
-	return c.each("SELECT instance, binding FROM bindings WHERE unfinished", nil, func(row []any) error {
+	return c.each("SELECT instance, binding FROM bindings WHERE unfinished", func(row []driver.Value) error {
 		return unfinishedOf(call, row[0], row[1])
 	})
 }

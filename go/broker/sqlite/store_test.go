@@ -26,9 +26,9 @@ func keyOf(n int) broker.Key {
 	return broker.InstanceKey(osb.MustParseID(fmt.Sprintf("00000000-0000-4000-8000-%012x", n)))
 }
 
-func open(t *testing.T, path string) *Store {
+func open(t *testing.T, path string, observer broker.Observer) *Store {
 	t.Helper()
-	s, err := Open(context.Background(), path, broker.Silent{})
+	s, err := Open(context.Background(), path, observer)
 	if err != nil {
 		t.Fatal(err)
 	}
@@ -49,9 +49,18 @@ func provision(key broker.Key) broker.Step {
 	}
 }
 
-// Of changes that are written together, one that fails, panics or was cancelled harms no other.
+// observed notes how many changes each commit has written.
+type observed struct {
+	broker.Silent
+	commits []int
+}
+
+func (o *observed) Committed(changes int) { o.commits = append(o.commits, changes) }
+
+// Of changes that are written together, one that fails, panics or is cancelled harms no other. One commit writes all.
 func TestOneFails(t *testing.T) {
-	s := open(t, filepath.Join(t.TempDir(), "store"))
+	seen := &observed{}
+	s := open(t, filepath.Join(t.TempDir(), "store"), seen)
 	blocked, release := make(chan struct{}), make(chan struct{})
 	var all sync.WaitGroup
 	all.Add(1)
@@ -65,8 +74,8 @@ func TestOneFails(t *testing.T) {
 	}()
 	<-blocked
 	wrong, given := errors.New("wrong"), make([]error, 41)
-	gone, cancel := context.WithCancel(context.Background())
-	cancel()
+	going, cancel := context.WithCancel(context.Background())
+	defer cancel()
 	steps := []struct {
 		ctx  context.Context
 		step func(broker.Key) broker.Step
@@ -77,7 +86,7 @@ func TestOneFails(t *testing.T) {
 		{context.Background(), func(broker.Key) broker.Step {
 			return func(broker.Held) (*broker.Entry, error) { panic("a bug") }
 		}},
-		{gone, provision},
+		{going, provision},
 		{context.Background(), provision},
 	}
 	for n := 1; n <= 40; n++ {
@@ -88,9 +97,13 @@ func TestOneFails(t *testing.T) {
 			given[n] = s.Change(it.ctx, keyOf(n), 0, it.step(keyOf(n)))
 		}(n)
 	}
-	for len(s.asked) < 40 {
-		time.Sleep(time.Millisecond)
+	for until := time.Now().Add(time.Minute); s.file.Waiting() < 40; time.Sleep(time.Millisecond) {
+		if time.Now().After(until) {
+			t.Error("the changes don't gather")
+			break
+		}
 	}
+	cancel()
 	close(release)
 	all.Wait()
 	for n := 1; n <= 40; n++ {
@@ -108,13 +121,25 @@ func TestOneFails(t *testing.T) {
 			t.Errorf("%d: %v, %v", n, given[n], held.Holding)
 		}
 	}
+	// nobody waits for a change that was cancelled, so it needn't be a part of the commit
+	if len(seen.commits) != 2 || seen.commits[0] != 1 || seen.commits[1] < 30 || seen.commits[1] > 40 {
+		t.Errorf("the commits have written %v changes", seen.commits)
+	}
 }
 
 // If the transaction itself fails, nobody is told that anything was written, and the next one is written.
 func TestTransactionFails(t *testing.T) {
-	s := open(t, filepath.Join(t.TempDir(), "store"))
+	s := open(t, filepath.Join(t.TempDir(), "store"), broker.Silent{})
+	var writer *connection
+	err := s.file.Write(context.Background(), func(c *connection) error {
+		writer = c
+		return nil
+	})
+	if err != nil {
+		t.Fatal(err)
+	}
 	broken := s.Change(context.Background(), keyOf(1), 0, func(held broker.Held) (*broker.Entry, error) {
-		if err := s.writer.exec("ROLLBACK"); err != nil { // as SQLite does of itself if the disk is full
+		if err := writer.exec("ROLLBACK"); err != nil { // as SQLite does of itself if the disk is full
 			t.Error(err)
 		}
 		return provision(keyOf(1))(held)
@@ -133,7 +158,7 @@ func TestTransactionFails(t *testing.T) {
 // A change isn't told before its commit: another connection reads it then.
 func TestTellsAfterCommit(t *testing.T) {
 	path := filepath.Join(t.TempDir(), "store")
-	s, other := open(t, path), open(t, path)
+	s, other := open(t, path, broker.Silent{}), open(t, path, broker.Silent{})
 	for n := 0; n < 50; n++ {
 		if err := s.Change(context.Background(), keyOf(n), 0, provision(keyOf(n))); err != nil {
 			t.Fatal(err)
@@ -178,7 +203,7 @@ func TestMigration(t *testing.T) {
 	if err := old.Close(); err != nil {
 		t.Fatal(err)
 	}
-	s := open(t, path)
+	s := open(t, path, broker.Silent{})
 	first, err := s.Read(context.Background(), keyOf(0))
 	row, isHeld := first.Holding.Row()
 	if err != nil || !isHeld || row != (osb.BrokerRow{Service: service, Plan: plan, Phase: osb.PhaseReady}) {
@@ -210,7 +235,8 @@ func TestNoStore(t *testing.T) {
 		t.Fatal(err)
 	}
 	for _, path := range []string{folder, foreign} {
-		if _, err := Open(context.Background(), path, broker.Silent{}); err == nil || !strings.Contains(err.Error(), path) {
+		_, err := Open(context.Background(), path, broker.Silent{})
+		if err == nil || !strings.Contains(err.Error(), path) {
 			t.Errorf("%s: %v", path, err)
 		}
 	}
@@ -218,14 +244,14 @@ func TestNoStore(t *testing.T) {
 
 // A row that can't be read is listed with the others that are unfinished, and keeps none of them from being counted.
 func TestUnreadableRow(t *testing.T) {
-	s := open(t, filepath.Join(t.TempDir(), "store"))
+	s := open(t, filepath.Join(t.TempDir(), "store"), broker.Silent{})
 	ctx := context.Background()
 	for n := 1; n <= 2; n++ {
 		if err := s.Change(ctx, keyOf(n), 0, provision(keyOf(n))); err != nil {
 			t.Fatal(err)
 		}
 	}
-	err := s.together(ctx, func(c *connection) error {
+	err := s.file.Write(ctx, func(c *connection) error {
 		return c.exec("UPDATE holdings SET holding = '{}' WHERE id = ?", keyOf(1).String())
 	})
 	if err != nil {
@@ -241,13 +267,13 @@ func TestUnreadableRow(t *testing.T) {
 
 // Ready writes, so that a full disk shows.
 func TestReadyWrites(t *testing.T) {
-	s := open(t, filepath.Join(t.TempDir(), "store"))
+	s := open(t, filepath.Join(t.TempDir(), "store"), broker.Silent{})
 	asked := func() (text string) {
 		t.Helper()
 		if err := s.Ready(context.Background()); err != nil {
 			t.Fatal(err)
 		}
-		err := s.read(context.Background(), func(c *connection) (err error) {
+		err := s.file.Read(context.Background(), func(c *connection) (err error) {
 			text, err = c.text("SELECT asked FROM readiness")
 			return err
 		})

@@ -2,7 +2,10 @@ package sqlite
 
 import (
 	"context"
+	"database/sql/driver"
 	"fmt"
+
+	"pippinterm/program/sqlite"
 )
 
 // The tables. Those of version 0.2 had the first three columns of holdings, and no bindings.
@@ -11,8 +14,8 @@ var tables = []string{
 		"WITHOUT ROWID",
 	"CREATE INDEX IF NOT EXISTS unfinished_holdings ON holdings (id) WHERE unfinished",
 	"CREATE TABLE IF NOT EXISTS bindings (instance TEXT NOT NULL, binding TEXT NOT NULL, holding TEXT NOT NULL, " +
-		"held INTEGER NOT NULL, unfinished INTEGER NOT NULL, request TEXT, object TEXT, description TEXT, since INTEGER, " +
-		"PRIMARY KEY (instance, binding)) WITHOUT ROWID",
+		"held INTEGER NOT NULL, unfinished INTEGER NOT NULL, request TEXT, object TEXT, description TEXT, " +
+		"since INTEGER, PRIMARY KEY (instance, binding)) WITHOUT ROWID",
 	"CREATE INDEX IF NOT EXISTS held_bindings ON bindings (instance) WHERE held",
 	"CREATE INDEX IF NOT EXISTS unfinished_bindings ON bindings (instance) WHERE unfinished",
 	"CREATE TABLE IF NOT EXISTS workers (id TEXT PRIMARY KEY, worker INTEGER NOT NULL) WITHOUT ROWID",
@@ -25,29 +28,20 @@ var tables = []string{
 var columns = [][2]string{{"request", "TEXT"}, {"description", "TEXT"}, {"since", "INTEGER"}}
 
 // makeTables makes the tables and columns that are missing, in one transaction.
-func (c *connection) makeTables(ctx context.Context) (err error) {
-	if err := patiently(ctx, func() error { return c.exec("BEGIN IMMEDIATE") }); err != nil {
-		return err
-	}
-	defer func() {
-		if err != nil && !c.AutoCommit() {
-			_ = c.exec("ROLLBACK")
+func makeTables(ctx context.Context, conn *sqlitefile.Conn, _ string) error {
+	return conn.Transaction(ctx, func() error {
+		for _, statement := range tables {
+			if err := conn.Exec(statement); err != nil {
+				return err
+			}
 		}
-	}()
-	for _, statement := range tables {
-		if err := c.exec(statement); err != nil {
-			return err
-		}
-	}
-	if err := c.addColumns(); err != nil {
-		return err
-	}
-	return c.exec("COMMIT")
+		return addColumns(conn)
+	})
 }
 
-func (c *connection) addColumns() error {
+func addColumns(conn *sqlitefile.Conn) error {
 	have := map[string]bool{}
-	err := c.each("SELECT name FROM pragma_table_info('holdings')", nil, func(row []any) error {
+	err := conn.Each("SELECT name FROM pragma_table_info('holdings')", nil, func(row []driver.Value) error {
 		have[fmt.Sprint(row[0])] = true
 		return nil
 	})
@@ -56,7 +50,7 @@ func (c *connection) addColumns() error {
 	}
 	for _, it := range columns {
 		if !have[it[0]] {
-			if err := c.exec("ALTER TABLE holdings ADD COLUMN " + it[0] + " " + it[1]); err != nil {
+			if err := conn.Exec("ALTER TABLE holdings ADD COLUMN " + it[0] + " " + it[1]); err != nil {
 				return err
 			}
 		}

@@ -3,6 +3,7 @@ package sqlite
 import (
 	"context"
 	"crypto/rand"
+	"database/sql/driver"
 	"encoding/binary"
 	"fmt"
 
@@ -11,7 +12,7 @@ import (
 
 // Name returns the name of the store, or "" before the first use.
 func (s *Store) Name(ctx context.Context) (name string, err error) {
-	err = s.read(ctx, func(c *connection) error {
+	err = s.file.Read(ctx, func(c *connection) error {
 		name, err = c.text("SELECT name FROM store")
 		return err
 	})
@@ -20,7 +21,7 @@ func (s *Store) Name(ctx context.Context) (name string, err error) {
 
 // Begin gives the store a name for good, unless it has one, and returns the name that it has.
 func (s *Store) Begin(ctx context.Context, name string) (string, error) {
-	err := s.together(ctx, func(c *connection) error {
+	err := s.file.Write(ctx, func(c *connection) error {
 		return c.exec("INSERT INTO store (one, name) VALUES (1, ?) ON CONFLICT DO NOTHING", name)
 	})
 	if err != nil {
@@ -31,33 +32,24 @@ func (s *Store) Begin(ctx context.Context, name string) (string, error) {
 
 // Tie calls tie in a transaction, beside which nothing is written.
 func (s *Store) Tie(ctx context.Context, tie func(isUsed bool) error) error {
-	return s.read(ctx, func(c *connection) (err error) { // the writer isn't for calls of others
-		if err := patiently(ctx, func() error { return run(c.begin) }); err != nil {
-			return err
-		}
-		defer func() {
-			if err != nil && !c.AutoCommit() {
-				_ = c.exec("ROLLBACK")
+	return s.file.Read(ctx, func(c *connection) error { // the writer isn't for calls of others
+		return c.Transaction(ctx, func() error {
+			used, err := c.text("SELECT 'used' FROM store WHERE is_tied " +
+				"UNION ALL SELECT 'used' FROM holdings UNION ALL SELECT 'used' FROM bindings LIMIT 1")
+			if err != nil {
+				return err
 			}
-		}()
-		used, err := c.text("SELECT 'used' FROM store WHERE is_tied " +
-			"UNION ALL SELECT 'used' FROM holdings UNION ALL SELECT 'used' FROM bindings LIMIT 1")
-		if err != nil {
-			return err
-		}
-		if err := tie(used != ""); err != nil {
-			return err
-		}
-		if err := c.exec("UPDATE store SET is_tied = 1 WHERE NOT is_tied"); err != nil {
-			return err
-		}
-		return c.exec("COMMIT")
+			if err := tie(used != ""); err != nil {
+				return err
+			}
+			return c.exec("UPDATE store SET is_tied = 1 WHERE NOT is_tied")
+		})
 	})
 }
 
 // text is the only column of the first row of a query, or "" if there is none.
 func (c *connection) text(query string) (text string, err error) {
-	err = c.each(query, nil, func(row []any) error {
+	err = c.each(query, func(row []driver.Value) error {
 		text = fmt.Sprint(row[0])
 		return nil
 	})
@@ -71,7 +63,7 @@ func (s *Store) Fence(ctx context.Context, key broker.Key) (int64, error) {
 		return 0, err
 	}
 	worker := int64(binary.BigEndian.Uint64(random[:])>>1) | 1
-	err := s.together(ctx, func(c *connection) error {
+	err := s.file.Write(ctx, func(c *connection) error {
 		return c.exec("INSERT INTO workers VALUES (?, ?) ON CONFLICT (id) DO UPDATE SET worker = excluded.worker",
 			key.String(), worker)
 	})
@@ -80,7 +72,7 @@ func (s *Store) Fence(ctx context.Context, key broker.Key) (int64, error) {
 
 // worker is who works at a key, or did last, and 0 if nobody has.
 func (c *connection) worker(key broker.Key) (int64, error) {
-	row, err := one(c.readWorker, 1, key.String())
+	row, err := one(c.readWorker, key.String())
 	if err != nil || row == nil {
 		return 0, err
 	}

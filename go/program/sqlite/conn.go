@@ -1,0 +1,292 @@
+package sqlitefile
+
+import (
+	"context"
+	"database/sql/driver"
+	"errors"
+	"fmt"
+	"io"
+	"net/url"
+	"runtime/debug"
+	"time"
+
+	"github.com/mattn/go-sqlite3"
+)
+
+// wait is how long a transaction waits for those of other processes.
+const wait = 30 * time.Second
+
+// ErrBusy reports that another process has kept the file for too long. Nothing was written.
+var ErrBusy = errors.New("another process has the file")
+
+// ErrBroken reports that SQLite has rolled back, or can't: a write would be committed alone, or half. Nothing of the
+// transaction was written.
+var ErrBroken = errors.New("the transaction was broken off")
+
+// A Conn is a connection. One goroutine at a time uses it.
+type Conn struct {
+	sqlite                       *sqlite3.SQLiteConn
+	begin, end                   *Statement
+	savepoint, rollback, release *Statement
+	prepared                     []*Statement
+}
+
+// connect opens a connection whose commits are on disk when they return.
+func connect(ctx context.Context, path string) (*Conn, error) {
+	var made driver.Conn
+	name := (&url.URL{Scheme: "file", Opaque: escaped(path)}).String() + "?_mutex=no&_busy_timeout=0"
+	err := Patiently(ctx, func() (err error) { // the driver begins with a statement of its own
+		made, err = (&sqlite3.SQLiteDriver{}).Open(name)
+		return err
+	})
+	if err != nil {
+		return nil, err
+	}
+	c := &Conn{sqlite: made.(*sqlite3.SQLiteConn)}
+	if err := c.set(ctx); err != nil {
+		_ = c.close()
+		return nil, err
+	}
+	return c, nil
+}
+
+// escaped is a path as it stands in a URI of SQLite.
+func escaped(path string) string { return (&url.URL{Path: path}).EscapedPath() }
+
+func (c *Conn) set(ctx context.Context) error {
+	for _, statement := range []string{
+		"PRAGMA journal_mode = WAL", "PRAGMA synchronous = FULL",
+		"PRAGMA temp_store = MEMORY", // what SAVEPOINT needs to undo would be written to a file
+	} {
+		statement := statement
+		if err := Patiently(ctx, func() error { return c.Exec(statement) }); err != nil {
+			return err
+		}
+	}
+	for to, text := range map[**Statement]string{
+		&c.begin: "BEGIN IMMEDIATE", &c.end: "COMMIT",
+		&c.savepoint: "SAVEPOINT job", &c.rollback: "ROLLBACK TO job", &c.release: "RELEASE job",
+	} {
+		var err error
+		if *to, err = c.Prepare(ctx, text); err != nil {
+			return err
+		}
+	}
+	return nil
+}
+
+// close closes the statements and the connection. With an open statement SQLite would keep the files open, and would
+// leave in the log what was written last.
+func (c *Conn) close() error {
+	for _, it := range c.prepared {
+		_ = it.driver.Close()
+	}
+	return c.sqlite.Close()
+}
+
+// Prepare prepares a statement, which lives as long as the connection.
+func (c *Conn) Prepare(ctx context.Context, text string) (*Statement, error) {
+	var made driver.Stmt
+	err := Patiently(ctx, func() (err error) {
+		made, err = c.sqlite.Prepare(text)
+		return err
+	})
+	if err != nil {
+		return nil, fmt.Errorf("%s: %w", text, err)
+	}
+	statement := &Statement{driver: made.(*sqlite3.SQLiteStmt)}
+	c.prepared = append(c.prepared, statement)
+	return statement, nil
+}
+
+// Exec executes statements that return no rows.
+func (c *Conn) Exec(statements string, values ...driver.Value) error {
+	_, err := c.sqlite.Exec(statements, values)
+	return err
+}
+
+// Each calls with each row of a query. The row is another one in each call.
+func (c *Conn) Each(query string, values []driver.Value, call func(row []driver.Value) error) error {
+	rows, err := c.sqlite.Query(query, values)
+	if err != nil {
+		return err
+	}
+	return each(rows, len(rows.Columns()), call)
+}
+
+// InTransaction is whether a transaction has begun and hasn't ended. SQLite ends some by itself, for example if the
+// disk is full.
+func (c *Conn) InTransaction() bool { return !c.sqlite.AutoCommit() }
+
+// Transaction commits what do writes, and nothing if do fails or panics. Nobody else writes meanwhile. It is for a
+// connection that isn't in a transaction: that of Migrate, or a reader's.
+//
+// Errors: those of do, of SQLite and of ctx.
+func (c *Conn) Transaction(ctx context.Context, do func() error) (err error) {
+	if err := Patiently(ctx, c.begin.run); err != nil {
+		return err
+	}
+	defer func() {
+		if err != nil && c.InTransaction() {
+			_ = c.Exec("ROLLBACK")
+		}
+	}()
+	if err := Safely(do); err != nil {
+		return err
+	}
+	if !c.InTransaction() {
+		return ErrBroken
+	}
+	return c.end.run()
+}
+
+// Snapshot calls do, whose queries all read the same state of the file. It is for a reader's connection.
+func (c *Conn) Snapshot(do func() error) error {
+	if err := c.Exec("BEGIN"); err != nil {
+		return err
+	}
+	defer func() { _ = c.Exec("ROLLBACK") }() // nothing was written
+	return do()
+}
+
+// Undoing calls do in a transaction, and undoes what it has written if it fails or panics: what was written before
+// stays. It may be called in itself.
+func (c *Conn) Undoing(do func() error) error {
+	if !c.InTransaction() {
+		return ErrBroken
+	}
+	if err := c.savepoint.run(); err != nil {
+		return err
+	}
+	failed := Safely(do)
+	if failed != nil && c.InTransaction() {
+		if err := c.rollback.run(); err != nil {
+			return fmt.Errorf("%w: %v, after %v", ErrBroken, err, failed)
+		}
+	}
+	if !c.InTransaction() {
+		return brokenOff(failed)
+	}
+	if err := c.release.run(); err != nil {
+		return fmt.Errorf("%w: %v, after %v", ErrBroken, err, failed)
+	}
+	return failed
+}
+
+// brokenOff is ErrBroken, with what has failed before, if anything has.
+func brokenOff(failed error) error {
+	switch {
+	case failed == nil:
+		return ErrBroken
+	case errors.Is(failed, ErrBroken):
+		return failed
+	}
+	return fmt.Errorf("%w: %v", ErrBroken, failed)
+}
+
+// Safely calls, and returns a panic as an error.
+func Safely(do func() error) (err error) {
+	defer func() {
+		if what := recover(); what != nil {
+			err = fmt.Errorf("panic: %v\n%s", what, debug.Stack())
+		}
+	}()
+	return do()
+}
+
+// A Statement is prepared for one connection.
+type Statement struct {
+	driver  *sqlite3.SQLiteStmt
+	columns int // of its rows, once it was executed
+}
+
+func (s *Statement) run() error {
+	_, err := s.Run()
+	return err
+}
+
+// Run executes a statement, and returns how many rows it has inserted, updated or deleted.
+func (s *Statement) Run(values ...driver.Value) (rows int64, err error) {
+	// with a context that can be cancelled, the driver would start a goroutine for each step
+	done, err := s.driver.Exec(values)
+	if err != nil {
+		return 0, err
+	}
+	return done.RowsAffected()
+}
+
+// Each calls with each row of a query. The row is another one in each call.
+func (s *Statement) Each(values []driver.Value, call func(row []driver.Value) error) error {
+	rows, err := s.query(values)
+	if err != nil {
+		return err
+	}
+	return each(rows, s.columns, call)
+}
+
+// errOne ends a query after its first row.
+var errOne = errors.New("one row was read")
+
+// One returns the first row of a query, or nil if there is none.
+func (s *Statement) One(values ...driver.Value) (row []driver.Value, err error) {
+	err = s.Each(values, func(first []driver.Value) error {
+		row = first
+		return errOne
+	})
+	if err == errOne {
+		err = nil
+	}
+	return row, err
+}
+
+func (s *Statement) query(values []driver.Value) (driver.Rows, error) {
+	// with a context that can be cancelled, the driver would start a goroutine for each step
+	rows, err := s.driver.Query(values)
+	if err == nil && s.columns == 0 {
+		s.columns = len(rows.Columns()) // the driver asks for the name of each, with each query
+	}
+	return rows, err
+}
+
+func each(rows driver.Rows, columns int, call func(row []driver.Value) error) error {
+	defer rows.Close()
+	for {
+		row := make([]driver.Value, columns)
+		switch err := rows.Next(row); err {
+		case nil:
+		case io.EOF:
+			return nil
+		default:
+			return err
+		}
+		if err := call(row); err != nil {
+			return err
+		}
+	}
+}
+
+// Patiently calls until no other process is in its way.
+//
+// Errors: those of call; that of ctx; ErrBusy after half a minute.
+func Patiently(ctx context.Context, call func() error) error {
+	for until := time.Now().Add(wait); ; {
+		err := call()
+		if err == nil || !isInTheWay(err) {
+			return err
+		}
+		if time.Now().After(until) {
+			return fmt.Errorf("%w: %v", ErrBusy, err)
+		}
+		select {
+		case <-time.After(again):
+		case <-ctx.Done():
+			return ctx.Err()
+		}
+	}
+}
+
+// isInTheWay is whether a call has failed because of another process.
+func isInTheWay(err error) bool {
+	var failed sqlite3.Error
+	return errors.As(err, &failed) && (failed.Code == sqlite3.ErrBusy || failed.Code == sqlite3.ErrLocked)
+}

@@ -1,0 +1,344 @@
+// Package sqlitefile has a file of SQLite that many goroutines use at once, and any number of processes of one machine.
+//
+// A read waits for nobody. All jobs that wait to be written are written by one goroutine in one transaction: one commit
+// puts them on disk, and no caller is told before it has returned. A job that fails is left out of the transaction.
+//
+// The driver is used without database/sql: statements are prepared once for each connection, and a read is one query.
+package sqlitefile
+
+import (
+	"context"
+	"errors"
+	"fmt"
+	"os"
+	"path/filepath"
+	"sync"
+	"sync/atomic"
+	"time"
+)
+
+// Options say how a file is used. C is what its user has for each connection, such as prepared statements.
+type Options[C any] struct {
+	Readers  int // as many read at once, at least 1
+	Together int // as many jobs are written in one transaction at most, at least 1
+
+	// OneStatement leaves out the savepoint of each job, which undoes a job that fails. It may be set only if each job
+	// writes with at most one statement, and does nothing after it that can fail: a job that fails has then written
+	// nothing. If a job failed after it has written, what it has written would be committed.
+	OneStatement bool
+
+	// Migrate brings the tables up to date, on the first connection. The path is that of File.Path. It may be nil.
+	Migrate func(ctx context.Context, conn *Conn, path string) error
+	// Prepare returns what is used with a connection. It is called once for each, after Migrate.
+	Prepare func(ctx context.Context, conn *Conn) (C, error)
+	// Committed is told how many jobs each transaction had, before their callers are. It may be nil.
+	Committed func(jobs int)
+}
+
+// A File is open. Any number of goroutines use it.
+type File[C any] struct {
+	path    string
+	options Options[C]
+	readers chan side[C]
+	writer  side[C]
+	asked   chan *job[C]
+	once    sync.Once
+	open    context.Context // ends with Close
+	shut    context.CancelFunc
+	ended   chan struct{} // closed once nothing is written any more
+	failed  error         // of Close
+}
+
+// A side is a connection, and what is used with it.
+type side[C any] struct {
+	conn *Conn
+	with C
+}
+
+// A job is written with others, or fails alone.
+type job[C any] struct {
+	ctx   context.Context
+	do    func(C) error
+	state atomic.Int32
+	err   error
+	done  chan struct{}
+}
+
+const (
+	waiting int32 = iota
+	begun
+	givenUp
+)
+
+// begin is whether the job is to be done: its caller may have gone.
+func (j *job[C]) begin() bool { return j.state.CompareAndSwap(waiting, begun) }
+
+// giveUp is whether the job won't be done.
+func (j *job[C]) giveUp() bool { return j.state.CompareAndSwap(waiting, givenUp) }
+
+// ErrClosed reports that the file is closed. Nothing was written.
+var ErrClosed = errors.New("the file is closed")
+
+// Open opens a file, and creates it with mode 0600 if there is none. What a killed process had written, and not synced,
+// is on disk before anything is read: it would be taken for committed. Nothing is written to a file that needs no
+// migration.
+//
+// Errors name the file: those of SQLite, of Migrate and of Prepare. Nothing is open then.
+func Open[C any](ctx context.Context, path string, options Options[C]) (*File[C], error) {
+	f := &File[C]{
+		options: options,
+		readers: make(chan side[C], options.Readers),
+		asked:   make(chan *job[C], options.Together),
+		ended:   make(chan struct{}),
+	}
+	var err error
+	if f.path, err = created(path); err == nil {
+		err = f.connect(ctx, f.path)
+	}
+	if err != nil {
+		return nil, fmt.Errorf("sqlite: %s: %w", path, err)
+	}
+	f.open, f.shut = context.WithCancel(context.Background())
+	go f.write()
+	return f, nil
+}
+
+// Path returns the absolute path of the file, without symbolic links.
+func (f *File[C]) Path() string { return f.path }
+
+func (f *File[C]) connect(ctx context.Context, path string) (err error) {
+	if f.writer, err = f.side(ctx, path, f.options.Migrate); err != nil {
+		return err
+	}
+	if err = synced(path + "-wal"); err == nil {
+		err = f.openReaders(ctx, path)
+	}
+	if err != nil {
+		_ = f.writer.conn.close()
+	}
+	return err
+}
+
+func (f *File[C]) openReaders(ctx context.Context, path string) error {
+	for n := 0; n < f.options.Readers; n++ {
+		reader, err := f.side(ctx, path, nil)
+		if err != nil {
+			_ = f.closeReaders(n)
+			return err
+		}
+		f.readers <- reader
+	}
+	return nil
+}
+
+// side opens a connection.
+func (f *File[C]) side(
+	ctx context.Context, path string, first func(context.Context, *Conn, string) error,
+) (side[C], error) {
+	conn, err := connect(ctx, path)
+	if err != nil {
+		return side[C]{}, err
+	}
+	if first != nil {
+		err = first(ctx, conn, path)
+	}
+	var with C
+	if err == nil {
+		with, err = f.options.Prepare(ctx, conn)
+	}
+	if err != nil {
+		_ = conn.close()
+		return side[C]{}, err
+	}
+	return side[C]{conn: conn, with: with}, nil
+}
+
+func (f *File[C]) closeReaders(count int) (err error) {
+	for n := 0; n < count; n++ {
+		if failed := (<-f.readers).conn.close(); err == nil {
+			err = failed
+		}
+	}
+	return err
+}
+
+// created creates a file for its owner alone, if there is none, and returns its path without symbolic links, as SQLite
+// uses it. A file that exists must not be opened here: closing it would end SQLite's locks of this process.
+func created(path string) (string, error) {
+	file, err := os.OpenFile(path, os.O_RDWR|os.O_CREATE|os.O_EXCL, 0o600)
+	if err == nil {
+		err = file.Close()
+	}
+	if err != nil && !errors.Is(err, os.ErrExist) {
+		return "", err
+	}
+	absolute, err := filepath.Abs(path)
+	if err != nil {
+		return "", err
+	}
+	return filepath.EvalSymlinks(absolute)
+}
+
+// synced has on disk what a killed process had written to the log. No other file of the database may be opened so.
+func synced(log string) error {
+	file, err := os.Open(log)
+	if errors.Is(err, os.ErrNotExist) {
+		return nil
+	}
+	if err != nil {
+		return err
+	}
+	defer file.Close()
+	return file.Sync()
+}
+
+// Waiting returns how many jobs wait for the next transaction.
+func (f *File[C]) Waiting() int { return len(f.asked) }
+
+// Close closes the file, once all jobs and reads that have begun have ended. Later calls fail with ErrClosed. To call
+// Close again does nothing.
+func (f *File[C]) Close() error {
+	f.once.Do(func() {
+		f.shut()
+		<-f.ended
+		f.failed = f.writer.conn.close()
+		if err := f.closeReaders(f.options.Readers); f.failed == nil {
+			f.failed = err
+		}
+	})
+	return f.failed
+}
+
+// Read calls with one of the readers, to read what is committed. If another process is in the way, it calls again.
+//
+// Errors: those of call; that of ctx, if all readers are in use until it is done; ErrBusy; ErrClosed.
+func (f *File[C]) Read(ctx context.Context, call func(C) error) error {
+	select {
+	case <-f.open.Done():
+		return ErrClosed
+	default:
+	}
+	if err := ctx.Err(); err != nil {
+		return err
+	}
+	select {
+	case reader := <-f.readers:
+		defer func() { f.readers <- reader }()
+		return Patiently(ctx, func() error { return call(reader.with) })
+	case <-ctx.Done():
+		return ctx.Err()
+	case <-f.open.Done():
+		return ErrClosed
+	}
+}
+
+// Write has a job done in a transaction, together with others that wait, and returns once it is on disk. A job that
+// fails or panics is undone, and the others are written. A job must not call Write.
+//
+// Errors: those of do; that of ctx, if it is done before the job has begun; ErrBusy; ErrClosed. In these cases nothing
+// is written. If the transaction fails otherwise, nobody knows whether it is.
+func (f *File[C]) Write(ctx context.Context, do func(C) error) error {
+	it := &job[C]{ctx: ctx, do: do, done: make(chan struct{})}
+	select {
+	case <-f.open.Done():
+		return ErrClosed
+	default:
+	}
+	select {
+	case f.asked <- it:
+	case <-ctx.Done():
+		return ctx.Err()
+	case <-f.open.Done():
+		return ErrClosed
+	}
+	select {
+	case <-it.done:
+		return it.err
+	case <-ctx.Done():
+		if it.giveUp() {
+			return ctx.Err()
+		}
+	case <-f.ended:
+		if it.giveUp() {
+			return ErrClosed
+		}
+	}
+	<-it.done // it has begun: the caller is told what came of it
+	return it.err
+}
+
+// write writes what is asked for, until the file is closed.
+func (f *File[C]) write() {
+	defer close(f.ended)
+	batch := make([]*job[C], 0, f.options.Together)
+	for {
+		select {
+		case it := <-f.asked:
+			batch = append(batch[:0], it)
+		case <-f.open.Done():
+			return
+		}
+		for more := true; more && len(batch) < f.options.Together; {
+			select {
+			case it := <-f.asked:
+				batch = append(batch, it)
+			default:
+				more = false
+			}
+		}
+		f.commit(batch)
+	}
+}
+
+// commit writes jobs in one transaction, and tells their callers what came of it. If the transaction itself fails, none
+// is written.
+func (f *File[C]) commit(batch []*job[C]) {
+	conn := f.writer.conn
+	err := Patiently(f.open, conn.begin.run)
+	if errors.Is(err, context.Canceled) {
+		err = ErrClosed
+	}
+	jobs := batch[:0]
+	for _, it := range batch {
+		if !it.begin() {
+			continue // nobody waits for it
+		}
+		jobs = append(jobs, it)
+		if it.err = it.ctx.Err(); it.err == nil && err == nil {
+			it.err = f.try(it)
+		}
+		if errors.Is(it.err, ErrBroken) {
+			err = it.err
+		}
+	}
+	if err == nil {
+		err = conn.end.run()
+	}
+	if err != nil && conn.InTransaction() {
+		_ = conn.Exec("ROLLBACK")
+	}
+	if f.options.Committed != nil && err == nil {
+		f.options.Committed(len(jobs))
+	}
+	for _, it := range jobs {
+		if err != nil {
+			it.err = fmt.Errorf("sqlite: %w", err)
+		}
+		close(it.done)
+	}
+}
+
+// try has a job done. If it fails, nothing of it is written.
+func (f *File[C]) try(it *job[C]) error {
+	do := func() error { return it.do(f.writer.with) }
+	if !f.options.OneStatement {
+		return f.writer.conn.Undoing(do)
+	}
+	err := Safely(do)
+	if !f.writer.conn.InTransaction() {
+		return brokenOff(err)
+	}
+	return err
+}
+
+const again = 500 * time.Microsecond // SQLite's own waiting sleeps longer and longer, up to 100 ms
