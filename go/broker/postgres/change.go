@@ -24,8 +24,12 @@ import (
 // Errors: broker.ErrLostLock, those of step, the context's and the server's; and session.ErrUnknownCommit if nobody
 // knows whether the change is written. After any other error it isn't. A panic of step is an error.
 func (s *Store) Change(ctx context.Context, key broker.Key, fence int64, step broker.Step) error {
+	statements, err := s.statements(ctx)
+	if err != nil {
+		return err
+	}
 	return s.transaction(ctx, &key, func(tx *sql.Tx) (bool, error) {
-		it := change{ctx: ctx, tx: tx, key: key}
+		it := change{ctx: ctx, tx: tx, statements: statements, key: key}
 		if err := it.check(fence); err != nil {
 			return false, err
 		}
@@ -43,23 +47,23 @@ func (s *Store) Change(ctx context.Context, key broker.Key, fence int64, step br
 
 // A change is one transaction.
 type change struct {
-	ctx context.Context
-	tx  *sql.Tx
-	key broker.Key
+	ctx        context.Context
+	tx         *sql.Tx
+	statements prepared
+	key        broker.Key
 }
+
+// statement is the statement of a text in the transaction.
+func (c change) statement(text string) *sql.Stmt { return c.tx.StmtContext(c.ctx, c.statements[text]) }
 
 // check fails unless the fence is the last of the key. It stays so until the transaction ends.
 func (c change) check(fence int64) error {
 	if fence == 0 {
 		return nil
 	}
-	query, arguments := "SELECT worker FROM osb_workers WHERE id = $1 FOR SHARE", []any{c.key.Instance}
-	if c.key.IsBinding {
-		query = "SELECT worker FROM osb_binding_workers WHERE instance = $1 AND binding = $2 FOR SHARE"
-		arguments = []any{c.key.Instance, c.key.Binding}
-	}
 	var worker int64
-	err := c.tx.QueryRowContext(c.ctx, query, arguments...).Scan(&worker)
+	text := of(c.key, checkWorker, checkBindingWorker)
+	err := c.statement(text).QueryRowContext(c.ctx, keyed(c.key)...).Scan(&worker)
 	if errors.Is(err, sql.ErrNoRows) || err == nil && worker != fence {
 		return fmt.Errorf("%w: %v", broker.ErrLostLock, c.key)
 	}
@@ -69,17 +73,17 @@ func (c change) check(fence int64) error {
 // lock reads what is held, and locks it.
 func (c change) lock() (held broker.Held, err error) {
 	if !c.key.IsBinding {
-		held.Entry, err = c.locked(c.key, "FOR UPDATE")
+		held.Entry, err = c.locked(c.key, forUpdate)
 		held.AnyBinding = func() (is bool, err error) {
-			err = c.tx.QueryRowContext(c.ctx, anyBinding, c.key.Instance).Scan(&is)
+			err = c.statement(anyBinding).QueryRowContext(c.ctx, c.key.Instance).Scan(&is)
 			return is, err
 		}
 		return held, err
 	}
-	if held.Instance, err = c.locked(broker.InstanceKey(c.key.Instance), "FOR SHARE"); err != nil {
+	if held.Instance, err = c.locked(broker.InstanceKey(c.key.Instance), forShare); err != nil {
 		return held, err
 	}
-	held.Entry, err = c.locked(c.key, "FOR UPDATE")
+	held.Entry, err = c.locked(c.key, forUpdate)
 	return held, err
 }
 
@@ -101,10 +105,7 @@ func (c change) locked(key broker.Key, how string) (broker.Entry, error) {
 }
 
 func (c change) find(key broker.Key, how string) (broker.Entry, bool, error) {
-	if key.IsBinding {
-		return scanned(key, c.tx.QueryRowContext(c.ctx, bindingColumns+" "+how, key.Instance, key.Binding))
-	}
-	return scanned(key, c.tx.QueryRowContext(c.ctx, instanceColumns+" "+how, key.Instance))
+	return scanned(key, c.statement(finding(key)+how).QueryRowContext(c.ctx, keyed(key)...))
 }
 
 // insert inserts the row of the zero Holding, unless another transaction does it first, which it waits for. It returns
@@ -114,14 +115,7 @@ func (c change) insert(key broker.Key) (bool, error) {
 	if err != nil {
 		return false, err
 	}
-	query := "INSERT INTO osb_holdings (id, holding, unfinished) VALUES ($1, $2, false) ON CONFLICT DO NOTHING"
-	arguments := []any{key.Instance, text}
-	if key.IsBinding {
-		query = "INSERT INTO osb_bindings (instance, binding, holding, held, unfinished) " +
-			"VALUES ($1, $2, $3, false, false) ON CONFLICT DO NOTHING"
-		arguments = []any{key.Instance, key.Binding, text}
-	}
-	done, err := c.tx.ExecContext(c.ctx, query, arguments...)
+	done, err := c.statement(of(key, insertInstance, insertBinding)).ExecContext(c.ctx, append(keyed(key), text)...)
 	if err != nil {
 		return false, err
 	}
@@ -134,18 +128,14 @@ func (c change) write(entry broker.Entry) error {
 	if err != nil {
 		return err
 	}
-	query := "UPDATE osb_holdings SET holding = $1, unfinished = $2, request = $3, description = $4, since = $5 " +
-		"WHERE id = $6"
 	arguments := []any{
 		text, entry.IsUnfinished(), orNull(entry.Request), storable(entry.Description), timeOrNull(entry.Since),
 		c.key.Instance,
 	}
 	if c.key.IsBinding {
-		query = "UPDATE osb_bindings SET holding = $1, unfinished = $2, request = $3, description = $4, since = $5, " +
-			"held = $7, object = $8 WHERE instance = $6 AND binding = $9"
 		arguments = append(arguments, entry.Holding.IsHeld(), orNull(entry.Binding), c.key.Binding)
 	}
-	done, err := c.tx.ExecContext(c.ctx, query, arguments...)
+	done, err := c.statement(of(c.key, writeInstance, writeBinding)).ExecContext(c.ctx, arguments...)
 	if err != nil {
 		return err
 	}
@@ -167,15 +157,8 @@ func (s *Store) Fence(ctx context.Context, key broker.Key) (int64, error) {
 		return 0, err
 	}
 	worker := int64(binary.BigEndian.Uint64(random[:])>>1) | 1
-	query, arguments := "INSERT INTO osb_workers VALUES ($1, $2) ON CONFLICT (id) "+
-		"DO UPDATE SET worker = excluded.worker", []any{key.Instance, worker}
-	if key.IsBinding {
-		query = "INSERT INTO osb_binding_workers VALUES ($1, $2, $3) ON CONFLICT (instance, binding) " +
-			"DO UPDATE SET worker = excluded.worker"
-		arguments = []any{key.Instance, key.Binding, worker}
-	}
-	err := s.query(func(db *sql.DB) error {
-		_, err := db.ExecContext(ctx, query, arguments...)
+	err := s.reading(ctx, func(statements prepared) error {
+		_, err := statements[of(key, putWorker, putBindingWorker)].ExecContext(ctx, append(keyed(key), worker)...)
 		return err
 	})
 	if err != nil {

@@ -9,28 +9,17 @@ import (
 	"pippinterm/osb"
 )
 
-// One statement reads a binding and its instance, so both are of the same moment.
-const readBinding = `
-SELECT b.holding, b.request, b.object, b.description, b.since,
-    i.holding, i.request, NULL, i.description, i.since
-FROM (SELECT $1::uuid AS instance, $2::uuid AS binding) AS k
-LEFT JOIN osb_bindings AS b ON b.instance = k.instance AND b.binding = k.binding
-LEFT JOIN osb_holdings AS i ON i.id = k.instance
-`
-
-const anyBinding = "SELECT EXISTS (SELECT FROM osb_bindings WHERE instance = $1 AND held)"
-
 // Read returns what is committed: the server shows nothing that isn't on its disk.
 func (s *Store) Read(ctx context.Context, key broker.Key) (held broker.Held, err error) {
-	err = s.query(func(db *sql.DB) error {
+	err = s.reading(ctx, func(statements prepared) error {
 		if key.IsBinding {
-			held, err = readHeldBinding(ctx, db, key)
+			held, err = readHeldBinding(ctx, statements[readBinding], key)
 			return err
 		}
-		held.Entry, _, err = scanned(key, db.QueryRowContext(ctx, instanceColumns, key.Instance))
+		held.Entry, _, err = scanned(key, statements[findInstance].QueryRowContext(ctx, key.Instance))
 		held.AnyBinding = func() (is bool, err error) {
-			err = s.query(func(db *sql.DB) error {
-				return db.QueryRowContext(ctx, anyBinding, key.Instance).Scan(&is)
+			err = s.reading(ctx, func(statements prepared) error {
+				return statements[anyBinding].QueryRowContext(ctx, key.Instance).Scan(&is)
 			})
 			return is, err
 		}
@@ -39,9 +28,20 @@ func (s *Store) Read(ctx context.Context, key broker.Key) (held broker.Held, err
 	return held, err
 }
 
-func readHeldBinding(ctx context.Context, db *sql.DB, key broker.Key) (held broker.Held, err error) {
+// reading calls with the prepared statements, for those that are transactions of their own.
+func (s *Store) reading(ctx context.Context, call func(prepared) error) error {
+	return s.query(func(*sql.DB) error {
+		statements, err := s.statements(ctx)
+		if err != nil {
+			return err
+		}
+		return call(statements)
+	})
+}
+
+func readHeldBinding(ctx context.Context, reading *sql.Stmt, key broker.Key) (held broker.Held, err error) {
 	var it, instance row
-	found := db.QueryRowContext(ctx, readBinding, key.Instance, key.Binding)
+	found := reading.QueryRowContext(ctx, key.Instance, key.Binding)
 	if err := found.Scan(it.into(instance.into()...)...); err != nil {
 		return held, err
 	}

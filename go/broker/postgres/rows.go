@@ -12,13 +12,6 @@ import (
 	"pippinterm/osb"
 )
 
-// The columns of an entry. That of the object is a binding's alone.
-const (
-	instanceColumns = "SELECT holding, request, NULL, description, since FROM osb_holdings WHERE id = $1"
-	bindingColumns  = "SELECT holding, request, object, description, since FROM osb_bindings " +
-		"WHERE instance = $1 AND binding = $2"
-)
-
 // A row has the columns of an entry. All are NULL if there is no row.
 type row struct {
 	holding, request, object, description sql.NullString

@@ -27,9 +27,10 @@ var errClosed = errors.New("the store is closed")
 
 // A Store is a broker.NamedStore.
 type Store struct {
-	db       *sql.DB
-	observer broker.Observer
-	most     int
+	db          *sql.DB
+	observer    broker.Observer
+	most        int
+	preparation preparation
 
 	turn     sync.Mutex
 	isClosed bool
