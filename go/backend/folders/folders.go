@@ -134,10 +134,13 @@ func (f *Folders) Create(ctx context.Context, request broker.Request) error {
 // create creates the folder of an instance that doesn't exist.
 func (f *Folders) create(request broker.Request) error {
 	part := f.part(request.Key.Instance)
-	if err := os.RemoveAll(part); err != nil {
-		return err
+	err := os.Mkdir(part, 0o700)
+	if errors.Is(err, fs.ErrExist) { // a worker that was killed has left it
+		if err = os.RemoveAll(part); err == nil {
+			err = os.Mkdir(part, 0o700)
+		}
 	}
-	if err := os.Mkdir(part, 0o700); err != nil {
+	if err != nil {
 		return err
 	}
 	if err := f.label(part, request); err != nil {
