@@ -94,7 +94,7 @@ def brokers(asked: argparse.Namespace) -> Iterator[Brokers]:
         log = stack.enter_context(open(Path(folder) / "log", "ab"))
         running = []
         for _ in range(asked.brokers):
-            running.append(subprocess.Popen(line, env=python_environment(_TOP)))
+            running.append(subprocess.Popen(line, env=python_environment(_TOP), stderr=log))
             stack.callback(_end, running[-1])
             _wait_for(port)
         yield Brokers(running, port, asked)

@@ -41,9 +41,7 @@ def row(phase: Phase, plan: Id = ASYNC) -> BrokerRow:
 class Ids(unittest.TestCase):
     def test_text(self) -> None:
         text = "12345678-9abc-def0-1234-56789abcdef0"
-        self.assertEqual(
-            Id.of(text.upper()), Id(0x123456789ABCDEF0, 0x123456789ABCDEF0)
-        )
+        self.assertEqual(Id.of(text.upper()), Id(0x123456789ABCDEF0, 0x123456789ABCDEF0))
         self.assertEqual(str(Id.of(text.upper())), text)
         self.assertEqual(eval(repr(Id.of(text))), Id.of(text))
         self.assertEqual(len({Id.of(text), Id.of(text.upper()), ONE}), 2)
@@ -76,9 +74,7 @@ class Names(unittest.TestCase):
             (Phase.DELETE_FAILED, "delete-failed"),
             (Status.NOT_UTF8, "not-utf8"),
         ):
-            self.assertEqual(
-                (str(it), f"{it}", f"{it:>20}"), (name, name, name.rjust(20))
-            )
+            self.assertEqual((str(it), f"{it}", f"{it:>20}"), (name, name, name.rjust(20)))
         self.assertEqual(
             (int(State.READY), State(2), f"{State.READY.value:02}"),
             (2, State.READY, "02"),
@@ -115,9 +111,7 @@ class Records(unittest.TestCase):
 
     def test_statuses(self) -> None:
         """checks/network compares what each call gives; here is why one is refused."""
-        busy, last = record(State.POLLING, POLL, 2), record(
-            State.CLEANING, attempt=2**64 - 1
-        )
+        busy, last = record(State.POLLING, POLL, 2), record(State.CLEANING, attempt=2**64 - 1)
         for call, status in (
             (lambda: busy.send(ONE), Status.BUSY),
             (lambda: record(State.READY).send(ONE), Status.NOTHING_DUE),
@@ -185,8 +179,7 @@ HOLDINGS = [
     ),
     (f'{FRONT}null,"tombstone":false,"version":2,"work":null}}', Holding.NONE),
     (
-        FRONT.replace("0", "a")
-        + '{"phase":"waiting","plan":"00000000-0000-0000-0000-0000000000b2",'
+        FRONT.replace("0", "a") + '{"phase":"waiting","plan":"00000000-0000-0000-0000-0000000000b2",'
         '"service":"00000000-0000-0000-0000-0000000000a0"},"tombstone":false,"version":2,"work":null}',
         Holding(row(Phase.WAITING), attributes=b"\xaa" * 32),
     ),
@@ -211,14 +204,10 @@ class Texts(unittest.TestCase):
             wanted, kind, text = line.split(" ", 2)
             of: type[Record] | type[Holding] = Record if kind == "record" else Holding
             if wanted in ("same", "other"):
-                text, _, written = (
-                    text.partition("  ") if wanted == "other" else (text, "", text)
-                )
+                text, _, written = text.partition("  ") if wanted == "other" else (text, "", text)
                 self.assertEqual(of.from_text(text).to_text(), written, line)
             else:
-                self.assertEqual(
-                    status_of(lambda: of.from_text(text)), Status[wanted], line
-                )
+                self.assertEqual(status_of(lambda: of.from_text(text)), Status[wanted], line)
 
     def test_no_text(self) -> None:
         kinds: tuple[type[Record] | type[Holding], ...] = (Record, Holding)
@@ -244,17 +233,13 @@ class Holdings(unittest.TestCase):
             Holding(row(Phase.READY)),
             holding_with_work(PROVISION),
         ):
-            self.assertEqual(
-                status_of(lambda: held.finish(True)), Status.NOTHING_RUNNING, held
-            )
+            self.assertEqual(status_of(lambda: held.finish(True)), Status.NOTHING_RUNNING, held)
 
     def test_refused_work(self) -> None:
         """A backend refuses a Provision, and nothing else."""
         for outcome, status in ((Outcome.REFUSED_400, 400), (Outcome.REFUSED_422, 422)):
             ended = holding_with_work(PROVISION).end(Mode.SYNC, outcome)
-            self.assertEqual(
-                ended, (Holding(has_tombstone=True), Answer(status, Body.OTHER_ERROR))
-            )
+            self.assertEqual(ended, (Holding(has_tombstone=True), Answer(status, Body.OTHER_ERROR)))
             deleting = holding_with_work(DEPROVISION)
             self.assertEqual(
                 status_of(lambda: deleting.end(Mode.SYNC, outcome)),
@@ -263,15 +248,9 @@ class Holdings(unittest.TestCase):
 
     def test_first_poll(self) -> None:
         """With the rule of the first Poll, an instance is made only once it was polled."""
-        waiting, answer = Holding.NONE.begin(
-            Mode.ASYNC, request(PROVISION, ASYNC), first_poll=True
-        )
-        self.assertEqual(
-            (waiting, answer), (Holding(row(Phase.WAITING)), Answer(202, Body.EMPTY))
-        )
-        making, answer = waiting.begin(
-            Mode.ASYNC, request(POLL, ASYNC), first_poll=True
-        )
+        waiting, answer = Holding.NONE.begin(Mode.ASYNC, request(PROVISION, ASYNC), first_poll=True)
+        self.assertEqual((waiting, answer), (Holding(row(Phase.WAITING)), Answer(202, Body.EMPTY)))
+        making, answer = waiting.begin(Mode.ASYNC, request(POLL, ASYNC), first_poll=True)
         self.assertEqual(
             (making, answer),
             (Holding(row(Phase.MAKING)), Answer(200, Body.IN_PROGRESS)),
@@ -285,9 +264,7 @@ class Holdings(unittest.TestCase):
             (DEPROVISION, [Work.DELETE, Work.START_DELETING, None]),
             (POLL, [None, None, None]),
         ):
-            self.assertEqual(
-                [work_of(kind, mode) for mode in (Mode.SYNC, Mode.ASYNC, None)], works
-            )
+            self.assertEqual([work_of(kind, mode) for mode in (Mode.SYNC, Mode.ASYNC, None)], works)
 
     def test_fits(self) -> None:
         for held, sync, asynchronous, none in (

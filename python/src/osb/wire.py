@@ -257,9 +257,7 @@ def read_request(method: str, target: bytes, body: bytes, longest_body: int, pre
     fits in the order of docs/wire.md, NOT_UTF8, and ValueError if `longest_body` is below 0 or above `sys.maxsize`.
     """
     front, way, longest, asked = utf8(prefix), utf8(method), longest_to(longest_body), CAsked()
-    check(
-        lib.osb_read_request(front, len(front), longest, way, len(way), target, len(target), body, len(body), asked)
-    )
+    check(lib.osb_read_request(front, len(front), longest, way, len(way), target, len(target), body, len(body), asked))
     return asked_from(asked)
 
 
