@@ -1,0 +1,230 @@
+package api
+
+import (
+	"encoding/json"
+	"errors"
+	"net/http"
+	"net/url"
+	"strings"
+	"time"
+
+	"pippinterm/platform"
+)
+
+// A seller is a broker as it is answered: without its password, and without the path of a file with it.
+type seller struct {
+	Name string `json:"name"`
+	URL  string `json:"url"`
+	User string `json:"user"`
+	// Password says where the password is: store, file, or none.
+	Password    string          `json:"password"`
+	Settings    settings        `json:"settings"`
+	CatalogueAt *time.Time      `json:"catalogue_at,omitempty"`
+	Catalogue   json.RawMessage `json:"catalogue,omitempty"` // only of one broker
+	Reason      *said           `json:"reason,omitempty"`
+}
+
+// Settings in seconds.
+type settings struct {
+	Hold        *float64 `json:"hold_seconds,omitempty"`
+	FirstPace   *float64 `json:"first_pace_seconds,omitempty"`
+	LongestPace *float64 `json:"longest_pace_seconds,omitempty"`
+	LongestPoll *float64 `json:"longest_poll_seconds,omitempty"`
+}
+
+type newSeller struct {
+	URL      string   `json:"url"`
+	User     string   `json:"user"`
+	Password string   `json:"password"`
+	Settings settings `json:"settings"`
+}
+
+type sellers struct {
+	Items []seller `json:"items"`
+}
+
+func sellerOf(broker platform.Broker) seller {
+	s := seller{
+		Name: broker.Name, URL: broker.URL, User: broker.User, Password: "none",
+		Settings: settings{
+			secondsOf(broker.Settings.Hold), secondsOf(broker.Settings.FirstPace),
+			secondsOf(broker.Settings.LongestPace), secondsOf(broker.Settings.LongestPoll),
+		},
+		CatalogueAt: timeOf(broker.CatalogueAt), Reason: saidOf(broker.Reason),
+	}
+	switch {
+	case broker.PasswordFile != "":
+		s.Password = "file"
+	case broker.Password != nil:
+		s.Password = "store"
+	}
+	return s
+}
+
+func (a *asked) listBrokers() (answer, error) {
+	all, err := a.store.Brokers(a.Context())
+	if err != nil {
+		return answer{}, err
+	}
+	found := sellers{Items: []seller{}}
+	for _, it := range all {
+		found.Items = append(found.Items, sellerOf(it))
+	}
+	return answer{status: http.StatusOK, body: found}, nil
+}
+
+// broker is the broker that the path names, or nil.
+func (a *asked) broker() (*platform.Broker, error) {
+	all, err := a.store.Brokers(a.Context())
+	if err != nil {
+		return nil, err
+	}
+	for at := range all {
+		if all[at].Name == a.values["name"] {
+			return &all[at], nil
+		}
+	}
+	return nil, nil
+}
+
+func (a *asked) showBroker() (answer, error) {
+	broker, err := a.broker()
+	if err != nil {
+		return answer{}, err
+	}
+	if broker == nil {
+		return answer{}, newProblem(http.StatusNotFound, "not_found", "there is no broker of this name")
+	}
+	shown := sellerOf(*broker)
+	shown.Catalogue = broker.Catalogue
+	return answer{status: http.StatusOK, body: shown}, nil
+}
+
+// putBroker adds a broker, or changes one. Who changes where the password is sent has to know it: otherwise a token
+// that may write could have it sent to a server of its own.
+func (a *asked) putBroker() (answer, error) {
+	var given newSeller
+	if err := a.body(&given); err != nil {
+		return answer{}, err
+	}
+	wanted, err := given.Settings.read()
+	if err != nil {
+		return answer{}, err
+	}
+	var password []byte
+	if given.Password != "" {
+		password = []byte(given.Password)
+	}
+	before, err := a.broker()
+	if err != nil {
+		return answer{}, err
+	}
+	status, name := http.StatusOK, a.values["name"]
+	if before == nil {
+		status = http.StatusCreated
+		err = a.orders.AddBroker(a.Context(), platform.Broker{
+			Name: name, URL: given.URL, User: given.User, Settings: wanted,
+		}, password)
+	} else {
+		err = a.orders.SetBroker(a.Context(), name, func(broker *platform.Broker) error {
+			return given.change(broker, wanted)
+		}, password)
+	}
+	if err != nil {
+		return answer{}, err
+	}
+	after, err := a.broker()
+	switch {
+	case err != nil:
+		return answer{}, err
+	case after == nil:
+		return answer{}, errors.New("the broker was dropped just after it was written")
+	}
+	answered := answer{status: status, body: sellerOf(*after)}
+	if status == http.StatusCreated {
+		answered.location = brokers + "/" + url.PathEscape(name)
+	}
+	return answered, nil
+}
+
+func (s newSeller) change(broker *platform.Broker, wanted platform.Settings) error {
+	if s.Password == "" && strings.TrimRight(s.URL, "/") != broker.URL {
+		return newProblem(http.StatusBadRequest, "password_needed",
+			"the URL is another one: give the password, too, which is sent there")
+	}
+	broker.URL, broker.User, broker.Settings = s.URL, s.User, wanted
+	if s.Password != "" {
+		broker.PasswordFile = ""
+	}
+	return nil
+}
+
+func (a *asked) dropBroker() (answer, error) {
+	if err := a.orders.DropBroker(a.Context(), a.values["name"]); err != nil {
+		return answer{}, err
+	}
+	return answer{status: http.StatusNoContent}, nil
+}
+
+// mostSettingSeconds is more than any setting may be.
+const mostSettingSeconds = 1e9
+
+func (s settings) read() (platform.Settings, error) {
+	var read platform.Settings
+	for _, it := range []struct {
+		name  string
+		given *float64
+		to    **time.Duration
+	}{
+		{"hold_seconds", s.Hold, &read.Hold}, {"first_pace_seconds", s.FirstPace, &read.FirstPace},
+		{"longest_pace_seconds", s.LongestPace, &read.LongestPace},
+		{"longest_poll_seconds", s.LongestPoll, &read.LongestPoll},
+	} {
+		if it.given == nil {
+			continue
+		}
+		if *it.given < 0 || *it.given > mostSettingSeconds {
+			return read, newProblem(http.StatusBadRequest, "invalid", it.name+" is between 0 and a year")
+		}
+		duration := time.Duration(*it.given * float64(time.Second)).Round(time.Millisecond)
+		*it.to = &duration
+	}
+	return read, nil
+}
+
+func secondsOf(duration *time.Duration) *float64 {
+	if duration == nil {
+		return nil
+	}
+	seconds := duration.Seconds()
+	return &seconds
+}
+
+// A count as it is answered.
+type count struct {
+	Broker string         `json:"broker"`
+	Kind   string         `json:"kind"` // instance or binding
+	State  platform.State `json:"state"`
+	Count  int            `json:"count"`
+	Oldest time.Time      `json:"oldest"`
+}
+
+type counted struct {
+	Counts []count `json:"counts"`
+}
+
+func (a *asked) counts() (answer, error) {
+	counts, err := a.store.Counts(a.Context())
+	if err != nil {
+		return answer{}, err
+	}
+	found := counted{Counts: []count{}}
+	for _, it := range counts {
+		kind := "instance"
+		if it.IsBinding {
+			kind = "binding"
+		}
+		found.Counts = append(found.Counts, count{it.Broker, kind, it.State, it.Count, it.Oldest.UTC()})
+	}
+	return answer{status: http.StatusOK, body: found}, nil
+}

@@ -1,0 +1,140 @@
+package api
+
+import (
+	"encoding/json"
+	"time"
+
+	"pippinterm/osb"
+	"pippinterm/platform"
+)
+
+// A row as it is answered. What the order was sent with may be secret, and isn't answered: parameters, context, the
+// originating identity.
+type row struct {
+	ID         string `json:"id"`
+	Number     osb.ID `json:"number"`
+	InstanceID string `json:"instance_id,omitempty"` // of a binding
+
+	Broker       string `json:"broker"`
+	ServiceID    string `json:"service_id"`
+	PlanID       string `json:"plan_id"`
+	Organization string `json:"organization_guid"`
+	Space        string `json:"space_guid"`
+
+	State   platform.State `json:"state"`
+	Since   time.Time      `json:"since"`
+	Removal string         `json:"removal"`
+	Due     *time.Time     `json:"due,omitempty"`
+
+	Operation   *string    `json:"operation,omitempty"`
+	PolledSince *time.Time `json:"polled_since,omitempty"`
+	Unchanged   int        `json:"unchanged_requests"`
+	InFlight    *flight    `json:"in_flight,omitempty"`
+
+	Try     int    `json:"try"`
+	Tries   int    `json:"tries"`
+	First   osb.ID `json:"first"`
+	Last    *said  `json:"last,omitempty"`
+	Failure *said  `json:"failure,omitempty"`
+
+	Dashboard string          `json:"dashboard_url,omitempty"`
+	Metadata  json.RawMessage `json:"metadata,omitempty"`
+	Because   string          `json:"because,omitempty"`
+	Life      []stay          `json:"life,omitempty"`
+}
+
+// A flight is the request in flight, and who has it.
+type flight struct {
+	Kind    string     `json:"kind"`
+	Attempt uint64     `json:"attempt"`
+	Worker  string     `json:"worker,omitempty"`
+	Until   *time.Time `json:"until,omitempty"`
+}
+
+// What was said is a platform.Reason.
+type said struct {
+	At          time.Time `json:"at"`
+	Kind        string    `json:"kind"`
+	Status      int       `json:"status,omitempty"`
+	Error       string    `json:"error,omitempty"`
+	Description string    `json:"description,omitempty"`
+	Lost        string    `json:"lost,omitempty"`
+}
+
+type stay struct {
+	State platform.State `json:"state"`
+	Since time.Time      `json:"since"`
+}
+
+var removals = map[platform.Removal]string{
+	platform.NotRemoved: "none", platform.Removed: "removed", platform.RemovedWhole: "removed_with_bindings",
+}
+
+// rowOf is a row as it is answered, without its life.
+func rowOf(e platform.Entry) row {
+	r := row{
+		ID: e.Names.Instance, Number: e.Key.ID(),
+		Broker: e.Broker, ServiceID: e.Names.Service, PlanID: e.Names.Plan,
+		Organization: e.Organization, Space: e.Space,
+		State: e.State, Since: e.Since.UTC(), Removal: removals[e.Removal], Due: timeOf(e.Due),
+		Operation: e.Operation, PolledSince: timeOf(e.PolledSince), Unchanged: e.Unchanged, InFlight: flightOf(e),
+		Try: e.Try, Tries: e.Tries, First: e.First, Last: saidOf(e.Last), Failure: saidOf(e.Failure),
+		Dashboard: e.Dashboard, Metadata: e.Metadata, Because: e.Because,
+	}
+	if e.Key.IsBinding {
+		r.ID, r.InstanceID = e.Names.Binding, e.Names.Instance
+	}
+	return r
+}
+
+// withLife is a row with its life: the states that have ended, and the one that it is in.
+func withLife(e platform.Entry, ended []platform.Stay) row {
+	r := rowOf(e)
+	for _, it := range ended {
+		r.Life = append(r.Life, stay{it.State, it.Since.UTC()})
+	}
+	r.Life = append(r.Life, stay{e.State, e.Since.UTC()})
+	return r
+}
+
+var (
+	kinds = map[osb.Kind]string{
+		osb.KindProvision: "provision", osb.KindPoll: "poll", osb.KindDeprovision: "deprovision",
+	}
+	kindsOfBindings = map[osb.Kind]string{
+		osb.KindProvision: "bind", osb.KindPoll: "poll", osb.KindDeprovision: "unbind",
+	}
+)
+
+func flightOf(e platform.Entry) *flight {
+	if !e.IsSent || e.Record.InFlight() == osb.KindNone {
+		return nil
+	}
+	names := kinds
+	if e.Key.IsBinding {
+		names = kindsOfBindings
+	}
+	return &flight{
+		Kind: names[e.Record.InFlight()], Attempt: e.Record.Attempt(), Worker: e.Lease.Worker,
+		Until: timeOf(e.Lease.Until),
+	}
+}
+
+func saidOf(reason platform.Reason) *said {
+	if reason == (platform.Reason{}) {
+		return nil
+	}
+	return &said{
+		At: reason.At.UTC(), Kind: reason.Kind, Status: reason.Status, Error: reason.Error,
+		Description: reason.Description, Lost: reason.Lost,
+	}
+}
+
+// timeOf is a time, or nil for none.
+func timeOf(at time.Time) *time.Time {
+	if at.IsZero() {
+		return nil
+	}
+	at = at.UTC()
+	return &at
+}

@@ -1,0 +1,593 @@
+package client
+
+import (
+	"context"
+	"errors"
+	"io"
+	"net"
+	"net/http"
+	"strings"
+	"sync"
+	"sync/atomic"
+	"testing"
+	"time"
+
+	"pippinterm/osb"
+	"pippinterm/platform"
+)
+
+// A fakeClock stands until it is set on.
+type fakeClock struct{ passed int64 }
+
+func (f *fakeClock) now() time.Time {
+	return time.Unix(1000, 0).Add(time.Duration(atomic.LoadInt64(&f.passed)))
+}
+
+func (f *fakeClock) pass(by time.Duration) { atomic.AddInt64(&f.passed, int64(by)) }
+
+// A listened server takes whatever comes, and never answers.
+type listened struct {
+	url  string
+	came chan []byte // all that came on each connection, once that has ended
+}
+
+func swallow(t *testing.T) *listened {
+	t.Helper()
+	listener := listen(t)
+	s := &listened{url: listener.Addr().String(), came: make(chan []byte, 9)}
+	go func() {
+		for {
+			conn, err := listener.Accept()
+			if err != nil {
+				return
+			}
+			all, _ := io.ReadAll(conn)
+			conn.Close()
+			s.came <- all
+		}
+	}()
+	return s
+}
+
+// wait returns what came on the next connection that ends.
+func (s *listened) wait(t *testing.T) []byte {
+	t.Helper()
+	return next(t, s.came)
+}
+
+// A process that is paused between connecting and writing, until its time is over, sends not one byte: neither of the
+// request, nor of TLS.
+func TestPausedBeforeWriting(t *testing.T) {
+	for _, scheme := range []string{"http://", "https://"} {
+		server, clock := swallow(t), &fakeClock{}
+		c := newClient(t, Options{})
+		c.now = clock.now
+		dial := c.dial
+		c.dial = func(ctx context.Context, network, address string) (net.Conn, error) {
+			conn, err := dial(ctx, network, address)
+			clock.pass(patience) // exactly until its time is over
+			return conn, err
+		}
+		in := exchange(t, c, scheme+server.url, osb.KindProvision)
+		if !errors.Is(in.Lost, ErrNotSent) || !errors.Is(in.Lost, ErrTimeOver) {
+			t.Errorf("%s: %v", scheme, in.Lost)
+		}
+		if came := server.wait(t); len(came) > 0 {
+			t.Errorf("%s: %d bytes came", scheme, len(came))
+		}
+	}
+}
+
+// A process that is paused on the way sends no further byte, so no whole request comes.
+func TestPausedInWriting(t *testing.T) {
+	server, clock := swallow(t), &fakeClock{}
+	c := newClient(t, Options{})
+	reads := 0
+	c.now = func() time.Time { // the clock is read at the start, and then before each piece
+		if reads++; reads == 4 {
+			clock.pass(patience)
+		}
+		return clock.now()
+	}
+	out := ordered(c, "http://"+server.url, osb.KindProvision, ofInstance)
+	out.Entry.Body = []byte(`{"parameters":{"long":"` + strings.Repeat("x", 9<<14) + `"}}`)
+	in := c.Exchange(context.Background(), out)
+	if !errors.Is(in.Lost, ErrTimeOver) || errors.Is(in.Lost, ErrNotSent) {
+		t.Error(in.Lost)
+	}
+	if came := server.wait(t); len(came) == 0 || len(came) > 3<<14 {
+		t.Errorf("%d bytes came", len(came))
+	}
+}
+
+// An answer that comes when the time is over isn't taken, whatever the timers say: they stand still while the machine
+// is suspended.
+func TestSuspendedBeforeTheAnswer(t *testing.T) {
+	clock := &fakeClock{}
+	server := serve(t, func(n int, r *http.Request, conn net.Conn) bool {
+		clock.pass(patience)
+		return returning("201 Created", "{}")(n, r, conn)
+	})
+	c := newClient(t, Options{})
+	c.now = clock.now
+	in := exchange(t, c, server.url, osb.KindProvision)
+	if !errors.Is(in.Lost, ErrTimeOver) || errors.Is(in.Lost, ErrNotSent) || in.Answer != (osb.Answer{}) {
+		t.Errorf("%+v", in)
+	}
+}
+
+// The whole exchange has one limit on its time, however its parts are shared out.
+func TestSlow(t *testing.T) {
+	drip := func(text string) answering {
+		return func(_ int, _ *http.Request, conn net.Conn) bool {
+			for at := range text {
+				if _, err := io.WriteString(conn, text[at:at+1]); err != nil {
+					return false
+				}
+				time.Sleep(20 * time.Millisecond)
+			}
+			return false
+		}
+	}
+	for what, answer := range map[string]answering{
+		"nothing": func(_ int, _ *http.Request, conn net.Conn) bool {
+			_, _ = io.Copy(io.Discard, conn)
+			return false
+		},
+		"a slow head": drip("HTTP/1.1 201 Created\r\nX: " + strings.Repeat("x", 999)),
+		"a slow body": drip(text("201 Created", strings.Repeat(" ", 999), "")),
+	} {
+		server := serve(t, answer)
+		c := newClient(t, Options{})
+		out := ordered(c, server.url, osb.KindProvision, ofInstance)
+		out.Until = c.Clock().Add(300 * time.Millisecond)
+		in := c.Exchange(context.Background(), out)
+		if !errors.Is(in.Lost, ErrTimeOver) || c.Clock().Before(out.Until) || in.Duration > patience/2 {
+			t.Errorf("%s: %v after %v", what, in.Lost, in.Duration)
+		}
+	}
+}
+
+// A server that takes no connection, and one that accepts it and says nothing in TLS.
+func TestUnreached(t *testing.T) {
+	closed := listen(t)
+	closed.Close()
+	silent := swallow(t)
+	c := newClient(t, Options{})
+	for _, url := range []string{"http://" + closed.Addr().String(), "https://" + silent.url} {
+		out := ordered(c, url, osb.KindProvision, ofInstance)
+		out.Until = c.Clock().Add(300 * time.Millisecond)
+		in := c.Exchange(context.Background(), out)
+		if !errors.Is(in.Lost, ErrNotSent) || in.Duration > patience/2 {
+			t.Errorf("%s: %v after %v", url, in.Lost, in.Duration)
+		}
+	}
+}
+
+// A cancelled exchange ends, and its answer is lost.
+func TestCancelled(t *testing.T) {
+	ctx, cancel := context.WithCancel(context.Background())
+	server := serve(t, func(_ int, _ *http.Request, conn net.Conn) bool {
+		cancel()
+		_, _ = io.Copy(io.Discard, conn)
+		return false
+	})
+	c := newClient(t, Options{})
+	in := c.Exchange(ctx, ordered(c, server.url, osb.KindProvision, ofInstance))
+	if !errors.Is(in.Lost, context.Canceled) || errors.Is(in.Lost, ErrNotSent) || in.Duration > patience/2 {
+		t.Errorf("%+v", in)
+	}
+	in = c.Exchange(ctx, ordered(c, server.url, osb.KindProvision, ofInstance))
+	if !errors.Is(in.Lost, context.Canceled) || !errors.Is(in.Lost, ErrNotSent) {
+		t.Errorf("%+v", in)
+	}
+}
+
+// patient is a client whose connections wait for longer than a test takes.
+func patient(t *testing.T) *Client {
+	t.Helper()
+	c := newClient(t, Options{})
+	c.idle = patience
+	return c
+}
+
+// hasQuiet returns whether a connection waits, and nothing has come on it.
+func hasQuiet(c *Client) bool {
+	c.mutex.Lock()
+	defer c.mutex.Unlock()
+	for _, b := range c.brokers {
+		b.mutex.Lock()
+		defer b.mutex.Unlock()
+		for _, it := range b.idle {
+			if it.isQuiet() {
+				return true
+			}
+		}
+	}
+	return false
+}
+
+// The same on a connection that was kept.
+func TestPausedOnAKeptConnection(t *testing.T) {
+	server, clock, reads := serve(t, returning("200 OK", "{}")), &fakeClock{}, -100
+	c := patient(t)
+	c.now = func() time.Time {
+		if reads++; reads == 4 { // Until is made, it is looked at, a connection is taken, and now it is written to
+			clock.pass(patience)
+		}
+		return clock.now()
+	}
+	for range [2]int{} {
+		if in := exchange(t, c, server.url, osb.KindDeprovision); in.Lost != nil {
+			t.Fatal(in.Lost)
+		}
+	}
+	if !hasQuiet(c) {
+		t.Fatal("no connection was kept")
+	}
+	reads = 0
+	in := exchange(t, c, server.url, osb.KindProvision)
+	if !errors.Is(in.Lost, ErrNotSent) || !errors.Is(in.Lost, ErrTimeOver) {
+		t.Errorf("%+v", in)
+	}
+	if requests, connections := server.seen(); len(requests) != 2 || connections != 2 {
+		t.Errorf("%d requests on %d connections", len(requests), connections)
+	}
+}
+
+// Nothing is sent for one that is cancelled before it begins, on a connection that was kept either.
+func TestCancelledBefore(t *testing.T) {
+	server, c := serve(t, returning("200 OK", "{}")), patient(t)
+	for range [2]int{} {
+		if in := exchange(t, c, server.url, osb.KindDeprovision); in.Lost != nil {
+			t.Fatal(in.Lost)
+		}
+	}
+	ctx, cancel := context.WithCancel(context.Background())
+	cancel()
+	for range [20]int{} {
+		in := c.Exchange(ctx, ordered(c, server.url, osb.KindProvision, ofInstance))
+		if !errors.Is(in.Lost, context.Canceled) || !errors.Is(in.Lost, ErrNotSent) {
+			t.Errorf("%+v", in)
+		}
+	}
+	if requests, _ := server.seen(); len(requests) != 2 {
+		t.Errorf("%d requests", len(requests))
+	}
+}
+
+var kinds = []osb.Kind{osb.KindProvision, osb.KindPoll, osb.KindDeprovision}
+
+// A request is written once, on a new connection as on one that was kept, however that ends.
+func TestNoSecondTry(t *testing.T) {
+	for _, kind := range kinds {
+		for what, end := range map[string]func(conn *net.TCPConn){
+			"closed":       func(*net.TCPConn) {},
+			"reset":        func(conn *net.TCPConn) { _ = conn.SetLinger(0) },
+			"a cut answer": func(conn *net.TCPConn) { _, _ = io.WriteString(conn, "HTTP/1.1 201 Cre") },
+			"no time": func(conn *net.TCPConn) {
+				_, _ = io.WriteString(conn, text("408 Request Timeout", "", ""))
+			},
+		} {
+			end := end
+			server := serve(t, func(n int, r *http.Request, conn net.Conn) bool {
+				if n <= 2 { // the first one isn't kept: nobody knows yet whether the broker returns identities
+					return returning("200 OK", "{}")(n, r, conn)
+				}
+				end(conn.(*net.TCPConn))
+				return false
+			})
+			c := patient(t)
+			for range [2]int{} {
+				if in := exchange(t, c, server.url, osb.KindDeprovision); in.Lost != nil {
+					t.Fatal(in.Lost)
+				}
+			}
+			in := exchange(t, c, server.url, kind)
+			if in.Lost == nil || errors.Is(in.Lost, ErrNotSent) {
+				t.Errorf("%v, %s: %+v", kind, what, in)
+			}
+			if requests, connections := server.seen(); len(requests) != 3 || connections != 2 {
+				t.Errorf("%v, %s: %d requests on %d connections", kind, what, len(requests), connections)
+			}
+		}
+	}
+}
+
+// A connection is kept while the broker returns the identity of each request, and only then.
+func TestKept(t *testing.T) {
+	for what, row := range map[string]struct {
+		answer      func(n int, id string) string
+		connections int
+	}{
+		"returned":       {func(_ int, id string) string { return text("200 OK", "{}", id) }, 2},
+		"never returned": {func(int, string) string { return text("200 OK", "{}", "") }, 6},
+		"the broker closes": {
+			func(_ int, id string) string { return text("200 OK", "{}", id, "Connection: close") }, 6,
+		},
+		"HTTP/1.0": {
+			func(_ int, id string) string {
+				return strings.Replace(text("200 OK", "{}", id), "HTTP/1.1", "HTTP/1.0", 1)
+			}, 6,
+		},
+	} {
+		row := row
+		server := serve(t, func(n int, r *http.Request, conn net.Conn) bool {
+			_, err := io.WriteString(conn, row.answer(n, r.Header.Get(osb.RequestIdentityHeader)))
+			return err == nil
+		})
+		c := patient(t)
+		for range [6]int{} {
+			if in := exchange(t, c, server.url, osb.KindDeprovision); in.Lost != nil {
+				t.Errorf("%s: %v", what, in.Lost)
+			}
+		}
+		requests, connections := server.seen()
+		if len(requests) != 6 || connections != row.connections {
+			t.Errorf("%s: %d requests on %d connections, want %d", what, len(requests), connections, row.connections)
+		}
+	}
+}
+
+// On a connection that was kept, an answer without the identity of its request isn't taken: it may be of an earlier
+// one.
+func TestKeptWithoutIdentity(t *testing.T) {
+	server := serve(t, func(n int, r *http.Request, conn net.Conn) bool {
+		if n != 3 {
+			return returning("200 OK", "{}")(n, r, conn)
+		}
+		_, err := io.WriteString(conn, text("410 Gone", "{}", "", "Retry-After: 7"))
+		return err == nil
+	})
+	c := patient(t)
+	for n := 1; n <= 5; n++ {
+		in := exchange(t, c, server.url, osb.KindDeprovision)
+		if n != 3 && in.Lost != nil || n == 3 && !errors.Is(in.Lost, ErrOtherRequest) {
+			t.Errorf("request %d: %+v", n, in)
+		}
+		if n == 3 && (in.Answer != (osb.Answer{}) || in.Status != 410 || in.RetryAfter != 7*time.Second) {
+			t.Errorf("request %d: %+v", n, in)
+		}
+	}
+	if requests, connections := server.seen(); len(requests) != 5 || connections != 4 {
+		t.Errorf("%d requests on %d connections", len(requests), connections)
+	}
+}
+
+// What comes after an answer is never taken for the answer to the next request, whether it comes at once or later.
+func TestAnsweredTwice(t *testing.T) {
+	for what, isLate := range map[string]bool{"at once": false, "before the next request": true} {
+		isLate, goOn, came := isLate, make(chan bool, 9), make(chan bool, 9)
+		server := serve(t, func(n int, r *http.Request, conn net.Conn) bool {
+			id := r.Header.Get(osb.RequestIdentityHeader)
+			answer, second := text("200 OK", "{}", id), text("410 Gone", "{}", id)
+			if n != 2 {
+				_, err := io.WriteString(conn, answer)
+				return err == nil
+			}
+			if isLate {
+				_, _ = io.WriteString(conn, answer)
+				<-goOn
+				_, _ = io.WriteString(conn, second)
+			} else {
+				_, _ = io.WriteString(conn, answer+second)
+			}
+			came <- true
+			return true
+		})
+		c := patient(t)
+		for n := 1; n <= 4; n++ {
+			in := exchange(t, c, server.url, osb.KindDeprovision)
+			if in.Lost != nil || in.Status != 200 {
+				t.Errorf("%s: request %d: %+v", what, n, in)
+			}
+			if n == 2 {
+				goOn <- true
+				next(t, came)
+				until(t, what, func() bool { return !hasQuiet(c) })
+			}
+		}
+		if _, connections := server.seen(); connections != 3 {
+			t.Errorf("%s: %d connections", what, connections)
+		}
+	}
+}
+
+// A second answer that comes while the next request is in flight is lost, and its status counts for nothing.
+func TestAnsweredTwiceLate(t *testing.T) {
+	var first string
+	server := serve(t, func(n int, r *http.Request, conn net.Conn) bool {
+		if n == 2 {
+			first = r.Header.Get(osb.RequestIdentityHeader)
+		}
+		if n != 3 {
+			return returning("200 OK", "{}")(n, r, conn)
+		}
+		_, _ = io.WriteString(conn, text("410 Gone", "{}", first)) // of the request before
+		return returning("200 OK", "{}")(n, r, conn)
+	})
+	c := patient(t)
+	for n := 1; n <= 4; n++ {
+		in := exchange(t, c, server.url, osb.KindDeprovision)
+		if n == 3 && (!errors.Is(in.Lost, ErrOtherRequest) || in.Status != 0) || n != 3 && in.Lost != nil {
+			t.Errorf("request %d: %+v", n, in)
+		}
+	}
+}
+
+// A connection that the broker has closed while it waited isn't used.
+func TestClosedWhileIdle(t *testing.T) {
+	closed := make(chan bool, 9)
+	server := serve(t, func(n int, r *http.Request, conn net.Conn) bool {
+		returning("200 OK", "{}")(n, r, conn)
+		conn.Close()
+		closed <- true
+		return false
+	})
+	c := patient(t)
+	for n := 1; n <= 5; n++ {
+		if in := exchange(t, c, server.url, osb.KindProvision); in.Lost != nil {
+			t.Errorf("request %d: %v", n, in.Lost)
+		}
+		next(t, closed)
+		until(t, "the end of the connection", func() bool { return !hasQuiet(c) })
+	}
+}
+
+// A connection that waits is closed after a while, and at Close.
+func TestIdle(t *testing.T) {
+	for what, end := range map[string]func(*Client){"after a while": func(*Client) {}, "closed": (*Client).Close} {
+		var open int32
+		listener := listen(t)
+		go func() {
+			_ = http.Serve(counted{listener, &open}, http.HandlerFunc(func(w http.ResponseWriter, r *http.Request) {
+				w.Header().Set(osb.RequestIdentityHeader, r.Header.Get(osb.RequestIdentityHeader))
+				_, _ = io.WriteString(w, "{}")
+			}))
+		}()
+		c := newClient(t, Options{})
+		for range [2]int{} {
+			if in := exchange(t, c, "http://"+listener.Addr().String(), osb.KindDeprovision); in.Lost != nil {
+				t.Fatal(in.Lost)
+			}
+		}
+		end(c)
+		until(t, what, func() bool { return atomic.LoadInt32(&open) == 0 })
+		if in := exchange(t, c, "http://"+listener.Addr().String(), osb.KindDeprovision); in.Lost != nil {
+			t.Error(in.Lost)
+		}
+		end(c)
+		until(t, what, func() bool { return atomic.LoadInt32(&open) == 0 })
+	}
+}
+
+// counted counts the connections that are open.
+type counted struct {
+	net.Listener
+	open *int32
+}
+
+func (c counted) Accept() (net.Conn, error) {
+	conn, err := c.Listener.Accept()
+	if err == nil {
+		atomic.AddInt32(c.open, 1)
+		conn = &countedConn{Conn: conn, open: c.open}
+	}
+	return conn, err
+}
+
+type countedConn struct {
+	net.Conn
+	once sync.Once
+	open *int32
+}
+
+func (c *countedConn) Close() error {
+	c.once.Do(func() { atomic.AddInt32(c.open, -1) })
+	return c.Conn.Close()
+}
+
+// There are as many connections to a broker as the option says, and a request that finds none in time isn't sent.
+func TestConnections(t *testing.T) {
+	arrived, goOn := make(chan bool, 9), make(chan bool)
+	server := serve(t, func(n int, r *http.Request, conn net.Conn) bool {
+		arrived <- true
+		<-goOn
+		return returning("200 OK", "{}")(n, r, conn)
+	})
+	c := newClient(t, Options{Connections: 2})
+	var group sync.WaitGroup
+	for range [2]int{} {
+		group.Add(1)
+		go func() {
+			defer group.Done()
+			if in := exchange(t, c, server.url, osb.KindDeprovision); in.Lost != nil {
+				t.Error(in.Lost)
+			}
+		}()
+	}
+	next(t, arrived)
+	next(t, arrived)
+	out := ordered(c, server.url, osb.KindDeprovision, ofInstance)
+	out.Until = c.Clock().Add(100 * time.Millisecond)
+	if in := c.Exchange(context.Background(), out); !errors.Is(in.Lost, ErrNotSent) {
+		t.Errorf("%+v", in)
+	}
+	other := ordered(c, server.url, osb.KindDeprovision, ofInstance)
+	other.Broker.Name = "another"
+	group.Add(1)
+	go func() {
+		defer group.Done()
+		if in := c.Exchange(context.Background(), other); in.Lost != nil {
+			t.Error(in.Lost)
+		}
+	}()
+	next(t, arrived)
+	close(goOn)
+	group.Wait()
+	if requests, connections := server.seen(); len(requests) != 3 || connections != 3 {
+		t.Errorf("%d requests on %d connections", len(requests), connections)
+	}
+}
+
+// Many goroutines use a client, and each gets the answer to its own request.
+func TestTogether(t *testing.T) {
+	server := serve(t, func(n int, r *http.Request, conn net.Conn) bool {
+		id := r.Header.Get(osb.RequestIdentityHeader)
+		_, err := io.WriteString(conn, text("200 OK", `{"description":"`+id+`"}`, id))
+		return err == nil
+	})
+	c := newClient(t, Options{Connections: 4})
+	var group sync.WaitGroup
+	for range [8]int{} {
+		group.Add(1)
+		go func() {
+			defer group.Done()
+			for range [50]int{} {
+				out := ordered(c, server.url, osb.KindDeprovision, ofInstance)
+				in := c.Exchange(context.Background(), out)
+				if in.Lost != nil || in.Details.Description == nil || *in.Details.Description != out.RequestID {
+					t.Errorf("%+v", in)
+				}
+			}
+		}()
+	}
+	group.Wait()
+	if requests, _ := server.seen(); len(requests) != 400 {
+		t.Errorf("%d requests", len(requests))
+	}
+}
+
+// The clock goes on, and is that of the machine.
+func TestClock(t *testing.T) {
+	c := newClient(t, Options{})
+	before, start := c.Clock(), time.Now()
+	time.Sleep(10 * time.Millisecond)
+	passed, whole := c.Clock().Sub(before), time.Since(start)
+	if passed < 10*time.Millisecond || passed > whole {
+		t.Errorf("%v in %v", passed, whole)
+	}
+	other := sinceStart()
+	if first := other(); other().Before(first) {
+		t.Error("it goes back")
+	}
+}
+
+// What a client can't be made of.
+func TestNew(t *testing.T) {
+	password := func(platform.Broker) (string, error) { return "", nil }
+	for what, options := range map[string]Options{
+		"no password":           {},
+		"a length below 0":      {Password: password, LongestAnswer: -1},
+		"connections below 0":   {Password: password, Connections: -1},
+		"a time below 0":        {Password: password, CatalogueTime: -1},
+		"no such file":          {Password: password, TLS: Files{Authorities: "nowhere"}},
+		"a certificate alone":   {Password: password, TLS: Files{Certificate: "somewhere"}},
+		"a key alone":           {Password: password, TLS: Files{Key: "somewhere"}},
+		"a certificate nowhere": {Password: password, TLS: Files{Certificate: "nowhere", Key: "nowhere"}},
+	} {
+		if _, err := New(options); err == nil {
+			t.Errorf("%s: it was made", what)
+		}
+	}
+}

@@ -1,0 +1,162 @@
+package client
+
+import (
+	"context"
+	"os"
+	"path/filepath"
+	"strings"
+	"testing"
+	"time"
+
+	"pippinterm/platform"
+	"pippinterm/platform/sqlite"
+	"pippinterm/platform/vault"
+)
+
+// A sealed password is opened under the name of its broker, and under no other.
+func TestSealedPassword(t *testing.T) {
+	safe, err := vault.New([]byte(strings.Repeat("k", vault.ShortestKey)))
+	if err != nil {
+		t.Fatal(err)
+	}
+	sealed, err := safe.Seal([]byte(secret), platform.PasswordContext("postgres"))
+	if err != nil {
+		t.Fatal(err)
+	}
+	passwords := NewPasswords(safe, nil)
+	broker := platform.Broker{Name: "postgres", User: "platform", Password: sealed, PasswordFile: "nowhere"}
+	if got, err := passwords.Of(broker); got != secret || err != nil {
+		t.Errorf("%q, %v", got, err)
+	}
+	broker.Name = "another"
+	if got, err := passwords.Of(broker); err == nil || got != "" {
+		t.Errorf("%q", got)
+	}
+	if got, err := NewPasswords(nil, nil).Of(broker); err == nil || got != "" {
+		t.Errorf("%q", got)
+	}
+	if got, err := passwords.Of(platform.Broker{Name: "postgres"}); err == nil || got != "" {
+		t.Errorf("%q", got)
+	}
+}
+
+// What platform.Orders seals is opened here.
+func TestPasswordOfOrders(t *testing.T) {
+	safe, err := vault.New([]byte(strings.Repeat("k", vault.ShortestKey)))
+	if err != nil {
+		t.Fatal(err)
+	}
+	ctx := context.Background()
+	store, err := sqlite.Open(ctx, filepath.Join(t.TempDir(), "store"))
+	if err != nil {
+		t.Fatal(err)
+	}
+	defer store.Close()
+	orders := platform.NewOrders(store, safe)
+	shop := platform.Broker{Name: "shop", URL: "https://shop.example", User: "platform"}
+	if err := orders.AddBroker(ctx, shop, []byte(secret)); err != nil {
+		t.Fatal(err)
+	}
+	for _, want := range []string{secret, "another"} {
+		brokers, err := store.Brokers(ctx)
+		if err != nil || len(brokers) != 1 {
+			t.Fatalf("%v, %v", brokers, err)
+		}
+		if got, err := NewPasswords(safe, nil).Of(brokers[0]); got != want || err != nil {
+			t.Errorf("%q, %v", got, err)
+		}
+		nothing := func(*platform.Broker) error { return nil }
+		if err := orders.SetBroker(ctx, "shop", nothing, []byte("another")); err != nil {
+			t.Fatal(err)
+		}
+	}
+}
+
+// A file is read again when it changes, however soon. If it can't be read any more, what it had counts.
+func TestPasswordFile(t *testing.T) {
+	name := filepath.Join(t.TempDir(), "password")
+	var warnings []string
+	passwords := NewPasswords(nil, func(it string) { warnings = append(warnings, it) })
+	broker := platform.Broker{Name: "postgres", User: "platform", PasswordFile: name}
+	if got, err := passwords.Of(broker); !os.IsNotExist(err) || got != "" {
+		t.Errorf("%q, %v", got, err)
+	}
+	put := func(text string) func() error {
+		return func() error { return os.WriteFile(name, []byte(text), 0o600) }
+	}
+	for _, step := range []struct {
+		what, wanted string
+		do           func() error
+		warnings     int
+	}{
+		{"written", "one", put("one\n"), 0},
+		{"written again, in as many bytes", "two", put("two\n"), 0},
+		{"the same", "two", func() error { return nil }, 0},
+		{"empty, while it is replaced", "two", func() error { return os.Truncate(name, 0) }, 1},
+		{"still empty", "two", func() error { return nil }, 1},
+		{"replaced", "three", func() error {
+			if err := os.WriteFile(name+".new", []byte("three"), 0o600); err != nil {
+				return err
+			}
+			return os.Rename(name+".new", name)
+		}, 1},
+		{"removed", "three", func() error { return os.Remove(name) }, 2},
+		{"two lines", "three", put("four\nfive\n"), 3},
+		{"readable by all", "four", func() error {
+			if err := os.WriteFile(name, []byte("four"), 0o600); err != nil {
+				return err
+			}
+			return os.Chmod(name, 0o644)
+		}, 4},
+		{"still readable by all", "four", func() error { return nil }, 4},
+	} {
+		if err := step.do(); err != nil {
+			t.Fatal(err)
+		}
+		if got, err := passwords.Of(broker); got != step.wanted || err != nil {
+			t.Errorf("%s: %q, %v; want %q", step.what, got, err, step.wanted)
+		}
+		if len(warnings) != step.warnings {
+			t.Errorf("%s: %q", step.what, warnings)
+		}
+	}
+	for _, it := range warnings {
+		if strings.Contains(it, "four") || strings.Contains(it, "three") {
+			t.Errorf("a warning has a password: %s", it)
+		}
+	}
+}
+
+// A file that hasn't changed for a while isn't read for each request, and is read again once it changes.
+func TestSettledPasswordFile(t *testing.T) {
+	name := filepath.Join(t.TempDir(), "password")
+	passwords := NewPasswords(nil, nil)
+	put := func(text string, changed time.Time) {
+		t.Helper()
+		if err := os.WriteFile(name, []byte(text), 0o600); err != nil {
+			t.Fatal(err)
+		}
+		if err := os.Chtimes(name, changed, changed); err != nil {
+			t.Fatal(err)
+		}
+	}
+	hour, soon := time.Now().Add(-time.Hour), time.Now().Add(time.Minute)
+	for _, row := range []struct {
+		text    string
+		changed time.Time
+		wanted  string
+	}{
+		{"one", hour, "one"},
+		{"two", hour, "one"}, // nothing of the file tells that it has changed, so it wasn't read
+		{"two", hour.Add(time.Nanosecond), "two"},
+		{"three", hour.Add(time.Nanosecond), "three"}, // its length tells
+		{"four", soon, "four"},
+		{"five", soon, "five"}, // it may have changed since, within what the time of change tells apart
+	} {
+		put(row.text, row.changed)
+		got, err := passwords.Of(platform.Broker{Name: "postgres", PasswordFile: name})
+		if got != row.wanted || err != nil {
+			t.Errorf("%s: %q, %v", row.text, got, err)
+		}
+	}
+}

@@ -1,0 +1,6 @@
+//go:build !crashpoints
+
+package platform
+
+// setHook does nothing: there are no crash points.
+func setHook(func(string)) {}

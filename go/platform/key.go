@@ -1,0 +1,60 @@
+package platform
+
+import (
+	"fmt"
+	"strings"
+
+	"pippinterm/osb"
+)
+
+// A Key names a row: that of an instance, or that of a binding of an instance (docs/binding.md). A Store has rows of
+// many brokers, and uses each Key once.
+type Key struct {
+	Instance  osb.ID
+	Binding   osb.ID // the zero ID for an instance
+	IsBinding bool
+}
+
+// InstanceKey is the key of an instance.
+func InstanceKey(instance osb.ID) Key { return Key{Instance: instance} }
+
+// BindingKey is the key of a binding of an instance.
+func BindingKey(instance, binding osb.ID) Key {
+	return Key{Instance: instance, Binding: binding, IsBinding: true}
+}
+
+// ID is the number that stands in the requests of the key: that of the instance, or of the binding.
+func (k Key) ID() osb.ID {
+	if k.IsBinding {
+		return k.Binding
+	}
+	return k.Instance
+}
+
+// String is the number of the instance as a GUID, and of a binding that of its instance, a slash, and its own.
+func (k Key) String() string {
+	if k.IsBinding {
+		return k.Instance.String() + "/" + k.Binding.String()
+	}
+	return k.Instance.String()
+}
+
+// ParseKey reads a key as an operator writes it: the id of an instance, or that of an instance, a slash, and that of a
+// binding. Each id is any text of 1 to 255 bytes of UTF-8 without a slash.
+//
+// Errors: those of osb.IDOfText.
+func ParseKey(text string) (Key, error) {
+	first, second, isBinding := strings.Cut(text, "/")
+	instance, err := osb.IDOfText(first)
+	if err != nil {
+		return Key{}, fmt.Errorf("the id %q: %w", first, err)
+	}
+	if !isBinding {
+		return InstanceKey(instance), nil
+	}
+	binding, err := osb.IDOfText(second)
+	if err != nil {
+		return Key{}, fmt.Errorf("the id %q: %w", second, err)
+	}
+	return BindingKey(instance, binding), nil
+}

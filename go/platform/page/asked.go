@@ -1,0 +1,186 @@
+package page
+
+import (
+	"errors"
+	"net/url"
+	"strconv"
+	"strings"
+	"time"
+
+	"pippinterm/osb"
+	"pippinterm/platform"
+)
+
+// errNoPage reports that a target names no page.
+var errNoPage = errors.New("there is no such page")
+
+const (
+	inFlight    = "in-flight" // in the place of a state: what has a request in flight
+	longestFind = 255         // bytes
+)
+
+// states are all states, in the order in which they are shown.
+var states = []platform.State{
+	platform.Ordered, platform.Withdrawn, platform.Wanted, platform.Polling, platform.Ready, platform.Cleaning,
+	platform.CleaningPolling, platform.Gone, platform.Unsettled, platform.Abandoned,
+}
+
+// What the target of a list asks for.
+type asked struct {
+	state    string // one of states, or inFlight, or empty for all
+	find     string // what numbers begin with, or a whole id; if it isn't empty, no state counts
+	bindings bool   // bindings, and not instances
+	after    *place // the page that begins behind this place
+	skipped  int    // how many rows are before it, as the page before says
+	isStill  bool   // whether the page stays as it is, and isn't refreshed of itself
+}
+
+// A place is one among rows by time and key.
+type place struct {
+	since time.Time
+	key   platform.Key
+}
+
+// isFirst is whether the first page is asked for, with what waits and what is in flight.
+func (a asked) isFirst() bool { return a == asked{isStill: a.isStill} }
+
+// readAsked reads the query of a list. Errors: errNoPage.
+func readAsked(query url.Values) (asked, error) {
+	a := asked{isStill: query.Has("still")}
+	for name, values := range query {
+		if len(values) != 1 {
+			return a, errNoPage
+		}
+		if err := a.take(name, values[0]); err != nil {
+			return a, errNoPage
+		}
+	}
+	return a, nil
+}
+
+func (a *asked) take(name, value string) (err error) {
+	switch name {
+	case "still":
+	case "state":
+		a.state = value
+		if value != inFlight && !isState(value) {
+			return errNoPage
+		}
+	case "find":
+		a.find = strings.TrimSpace(value)
+		if len(a.find) > longestFind {
+			return errNoPage
+		}
+	case "kind":
+		a.bindings = value == "bindings"
+		if !a.bindings {
+			return errNoPage
+		}
+	case "after":
+		a.after, err = placeOf(value)
+	case "from":
+		a.skipped, err = strconv.Atoi(value)
+		if a.skipped < 0 || a.skipped > 1<<40 {
+			return errNoPage
+		}
+	default:
+		return errNoPage
+	}
+	return err
+}
+
+func isState(text string) bool {
+	for _, it := range states {
+		if string(it) == text {
+			return true
+		}
+	}
+	return false
+}
+
+// placeOf reads a place: nanoseconds, the number of an instance, and of a binding.
+func placeOf(text string) (*place, error) {
+	since, key, _ := strings.Cut(text, "_")
+	nanoseconds, err := strconv.ParseInt(since, 10, 64)
+	if err != nil {
+		return nil, err
+	}
+	at := &place{since: time.Unix(0, nanoseconds).UTC()}
+	at.key, err = platform.ParseKey(key)
+	return at, err
+}
+
+func (p place) String() string {
+	return strconv.FormatInt(p.since.UnixNano(), 10) + "_" + p.key.String()
+}
+
+// target is the target that asks for this.
+func (a asked) target() string {
+	query := url.Values{}
+	for name, value := range map[string]string{"state": a.state, "find": a.find} {
+		if value != "" {
+			query.Set(name, value)
+		}
+	}
+	if a.bindings {
+		query.Set("kind", "bindings")
+	}
+	if a.after != nil {
+		query.Set("after", a.after.String())
+		query.Set("from", strconv.Itoa(a.skipped))
+	}
+	if a.isStill {
+		query.Set("still", "1")
+	}
+	if len(query) == 0 {
+		return "/"
+	}
+	return "/?" + query.Encode()
+}
+
+// targetOf is the target of a row's own page.
+func targetOf(key platform.Key) string {
+	if key.IsBinding {
+		return "/instance/" + key.Instance.String() + "/binding/" + key.Binding.String()
+	}
+	return "/instance/" + key.Instance.String()
+}
+
+// keyOf reads the path of a row's own page. Errors: errNoPage.
+func keyOf(path string) (platform.Key, error) {
+	parts := strings.Split(path, "/")
+	if len(parts) != 3 && (len(parts) != 5 || parts[3] != "binding") || parts[1] != "instance" {
+		return platform.Key{}, errNoPage
+	}
+	var numbers []osb.ID
+	for at := 2; at < len(parts); at += 2 {
+		text, err := url.PathUnescape(parts[at])
+		if err != nil {
+			return platform.Key{}, errNoPage
+		}
+		number, err := osb.IDOfText(text)
+		if err != nil {
+			return platform.Key{}, errNoPage
+		}
+		numbers = append(numbers, number)
+	}
+	if len(numbers) == 1 {
+		return platform.InstanceKey(numbers[0]), nil
+	}
+	return platform.BindingKey(numbers[0], numbers[1]), nil
+}
+
+// prefixOf is the beginning of a GUID with the hyphens where they belong.
+func prefixOf(text string) (prefix string, isPrefix bool) {
+	digits := strings.ToLower(strings.ReplaceAll(text, "-", ""))
+	if digits == "" || len(digits) > 32 || strings.Trim(digits, "0123456789abcdef") != "" {
+		return "", false
+	}
+	for at := range digits {
+		if at == 8 || at == 12 || at == 16 || at == 20 {
+			prefix += "-"
+		}
+		prefix += digits[at : at+1]
+	}
+	return prefix, true
+}

@@ -1,0 +1,333 @@
+package page
+
+import (
+	"context"
+	"errors"
+	"fmt"
+	"net/http"
+	"net/http/httptest"
+	"strings"
+	"sync"
+	"testing"
+	"time"
+
+	"pippinterm/platform"
+	"pippinterm/program/server"
+)
+
+func targets() []string {
+	return []string{
+		"/", "/?state=ready", "/?state=unsettled", "/?state=in-flight", "/?kind=bindings", "/?find=0",
+		targetOf(platform.InstanceKey(idOf(3))), targetOf(platform.InstanceKey(idOf(5))),
+		targetOf(platform.BindingKey(idOf(5), idOf(0x51))),
+	}
+}
+
+// No text of a broker, of an order or of a request is taken for HTML, and none turns the text around it round.
+func TestEscaping(t *testing.T) {
+	const harmful = `"><script>document.title = 'harmed'</script><b onload=x>` + "\x1b[31m\u202e\x00</style>"
+	store := shelf()
+	for at := range store.rows {
+		e, operation := &store.rows[at], harmful
+		e.Broker, e.Names.Service, e.Names.Plan, e.Operation = harmful, harmful, harmful, &operation
+		e.Names.Instance, e.Because, e.Dashboard, e.Organization, e.Space = harmful, harmful, harmful, harmful, harmful
+		e.Last = platform.Reason{At: began, Kind: harmful, Error: harmful, Description: harmful, Lost: harmful}
+		e.Failure, e.Metadata = e.Last, []byte(`{"a": "`+harmful+`"}`)
+		if e.Key.IsBinding {
+			e.Names.Binding = harmful
+		}
+		if e.Lease.Worker != "" {
+			e.Lease.Worker = harmful
+		}
+		store.lives[e.Key] = []platform.Stay{{State: harmful, Since: began}}
+	}
+	store.brokers = append(store.brokers, platform.Broker{
+		Name: harmful, URL: "javascript:" + harmful,
+		Reason: platform.Reason{Kind: harmful, Status: 401, Description: harmful},
+	})
+	h := pageOf(t, store, Options{})
+	find := "/?find=%22%3E%3Cscript%3Edocument.title%3C/script%3E"
+	for _, target := range append(targets(), find) {
+		text := got(t, h, target)
+		for _, it := range []string{"<script>document", "<b onload", "\x1b", "\u202e", "\x00"} {
+			if strings.Contains(text, it) {
+				t.Errorf("%s has %q", target, it)
+			}
+		}
+		if strings.Count(text, "<script") != 1 || strings.Count(text, "<style") != 1 {
+			t.Errorf("%s has further scripts or styles", target)
+		}
+		if strings.Contains(text, `href="javascript`) {
+			t.Errorf("%s has a link to a script", target)
+		}
+	}
+}
+
+// No page shows a password, credentials, parameters, or the identity of an order.
+func TestNoSecrets(t *testing.T) {
+	h := pageOf(t, shelf(), Options{})
+	for _, target := range targets() {
+		text := got(t, h, target)
+		for _, it := range []string{"hush", "parameters", "eyJ", "cloud"} {
+			if strings.Contains(text, it) {
+				t.Errorf("%s has %s", target, it)
+			}
+		}
+	}
+}
+
+func TestHeaders(t *testing.T) {
+	h := pageOf(t, shelf(), Options{})
+	for _, target := range append(targets(), "/none", "/?state=none") {
+		answered := answerTo(h, request("GET", target))
+		for name, want := range map[string]string{
+			"Content-Type": "text/html; charset=utf-8", "Cache-Control": "no-store", "X-Frame-Options": "DENY",
+			"X-Content-Type-Options": "nosniff", "Referrer-Policy": "no-referrer",
+			"Cross-Origin-Opener-Policy":   "same-origin",
+			"Cross-Origin-Resource-Policy": "same-origin", "Content-Length": fmt.Sprint(answered.Body.Len()),
+		} {
+			if got := answered.Header().Get(name); got != want {
+				t.Errorf("%s: %s is %q", target, name, got)
+			}
+		}
+		policy := answered.Header().Get("Content-Security-Policy")
+		has(t, policy, "default-src 'none'", "form-action 'self'", "base-uri 'none'", "frame-ancestors 'none'")
+		if strings.Contains(policy, "unsafe") {
+			t.Errorf("the policy is %s", policy)
+		}
+	}
+}
+
+// The policy allows the style and the script of the page as they stand in it, and nothing else.
+func TestPolicyHasTheHashes(t *testing.T) {
+	answered := answerTo(pageOf(t, shelf(), Options{}), request("GET", "/"))
+	for _, it := range []string{"style", "script"} {
+		_, after, _ := strings.Cut(answered.Body.String(), "<"+it+">")
+		inside, _, isEnded := strings.Cut(after, "</"+it+">")
+		if !isEnded || len(inside) < 100 {
+			t.Fatalf("there is no %s", it)
+		}
+		has(t, answered.Header().Get("Content-Security-Policy"), it+"-src '"+hash(inside)+"'")
+	}
+	if strings.Contains(answered.Body.String(), " style=") || strings.Contains(answered.Body.String(), " onload=") {
+		t.Error("there are attributes that the policy keeps away")
+	}
+}
+
+// A site whose name leads to the address of the page can't read it.
+func TestHost(t *testing.T) {
+	h := pageOf(t, shelf(), Options{Host: "Page.example", Hosts: []string{"portal.example", ""}})
+	for host, isTaken := range map[string]bool{
+		"127.0.0.1:8090": true, "localhost:8090": true, "LOCALHOST:8090": true, "page.example:8090": true,
+		"portal.example": true, "PORTAL.example": true,
+		"": false, "evil.example:8090": false, "127.0.0.1": false, "localhost": false, "127.0.0.1:80": false,
+		"127.0.0.1:8090.evil.example": false, "127.0.0.1.evil.example:8090": false, "[::1]:8090": false,
+		"portal.example:8090": false, "localhost.:8090": false, "2130706433:8090": false, ":8090": false,
+		"page.example:8090@evil.example": false,
+	} {
+		for _, target := range []string{"/", "/?state=ready", "/none"} {
+			r := request("GET", target)
+			r.Host = host
+			answered := answerTo(h, r)
+			if isRejected := answered.Code == http.StatusMisdirectedRequest; isRejected == isTaken {
+				t.Errorf("%q: %d", host, answered.Code)
+			} else if isRejected && strings.Contains(answered.Body.String(), "shelf") {
+				t.Errorf("%q is told of what there is", host)
+			}
+		}
+	}
+	without := httptest.NewRequest("GET", "/", nil)
+	without.Host = "127.0.0.1:8090"
+	if answered := answerTo(h, without); answered.Code != http.StatusMisdirectedRequest {
+		t.Errorf("without an address: %d", answered.Code)
+	}
+}
+
+// The server of the programs says at which address a connection has come.
+func TestHostOverHTTP(t *testing.T) {
+	ctx, cancel := context.WithCancel(background)
+	listener, err := server.Listen(ctx, "127.0.0.1:0", server.Options{})
+	must(t, err)
+	site := server.Site{Listener: listener, Handler: pageOf(t, shelf(), Options{})}
+	served := make(chan error, 1)
+	go func() { served <- server.Server{Sites: []server.Site{site}}.Serve(ctx) }()
+	client := &http.Client{Timeout: time.Minute}
+	for host, want := range map[string]int{"": 200, "evil.example": 421, "localhost": 421} {
+		r, err := http.NewRequestWithContext(ctx, "GET", listener.URL(), nil)
+		must(t, err)
+		r.Host = host
+		answered, err := client.Do(r)
+		must(t, err)
+		must(t, answered.Body.Close())
+		if answered.StatusCode != want {
+			t.Errorf("%q: %d, want %d", host, answered.StatusCode, want)
+		}
+	}
+	client.CloseIdleConnections()
+	cancel()
+	must(t, <-served)
+}
+
+func TestMethods(t *testing.T) {
+	h := pageOf(t, shelf(), Options{})
+	for _, method := range []string{"POST", "PUT", "DELETE", "PATCH", "OPTIONS", "TRACE", "CONNECT", "GETS"} {
+		answered := answerTo(h, request(method, "/"))
+		if answered.Code != http.StatusMethodNotAllowed || answered.Header().Get("Allow") != "GET, HEAD" {
+			t.Errorf("%s: %d %v", method, answered.Code, answered.Header())
+		}
+	}
+	head := answerTo(h, request("HEAD", "/"))
+	if head.Code != 200 || head.Body.Len() != 0 || len(head.Header().Get("Content-Length")) < 4 {
+		t.Errorf("HEAD: %d %v", head.Code, head.Header())
+	}
+}
+
+// What is rejected, and what fails, tells nothing of the store, of the program, and of the request.
+func TestErrorsTellNothing(t *testing.T) {
+	store := shelf()
+	var failures []error
+	h := pageOf(t, store, Options{Failed: func(err error) { failures = append(failures, err) }})
+	answers := []*httptest.ResponseRecorder{
+		answerTo(h, request("GET", "/secret-path")), answerTo(h, request("POST", "/")),
+		answerTo(h, request("GET", "/instance/secret-path")),
+	}
+	if len(failures) != 0 {
+		t.Errorf("they are failures: %v", failures)
+	}
+	store.err = errors.New("postgres at secret-path")
+	for _, target := range targets() {
+		answered := answerTo(h, request("GET", target))
+		if answered.Code != http.StatusServiceUnavailable || answered.Header().Get("Retry-After") == "" {
+			t.Errorf("%s: %d", target, answered.Code)
+		}
+		if len(failures) == 0 || !errors.Is(failures[len(failures)-1], store.err) {
+			t.Errorf("%s: the failures are %v", target, failures)
+		}
+		answers = append(answers, answered)
+	}
+	for _, it := range answers {
+		for _, part := range []string{"secret-path", "shelf", "osb-platform", "postgres", "<style", "<script"} {
+			if strings.Contains(it.Body.String(), part) {
+				t.Errorf("it tells %s: %s", part, it.Body)
+			}
+		}
+	}
+}
+
+func TestPasswords(t *testing.T) {
+	limiter := &counting{}
+	users := map[string][]string{"me": {"old", "new"}, "you": {"o:ther"}}
+	h := pageOf(t, shelf(), Options{Users: users, Limiter: limiter})
+	for _, it := range []struct {
+		user, password string
+		isUser         bool
+	}{
+		{"me", "old", true}, {"me", "new", true}, {"you", "o:ther", true}, {"me", "o:ther", false}, {"me", "", false},
+		{"", "", false}, {"me", "ol", false}, {"me", "olds", false}, {"ME", "old", false}, {"me\x00old", "", false},
+	} {
+		r := request("GET", "/")
+		r.SetBasicAuth(it.user, it.password)
+		failed := limiter.failed
+		answered := answerTo(h, r)
+		if isUser := answered.Code == 200; isUser != it.isUser || (limiter.failed > failed) == it.isUser {
+			t.Errorf("%q %q: %d, %d failures", it.user, it.password, answered.Code, limiter.failed-failed)
+		}
+		if answered.Code == http.StatusUnauthorized && strings.Contains(answered.Body.String(), "shelf") {
+			t.Error("it tells what there is")
+		}
+	}
+	r := request("GET", "/")
+	answered := answerTo(h, r)
+	if answered.Code != 401 || !strings.HasPrefix(answered.Header().Get("WWW-Authenticate"), "Basic ") {
+		t.Errorf("without a password: %d %v", answered.Code, answered.Header())
+	}
+	r.SetBasicAuth("me", "old")
+	r.Header.Add("Authorization", "Basic bm9ib2R5Og==")
+	if answered := answerTo(h, r); answered.Code != 401 {
+		t.Errorf("with two: %d", answered.Code)
+	}
+	foreign := request("GET", "/")
+	foreign.Host = "evil.example"
+	if answered := answerTo(h, foreign); answered.Code != 421 {
+		t.Errorf("a foreign site is asked for a password: %d", answered.Code)
+	}
+}
+
+type counting struct{ failed int }
+
+func (c *counting) Delay(string) time.Duration { return 0 }
+
+func (c *counting) Failed(address string) {
+	if address == "192.0.2.1" { // that of httptest
+		c.failed++
+	}
+}
+
+// A stalled client is one that takes nothing of an answer until it is let go.
+type stalled struct {
+	*httptest.ResponseRecorder
+	writing, letGo chan struct{}
+}
+
+func (s stalled) Write(text []byte) (int, error) {
+	close(s.writing)
+	<-s.letGo
+	return s.ResponseRecorder.Write(text)
+}
+
+// Clients that take nothing keep no other one waiting: what is answered is made before it is sent.
+func TestSlowReaders(t *testing.T) {
+	h := pageOf(t, shelf(), Options{AtOnce: 1})
+	var all sync.WaitGroup
+	letGo := make(chan struct{})
+	for n := 0; n < 3; n++ {
+		slow := stalled{httptest.NewRecorder(), make(chan struct{}), letGo}
+		all.Add(1)
+		go func() {
+			defer all.Done()
+			h.ServeHTTP(slow, request("GET", "/"))
+		}()
+		<-slow.writing
+	}
+	got(t, h, "/")
+	close(letGo)
+	all.Wait()
+}
+
+// So many requests read the store at once, and the others wait for their turn only so long.
+func TestAtOnce(t *testing.T) {
+	store := shelf()
+	reading, letGo := make(chan struct{}), make(chan struct{})
+	store.wait = func(ctx context.Context) error {
+		reading <- struct{}{}
+		<-letGo
+		<-ctx.Done()
+		return ctx.Err()
+	}
+	h := pageOf(t, store, Options{AtOnce: 1, Timeout: 50 * time.Millisecond})
+	first := make(chan int)
+	go func() { first <- answerTo(h, request("GET", "/")).Code }()
+	<-reading
+	answered := answerTo(h, request("GET", "/"))
+	if answered.Code != 503 || !strings.Contains(answered.Body.String(), "Too many") {
+		t.Errorf("while one reads: %d %s", answered.Code, answered.Body)
+	}
+	close(letGo)
+	if got := <-first; got != 503 {
+		t.Errorf("a reading that takes too long: %d", got)
+	}
+}
+
+func TestNewHandler(t *testing.T) {
+	for name, it := range map[string]struct {
+		store   platform.Store
+		options Options
+	}{
+		"no store": {nil, Options{}}, "cleaning": {shelf(), Options{LongCleaning: -1}},
+		"at once": {shelf(), Options{AtOnce: -1}}, "timeout": {shelf(), Options{Timeout: -1}},
+	} {
+		if _, err := NewHandler(it.store, it.options); err == nil {
+			t.Errorf("%s: it is taken", name)
+		}
+	}
+}

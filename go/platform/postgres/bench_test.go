@@ -1,0 +1,185 @@
+package postgres_test
+
+import (
+	"fmt"
+	"os"
+	"strings"
+	"sync"
+	"sync/atomic"
+	"testing"
+	"time"
+
+	"pippinterm/broker/postgres/pgtest"
+	"pippinterm/broker/postgres/session"
+	"pippinterm/osb"
+	"pippinterm/platform"
+	"pippinterm/platform/postgres"
+)
+
+const (
+	workers = 3    // that run at once, each with a store of its own
+	places  = 16   // of each: so many exchanges run at once
+	stepped = 1000 // rows, as often as they are due; the others rest
+)
+
+// BenchmarkSteps has three workers step rows at a broker that answers at once: a claim of as many rows as there are
+// free places, and a change for each. A row that is polled keeps its state, and a row that changes has two stays.
+//
+//	scripts/go test -run '^$' -bench Steps -benchtime 20000x ./platform/postgres
+func BenchmarkSteps(b *testing.B) {
+	for _, kind := range []string{"polled", "changed"} {
+		for _, rows := range []int{stepped, 100 * stepped} {
+			b.Run(fmt.Sprintf("%s/%d", kind, rows), func(b *testing.B) { benchmark(b, rows, kind == "changed") })
+		}
+	}
+}
+
+func benchmark(b *testing.B, rows int, isChanged bool) {
+	url := filled(b, rows)
+	left, begun := int64(b.N), time.Now()
+	b.ResetTimer()
+	var all sync.WaitGroup
+	for n := 0; n < workers; n++ {
+		store, err := postgres.Open(background, url, places+1)
+		if err != nil {
+			b.Fatal(err)
+		}
+		defer store.Close()
+		all.Add(1)
+		go func(worker string) {
+			defer all.Done()
+			stepAll(b, store, worker, &left, isChanged)
+		}(fmt.Sprint("worker ", n))
+	}
+	all.Wait()
+	b.StopTimer()
+	b.ReportMetric(float64(b.N)/time.Since(begun).Seconds(), "steps/s")
+}
+
+// filled is the URL of a store with so many rows that are polled. The first of them are due.
+func filled(b *testing.B, rows int) string {
+	b.Helper()
+	address := os.Getenv(pgtest.Variable)
+	if address == "" {
+		b.Skip("set " + pgtest.Variable + " to the URL of a PostgreSQL server, as a superuser, that is for tests only")
+	}
+	const schema = "osb_platform_bench"
+	options := session.Options{
+		Most: 1, Lock: deadline, Statement: deadline, Idle: deadline,
+		Settings: map[string]string{"search_path": schema},
+	}
+	db, err := session.Open(address, options)
+	if err != nil {
+		b.Fatal(err)
+	}
+	b.Cleanup(func() {
+		_, _ = db.Exec("DROP SCHEMA " + schema + " CASCADE")
+		_ = db.Close()
+	})
+	url := address + "?search_path=" + schema
+	if strings.Contains(address, "?") {
+		url = address + "&search_path=" + schema
+	}
+	for _, it := range []string{"DROP SCHEMA IF EXISTS " + schema + " CASCADE", "CREATE SCHEMA " + schema} {
+		if _, err := db.Exec(it); err != nil {
+			b.Fatal(err)
+		}
+	}
+	store := open(b, url)
+	polled := order(instance(0))
+	polled.State, polled.IsSent, polled.Record = platform.Polling, true, pollingRecord(b)
+	addBroker(b, store)
+	if err := store.Insert(background, polled, accept); err != nil {
+		b.Fatal(err)
+	}
+	_ = store.Close()
+	const copies = "INSERT INTO osb_instances SELECT (t).* FROM (SELECT json_populate_record(t, json_build_object(" +
+		"'id', '00000000-0000-4000-8000-' || lpad(to_hex(n), 12, '0'), 'due', CASE WHEN n < $2 THEN due END)) AS t " +
+		"FROM osb_instances AS t, generate_series(1, $1 - 1) AS n) AS s"
+	if _, err := db.Exec(copies, rows, stepped); err != nil {
+		b.Fatal(err)
+	}
+	if _, err := db.Exec("ANALYZE"); err != nil {
+		b.Fatal(err)
+	}
+	return url
+}
+
+func pollingRecord(b *testing.B) osb.Record {
+	b.Helper()
+	wanted, sent := osb.Create(id(0), osb.MustParseID(theService), osb.MustParseID(thePlan), true)
+	record, err := wanted.Answer(sent.Attempt, osb.Answer{Status: 202, Body: osb.BodyEmpty})
+	if err != nil {
+		b.Fatal(err)
+	}
+	return record
+}
+
+// stepAll steps rows until no step is left.
+func stepAll(b *testing.B, store platform.Store, worker string, left *int64, isChanged bool) {
+	free := make(chan struct{}, places)
+	for n := 0; n < places; n++ {
+		free <- struct{}{}
+	}
+	var running sync.WaitGroup
+	defer running.Wait()
+	for atomic.LoadInt64(left) > 0 {
+		<-free
+		most := 1
+		for ; len(free) > 0; most++ {
+			<-free
+		}
+		claimed, err := store.Claim(background, []string{"one"}, most, send(worker, isChanged))
+		if err != nil {
+			b.Error(err)
+			return
+		}
+		for n := len(claimed); n < most; n++ {
+			free <- struct{}{}
+		}
+		for _, it := range claimed {
+			running.Add(1)
+			go func(key platform.Key) {
+				defer running.Done()
+				if err := store.Change(background, key, take(isChanged)); err != nil {
+					b.Error(err)
+				}
+				atomic.AddInt64(left, -1)
+				free <- struct{}{}
+			}(it.Key)
+		}
+	}
+}
+
+// send records a Poll as in flight.
+func send(worker string, isChanged bool) platform.Step {
+	return func(now time.Time, held platform.Held) (*platform.Change, error) {
+		entry := held.Entry
+		record, _, err := entry.Record.Send(entry.Key.ID())
+		if err != nil {
+			return nil, err
+		}
+		entry.Record, entry.Lease = record, platform.Lease{Worker: worker, Until: now.Add(time.Minute)}
+		if isChanged {
+			entry.State, entry.Since = platform.Wanted, now
+		}
+		return &platform.Change{Entry: entry}, nil
+	}
+}
+
+// take takes the answer to a Poll. The row is due again at once.
+func take(isChanged bool) platform.Step {
+	return func(now time.Time, held platform.Held) (*platform.Change, error) {
+		entry := held.Entry
+		record, err := entry.Record.Timeout(entry.Record.Attempt())
+		if err != nil {
+			return nil, err
+		}
+		entry.Record, entry.Lease, entry.Due = record, platform.Lease{}, now
+		entry.Last = platform.Reason{At: now, Kind: "poll", Status: 200, Description: "the database is being created"}
+		if isChanged {
+			entry.State, entry.Since = platform.Polling, now
+		}
+		return &platform.Change{Entry: entry}, nil
+	}
+}

@@ -1,0 +1,314 @@
+package postgres
+
+import (
+	"encoding/hex"
+	"encoding/json"
+	"fmt"
+	"math"
+	"strconv"
+	"strings"
+	"time"
+
+	"pippinterm/osb"
+	"pippinterm/platform"
+)
+
+// A row is one of osb_instances or osb_bound, under the names of its columns. It is read and written as JSON
+// (row_to_json, json_populate_recordset), so that each statement has one parameter for any number of rows. Times are
+// seconds since 1970, as version 0.2 has them.
+type row struct {
+	ID      string `json:"id"`
+	Binding string `json:"binding,omitempty"` // of osb_bound
+
+	Broker       string  `json:"broker"`
+	Names        string  `json:"names"` // an object: instance, binding, service, plan
+	Service      string  `json:"service"`
+	Plan         string  `json:"plan"`
+	Further      string  `json:"further"` // the body
+	Organization string  `json:"organization"`
+	Space        string  `json:"space"`
+	Identity     *string `json:"identity"`
+	OwnID        bool    `json:"own_id"`
+	TryNumber    int     `json:"try_number"`
+	MostTries    int     `json:"most_tries"`
+	First        string  `json:"first"`
+
+	Record      *string `json:"record"`
+	Operation   *string `json:"operation"`
+	State       string  `json:"state"`
+	Since       seconds `json:"since"`
+	SentUntil   seconds `json:"sent_until"`
+	PolledSince seconds `json:"polled_since"`
+	Removal     int     `json:"removal"`
+	HasLast     bool    `json:"has_last"`
+	Due         seconds `json:"due"`
+	Tries       int     `json:"tries"` // how many requests in turn have changed nothing
+	Worker      *string `json:"worker"`
+	LeasedUntil seconds `json:"leased_until"`
+	Last        *string `json:"last"`
+	Failure     *string `json:"failure"`
+	Passing     bool    `json:"passing"`
+	After       float64 `json:"after"`
+	Dashboard   *string `json:"dashboard"`
+	Metadata    *string `json:"metadata"`
+	Credentials sealed  `json:"credentials"` // of osb_bound
+	Because     *string `json:"because"`
+}
+
+// The columns that an order has, and those that change. osb_bound has binding and credentials besides.
+var (
+	ordered = []string{
+		"id", "broker", "names", "service", "plan", "further", "organization", "space", "identity", "own_id",
+		"try_number", "most_tries", "first",
+	}
+	changing = []string{
+		"record", "operation", "state", "since", "sent_until", "polled_since", "removal", "has_last", "due", "tries",
+		"worker", "leased_until", "last", "failure", "passing", "after", "dashboard", "metadata", "because",
+	}
+)
+
+// names are platform.Names.
+type names struct {
+	Instance string `json:"instance"`
+	Binding  string `json:"binding,omitempty"`
+	Service  string `json:"service"`
+	Plan     string `json:"plan"`
+}
+
+// rowOf is the row of an entry.
+func rowOf(entry platform.Entry) (row, error) {
+	it := row{
+		ID: entry.Key.Instance.String(), Broker: storable(entry.Broker), Service: entry.Service.String(),
+		Plan: entry.Plan.String(), Further: storable(string(entry.Body)), Organization: storable(entry.Organization),
+		Space: storable(entry.Space), Identity: orNull(entry.Identity), OwnID: entry.IsOwnID, TryNumber: entry.Try,
+		MostTries: entry.Tries, First: entry.First.String(),
+		State: string(entry.State), Since: seconds(entry.Since), SentUntil: seconds(entry.SentUntil),
+		PolledSince: seconds(entry.PolledSince), Removal: int(entry.Removal), HasLast: entry.HasLast,
+		Due: seconds(entry.Due), Tries: entry.Unchanged, Worker: orNull(entry.Lease.Worker),
+		LeasedUntil: seconds(entry.Lease.Until), Passing: entry.Passing, After: entry.After.Seconds(),
+		Dashboard: orNull(entry.Dashboard), Metadata: orNull(string(entry.Metadata)), Credentials: entry.Credentials,
+		Because: orNull(entry.Because),
+	}
+	if entry.Key.IsBinding {
+		it.Binding = entry.Key.Binding.String()
+	}
+	if entry.Operation != nil {
+		operation := storable(*entry.Operation)
+		it.Operation = &operation
+	}
+	return it, it.writeTexts(entry)
+}
+
+// writeTexts writes the columns that have an object.
+func (r *row) writeTexts(entry platform.Entry) (err error) {
+	of := entry.Names
+	ids := names{Instance: of.Instance, Binding: of.Binding, Service: of.Service, Plan: of.Plan}
+	if r.Names, err = textOf(ids); err != nil {
+		return err
+	}
+	if r.Last, err = reasonText(entry.Last); err != nil {
+		return err
+	}
+	if r.Failure, err = reasonText(entry.Failure); err != nil {
+		return err
+	}
+	if !entry.IsSent {
+		return nil
+	}
+	write := entry.Record.MarshalJSON
+	if entry.Key.IsBinding {
+		write = entry.Record.BindingText
+	}
+	text, err := write()
+	if err != nil {
+		return fmt.Errorf("the record of %v: %w", entry.Key, err)
+	}
+	record := string(text)
+	r.Record = &record
+	return nil
+}
+
+// entry is the entry of a row.
+func (r *row) entry() (entry platform.Entry, err error) {
+	key, err := r.key()
+	if err != nil {
+		return entry, err
+	}
+	entry = platform.Entry{
+		Order: platform.Order{
+			Key: key, Broker: r.Broker, IsOwnID: r.OwnID, Organization: r.Organization, Space: r.Space,
+			Body: raw(&r.Further), Identity: orEmpty(r.Identity), Try: r.TryNumber, Tries: r.MostTries,
+		},
+		State: platform.State(r.State), Since: time.Time(r.Since), Operation: r.Operation,
+		SentUntil: time.Time(r.SentUntil), PolledSince: time.Time(r.PolledSince), Removal: platform.Removal(r.Removal),
+		HasLast: r.HasLast, Due: time.Time(r.Due), Unchanged: r.Tries,
+		Lease:   platform.Lease{Worker: orEmpty(r.Worker), Until: time.Time(r.LeasedUntil)},
+		Passing: r.Passing, After: time.Duration(math.Round(r.After*1e6)) * time.Microsecond,
+		Dashboard: orEmpty(r.Dashboard), Metadata: raw(r.Metadata), Credentials: r.Credentials,
+		Because: orEmpty(r.Because),
+	}
+	return entry, r.readTexts(&entry)
+}
+
+func (r *row) key() (key platform.Key, err error) {
+	if key.Instance, err = osb.ParseID(r.ID); err != nil {
+		return key, fmt.Errorf("the row %q: %w", r.ID, err)
+	}
+	if r.Binding == "" {
+		return key, nil
+	}
+	key.IsBinding = true
+	if key.Binding, err = osb.ParseID(r.Binding); err != nil {
+		return key, fmt.Errorf("the row %q of %v: %w", r.Binding, key.Instance, err)
+	}
+	return key, nil
+}
+
+// readTexts reads the columns that have ids, an object or a record.
+func (r *row) readTexts(entry *platform.Entry) error {
+	var ids names
+	for _, it := range []struct {
+		what string
+		read func() error
+	}{
+		{"service", func() error { return entry.Service.UnmarshalText([]byte(r.Service)) }},
+		{"plan", func() error { return entry.Plan.UnmarshalText([]byte(r.Plan)) }},
+		{"first", func() error { return entry.First.UnmarshalText([]byte(r.First)) }},
+		{"names", func() error { return json.Unmarshal([]byte(r.Names), &ids) }},
+		{"last", func() error { return readReason(r.Last, &entry.Last) }},
+		{"failure", func() error { return readReason(r.Failure, &entry.Failure) }},
+		{"record", func() error { return r.readRecord(entry) }},
+	} {
+		if err := it.read(); err != nil {
+			return fmt.Errorf("the column %s of %v: %w", it.what, entry.Key, err)
+		}
+	}
+	entry.Names = platform.Names{Instance: ids.Instance, Binding: ids.Binding, Service: ids.Service, Plan: ids.Plan}
+	return nil
+}
+
+func (r *row) readRecord(entry *platform.Entry) (err error) {
+	if r.Record == nil {
+		return nil
+	}
+	entry.IsSent = true
+	if entry.Key.IsBinding {
+		entry.Record, err = osb.BindingRecordFromText([]byte(*r.Record))
+		return err
+	}
+	return entry.Record.UnmarshalJSON([]byte(*r.Record))
+}
+
+// entryOf is the entry of a row as JSON.
+func entryOf(text []byte) (platform.Entry, error) {
+	var it row
+	if err := json.Unmarshal(text, &it); err != nil {
+		return platform.Entry{}, fmt.Errorf("a row: %w", err)
+	}
+	return it.entry()
+}
+
+// seconds is a time as a column has it, in whole microseconds: NULL for the zero time.
+type seconds time.Time
+
+// MarshalJSON writes the seconds since 1970.
+func (s seconds) MarshalJSON() ([]byte, error) {
+	if time.Time(s).IsZero() {
+		return []byte("null"), nil
+	}
+	return strconv.AppendFloat(nil, secondsOf(time.Time(s)), 'f', -1, 64), nil
+}
+
+// UnmarshalJSON reads the seconds since 1970.
+func (s *seconds) UnmarshalJSON(text []byte) error {
+	var read *float64
+	if err := json.Unmarshal(text, &read); err != nil {
+		return err
+	}
+	*s = seconds{}
+	if read != nil {
+		*s = seconds(timeOf(*read))
+	}
+	return nil
+}
+
+func secondsOf(at time.Time) float64 { return float64(at.UnixMicro()) / 1e6 }
+
+// timeOf is the time that secondsOf has written: the nearest microsecond.
+func timeOf(at float64) time.Time {
+	whole := math.Floor(at)
+	return time.Unix(int64(whole), int64(math.Round((at-whole)*1e6))*1000).UTC()
+}
+
+// sealed are bytes as a column of the type bytea has them: NULL for nil.
+type sealed []byte
+
+// MarshalJSON writes the bytes as PostgreSQL reads them.
+func (s sealed) MarshalJSON() ([]byte, error) {
+	if s == nil {
+		return []byte("null"), nil
+	}
+	return json.Marshal(`\x` + hex.EncodeToString(s))
+}
+
+// UnmarshalJSON reads the bytes as PostgreSQL writes them.
+func (s *sealed) UnmarshalJSON(text []byte) error {
+	var read *string
+	if err := json.Unmarshal(text, &read); err != nil || read == nil {
+		*s = nil
+		return err
+	}
+	bytes, err := hex.DecodeString(strings.TrimPrefix(*read, `\x`))
+	*s = bytes
+	return err
+}
+
+func reasonText(reason platform.Reason) (*string, error) {
+	if reason == (platform.Reason{}) {
+		return nil, nil
+	}
+	reason.At = reason.At.UTC()
+	text, err := textOf(reason)
+	return &text, err
+}
+
+func readReason(text *string, reason *platform.Reason) error {
+	if text == nil {
+		return nil
+	}
+	return json.Unmarshal([]byte(*text), reason)
+}
+
+func textOf(value any) (string, error) {
+	text, err := json.Marshal(value)
+	return string(text), err
+}
+
+// orNull is a text as a column has it: NULL if it is empty.
+func orNull(text string) *string {
+	if text == "" {
+		return nil
+	}
+	text = storable(text)
+	return &text
+}
+
+func orEmpty(text *string) string {
+	if text == nil {
+		return ""
+	}
+	return *text
+}
+
+func raw(text *string) json.RawMessage {
+	if text == nil || *text == "" {
+		return nil
+	}
+	return json.RawMessage(*text)
+}
+
+// storable is a text that a column of PostgreSQL has: others would be rejected with each try, and their work would
+// never end. Bytes that aren't UTF-8, and NUL, become U+FFFD, as encoding/json reads the former too.
+func storable(text string) string {
+	return strings.ReplaceAll(strings.ToValidUTF8(text, "\uFFFD"), "\x00", "\uFFFD")
+}

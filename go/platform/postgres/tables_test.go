@@ -1,0 +1,511 @@
+package postgres_test
+
+import (
+	"context"
+	"errors"
+	"fmt"
+	"strings"
+	"sync"
+	"testing"
+	"time"
+
+	"pippinterm/broker/postgres/pgtest"
+	"pippinterm/broker/postgres/session"
+	"pippinterm/osb"
+	"pippinterm/platform"
+	"pippinterm/platform/postgres"
+)
+
+// The tables of version 0.2.
+var of02 = []string{
+	`CREATE TABLE osb_instances (id text PRIMARY KEY, service text NOT NULL, plan text NOT NULL,
+		further text NOT NULL, record text, operation text, state text NOT NULL, since double precision NOT NULL,
+		sent_until double precision, polled_since double precision, removal integer NOT NULL, due double precision,
+		tries integer NOT NULL, worker text, leased_until double precision)`,
+	`CREATE INDEX osb_due_instances ON osb_instances (due) WHERE due IS NOT NULL`,
+	`CREATE TABLE osb_lives (id text NOT NULL, number integer NOT NULL, state text NOT NULL,
+		since double precision NOT NULL, PRIMARY KEY (id, number))`,
+	`CREATE TABLE osb_broker_asked (one integer PRIMARY KEY CHECK (one = 1), url text NOT NULL)`,
+	`CREATE INDEX osb_instances_by_state ON osb_instances (state, since, id)`,
+	`CREATE INDEX osb_leased_instances ON osb_instances (leased_until) WHERE worker IS NOT NULL`,
+	`INSERT INTO osb_broker_asked VALUES (1, '` + theBroker + `')`,
+}
+
+const (
+	theBroker  = "https://broker.example"
+	theService = "00000000-0000-0000-0000-0000000000a0"
+	thePlan    = "00000000-0000-0000-0000-0000000000b1"
+	began      = 1700000000.25 // the time of all rows of version 0.2
+)
+
+func id(n int) osb.ID { return osb.MustParseID(fmt.Sprintf("00000000-0000-4000-8000-%012x", n)) }
+
+func instance(n int) platform.Key { return platform.InstanceKey(id(n)) }
+
+func binding(n, of int) platform.Key { return platform.BindingKey(id(of), id(n)) }
+
+// A row02 is a row of version 0.2, and what is read of it.
+type row02 struct {
+	state      platform.State
+	out        string // in flight
+	isOrder    bool   // nothing was sent
+	due        bool
+	removal    int
+	worker     string
+	isToRest   bool // though it was due
+	hasLast    bool
+	isPolled   bool
+	unchanged  int
+	operation  string
+	parameters string
+}
+
+// rows02 has each state, with what comes along with it.
+var rows02 = []row02{
+	{state: platform.Ordered, isOrder: true, due: true, parameters: `{"parameters": {"x": [1, "é"]}}`},
+	{state: platform.Ordered, isOrder: true, due: true, removal: 1},
+	{state: platform.Withdrawn, isOrder: true},
+	{state: platform.Withdrawn, isOrder: true, due: true, isToRest: true},
+	{state: platform.Wanted, out: "provision", due: true, worker: "one"},
+	{state: platform.Polling, due: true, isPolled: true, unchanged: 3, operation: "task 7"},
+	{state: platform.Polling, out: "poll", due: true, isPolled: true, worker: "two"},
+	{state: platform.Ready},
+	{state: platform.Ready, due: true, removal: 1},
+	{state: platform.Cleaning, due: true, unchanged: 12},
+	{state: platform.CleaningPolling, due: true, isPolled: true},
+	{state: platform.Gone},
+	{state: platform.Gone, due: true, hasLast: true},
+	{state: platform.Unsettled},
+}
+
+// attempt is the number of the last request.
+func (r row02) attempt(n int) int {
+	if r.state == platform.Wanted {
+		return 1
+	}
+	return n + 1
+}
+
+func insert02(n int, it row02) string {
+	record, polled, due, worker, operation := "NULL", "NULL", "NULL", "NULL, NULL", "NULL"
+	if !it.isOrder {
+		out := "null"
+		if it.out != "" {
+			out = `"` + it.out + `"`
+		}
+		record = fmt.Sprintf(`'{"attempt":%d,"out":%s,"plan":"%s","service":"%s","state":"%s","version":1}'`,
+			it.attempt(n), out, thePlan, theService, it.state)
+	}
+	if it.isPolled {
+		polled = fmt.Sprint(began + 2)
+	}
+	if it.due {
+		due = fmt.Sprint(began + 3)
+	}
+	if it.worker != "" {
+		worker = fmt.Sprintf("'%s', %f", it.worker, began+4)
+	}
+	if it.operation != "" {
+		operation = "'" + it.operation + "'"
+	}
+	return fmt.Sprintf("INSERT INTO osb_instances VALUES "+
+		"('%v', '%s', '%s', '%s', %s, %s, '%s', %f, %f, %s, %d, %s, %d, %s)",
+		id(n), theService, thePlan, orText(it.parameters, "{}"), record, operation, it.state, began, began+1, polled,
+		it.removal, due, it.unchanged, worker)
+}
+
+func orText(text, otherwise string) string {
+	if text == "" {
+		return otherwise
+	}
+	return text
+}
+
+func at(more int) time.Time {
+	return time.UnixMilli(1700000000250).UTC().Add(time.Duration(more) * time.Second)
+}
+
+// want02 fails unless an entry is what the row of version 0.2 has.
+func want02(t *testing.T, got platform.Entry, n int, it row02) {
+	t.Helper()
+	order := platform.Order{
+		Key: instance(n), Broker: "default", Service: osb.MustParseID(theService), Plan: osb.MustParseID(thePlan),
+		Names:        platform.Names{Instance: id(n).String(), Service: theService, Plan: thePlan},
+		Organization: "osb-platform", Space: "osb-platform", Try: 1, Tries: 1, First: id(n),
+	}
+	body := string(got.Body)
+	got.Order.Body = nil
+	if fmt.Sprintf("%+v", got.Order) != fmt.Sprintf("%+v", order) || body != orText(it.parameters, "{}") {
+		t.Errorf("row %d: the order is %+v with %s", n, got.Order, body)
+	}
+	polled, due, lease := time.Time{}, time.Time{}, platform.Lease{}
+	if it.isPolled {
+		polled = at(2)
+	}
+	if it.due && !it.isToRest {
+		due = at(3)
+	}
+	if it.worker != "" {
+		lease = platform.Lease{Worker: it.worker, Until: at(4)}
+	}
+	want := []any{it.state, at(0), at(1), polled, platform.Removal(it.removal), it.hasLast, due, it.unchanged, lease,
+		!it.isOrder, it.operation}
+	operation := ""
+	if got.Operation != nil {
+		operation = *got.Operation
+	}
+	have := []any{got.State, got.Since, got.SentUntil, got.PolledSince, got.Removal, got.HasLast, got.Due,
+		got.Unchanged, got.Lease, got.IsSent, operation}
+	if fmt.Sprint(have...) != fmt.Sprint(want...) {
+		t.Errorf("row %d: %v, want %v", n, have, want)
+	}
+	if got.IsSent && (platform.StateOf(got.Record) != it.state || got.Record.Attempt() != uint64(it.attempt(n))) {
+		t.Errorf("row %d: the record is %v", n, got.Record)
+	}
+}
+
+// The rows of version 0.2, in every state, are read as they were, and gone on with.
+func TestTablesOf02(t *testing.T) {
+	url := pgtest.Schema(t, pgtest.URL(t), "osb_platform_of_02")
+	db := pgtest.DB(t, url)
+	pgtest.Exec(t, db, of02...)
+	for n, it := range rows02 {
+		pgtest.Exec(t, db, insert02(n, it))
+	}
+	const lives = "INSERT INTO osb_lives VALUES ('%v', 1, 'wanted', 7.5), ('%[1]v', 2, 'polling', 8)"
+	pgtest.Exec(t, db, fmt.Sprintf(lives, id(7)))
+	for n := 0; n < 2; n++ { // the second time nothing is left to do
+		store := open(t, url)
+		for n, it := range rows02 {
+			entry, err := store.Read(background, instance(n))
+			if err != nil {
+				t.Fatal(err)
+			}
+			want02(t, entry, n, it)
+		}
+		life, err := store.Life(background, instance(7))
+		if err != nil || len(life) != 2 || life[1].State != platform.Polling || life[0].Since.UnixMilli() != 7500 {
+			t.Errorf("the life is %v, %v", life, err)
+		}
+		brokers, err := store.Brokers(background)
+		if err != nil || len(brokers) != 1 || brokers[0].Name != "default" || brokers[0].User != "platform" ||
+			brokers[0].URL != theBroker {
+			t.Errorf("the brokers are %+v, %v", brokers, err)
+		}
+		if err := store.Close(); err != nil {
+			t.Error(err)
+		}
+	}
+	goOn02(t, open(t, url))
+	rejected02(t, url)
+}
+
+// goOn02 steps the rows of version 0.2 that are due.
+func goOn02(t *testing.T, store *postgres.Store) {
+	t.Helper()
+	defer store.Close()
+	claimed, err := store.Claim(background, []string{"default"}, 100,
+		func(now time.Time, held platform.Held) (*platform.Change, error) {
+			held.Entry.State = platform.Abandoned
+			held.Entry.Lease = platform.Lease{Worker: "me", Until: now.Add(time.Hour)}
+			return &platform.Change{Entry: held.Entry}, nil
+		})
+	if err != nil {
+		t.Fatal(err)
+	}
+	due := map[platform.Key]bool{}
+	for n, it := range rows02 {
+		due[instance(n)] = it.due && !it.isToRest
+	}
+	for _, it := range claimed {
+		if it.Err != nil || !due[it.Key] {
+			t.Errorf("claimed %v: %v", it.Key, it.Err)
+		}
+		delete(due, it.Key)
+		if life, err := store.Life(background, it.Key); err != nil || len(life) != 1 {
+			t.Errorf("the life of %v: %v, %v", it.Key, life, err)
+		}
+	}
+	for key, isDue := range due {
+		if isDue {
+			t.Errorf("%v wasn't claimed", key)
+		}
+	}
+}
+
+// rejected02 fails unless the tables reject what version 0.2 does when it starts, and when it orders.
+func rejected02(t *testing.T, url string) {
+	t.Helper()
+	db := pgtest.DB(t, url)
+	var asked string
+	pgtest.Exec(t, db, "INSERT INTO osb_broker_asked VALUES (1, '"+theBroker+"') ON CONFLICT DO NOTHING")
+	if err := db.QueryRow("SELECT url FROM osb_broker_asked").Scan(&asked); err != nil || asked == theBroker {
+		t.Errorf("the broker that version 0.2 reads is %q, %v", asked, err)
+	}
+	const order = "INSERT INTO osb_instances (id, service, plan, further, state, since, removal, due, tries) " +
+		"VALUES ('x', 'x', 'x', '{}', 'ordered', 1, 0, 1, 0)"
+	if _, err := db.Exec(order); !session.IsCode(err, "23502") {
+		t.Errorf("an order of version 0.2: %v", err)
+	}
+}
+
+// A store that was never asked by 0.2 has no broker.
+func TestTablesOf02WithoutABroker(t *testing.T) {
+	url := pgtest.Schema(t, pgtest.URL(t), "osb_platform_of_02_new")
+	pgtest.Exec(t, pgtest.DB(t, url), of02[:len(of02)-1]...)
+	store := open(t, url)
+	defer store.Close()
+	if brokers, err := store.Brokers(background); err != nil || len(brokers) != 0 {
+		t.Errorf("the brokers are %+v, %v", brokers, err)
+	}
+}
+
+// The tables aren't extended while a worker of version 0.2 may run over them.
+func TestAWorkerOf02(t *testing.T) {
+	url := pgtest.Schema(t, pgtest.URL(t), "osb_platform_worker_02")
+	db := pgtest.DB(t, url)
+	pgtest.Exec(t, db, of02...)
+	conn, err := db.Conn(background)
+	if err != nil {
+		t.Fatal(err)
+	}
+	defer conn.Close()
+	const name = "SELECT pg_advisory_lock(1869832816, 12345)" // as version 0.2 has it: osbp, and a digest
+	if _, err := conn.ExecContext(background, name); err != nil {
+		t.Fatal(err)
+	}
+	_, err = postgres.Open(background, url, 1)
+	if err == nil || !strings.Contains(err.Error(), "Stop all of its workers") {
+		t.Errorf("beside a worker: %v", err)
+	}
+	if _, isLasting := session.Remedy(err); !isLasting {
+		t.Error("the error doesn't last")
+	}
+	if _, err := conn.ExecContext(background, "SELECT pg_advisory_unlock_all()"); err != nil {
+		t.Fatal(err)
+	}
+	if err := open(t, url).Close(); err != nil {
+		t.Error(err)
+	}
+}
+
+// Platforms that start at once create or extend the tables once.
+func TestManyOpen(t *testing.T) {
+	for _, it := range []struct {
+		schema string
+		tables []string
+	}{{"osb_platform_many_new", nil}, {"osb_platform_many_02", of02}} {
+		url := pgtest.Schema(t, pgtest.URL(t), it.schema)
+		pgtest.Exec(t, pgtest.DB(t, url), it.tables...)
+		var all sync.WaitGroup
+		for n := 0; n < 6; n++ {
+			all.Add(1)
+			go func() {
+				defer all.Done()
+				store, err := postgres.Open(background, url, 1)
+				if err != nil {
+					t.Errorf("%s: %v", it.schema, err)
+					return
+				}
+				if err := store.Close(); err != nil {
+					t.Error(err)
+				}
+			}()
+		}
+		all.Wait()
+	}
+}
+
+// A role that may not change tables serves tables that need no change, and is told what to do about others. So no
+// command has a statement that locks a table: each needs the owner.
+func TestARoleThatMayNotAlter(t *testing.T) {
+	url := pgtest.Schema(t, pgtest.URL(t), "osb_platform_rights")
+	db := pgtest.DB(t, url)
+	pgtest.Exec(t, db, of02...)
+	pgtest.Exec(t, db, insert02(7, rows02[7]), "DROP ROLE IF EXISTS osb_platform_writer",
+		"CREATE ROLE osb_platform_writer LOGIN PASSWORD 'x'",
+		"GRANT USAGE ON SCHEMA osb_platform_rights TO osb_platform_writer",
+		"ALTER DEFAULT PRIVILEGES IN SCHEMA osb_platform_rights "+
+			"GRANT SELECT, INSERT, UPDATE, DELETE ON TABLES TO osb_platform_writer",
+		"GRANT SELECT, INSERT, UPDATE, DELETE ON ALL TABLES IN SCHEMA osb_platform_rights TO osb_platform_writer")
+	t.Cleanup(func() { pgtest.Exec(t, db, "DROP OWNED BY osb_platform_writer", "DROP ROLE osb_platform_writer") })
+	as := pgtest.As(t, url, "osb_platform_writer", "x")
+	if _, err := postgres.Open(background, as, 1); err == nil || !strings.Contains(err.Error(), "as their owner") {
+		t.Errorf("before the tables were extended: %v", err)
+	}
+	owner := open(t, url)
+	addBroker(t, owner)
+	_ = owner.Close()
+	store, err := postgres.Open(background, as, 2)
+	if err != nil {
+		t.Fatal(err)
+	}
+	defer store.Close()
+	for name, call := range calls(store, instance(7), binding(1, 7)) {
+		if err := call(); err != nil {
+			t.Errorf("%s: %v", name, err)
+		}
+	}
+}
+
+// calls are calls of a store over an instance and a new binding of it, in an order that works.
+func calls(store platform.Store, key, of platform.Key) map[string]func() error {
+	rest := func(_ time.Time, held platform.Held) (*platform.Change, error) {
+		held.Entry.Unchanged++
+		return &platform.Change{Entry: held.Entry, RemoveBindings: !held.Key.IsBinding, WakeInstance: true}, nil
+	}
+	all := reads(store, key)
+	for name, call := range map[string]func() error{
+		"Insert and Change": func() error {
+			if err := store.Insert(background, order(of), accept); err != nil {
+				return err
+			}
+			if err := store.Change(background, of, rest); err != nil {
+				return err
+			}
+			return store.Change(background, key, rest)
+		},
+		"Claim": func() error {
+			_, err := store.Claim(background, []string{"one"}, 10, rest)
+			return err
+		},
+		"Free":        func() error { return store.Free(background, "me") },
+		"Ready":       func() error { return store.Ready(background) },
+		"Fingerprint": func() error { _, err := store.Fingerprint(background, "x"); return err },
+		"AddBroker, ChangeBroker and DropBroker": func() error {
+			if err := store.AddBroker(background, platform.Broker{Name: "b", URL: "http://b"}); err != nil {
+				return err
+			}
+			move := func(it platform.Broker) (*platform.Broker, error) { it.URL = "http://c"; return &it, nil }
+			if err := store.ChangeBroker(background, "b", move); err != nil {
+				return err
+			}
+			return store.DropBroker(background, "b")
+		},
+		"Only": func() error {
+			end, _, err := store.Only(background, "osb_platform_test_of_calls")
+			if err == nil && end == nil {
+				return errors.New("another has the name")
+			}
+			if err == nil {
+				end()
+			}
+			return err
+		},
+	} {
+		all[name] = call
+	}
+	return all
+}
+
+// reads are the calls of a store that only read.
+func reads(store platform.Store, key platform.Key) map[string]func() error {
+	return map[string]func() error{
+		"Read":     func() error { _, err := store.Read(background, key); return err },
+		"List":     func() error { _, err := store.List(background, platform.Filter{}); return err },
+		"Life":     func() error { _, err := store.Life(background, key); return err },
+		"Counts":   func() error { _, err := store.Counts(background); return err },
+		"InFlight": func() error { _, err := store.InFlight(background, 10); return err },
+		"NextDue":  func() error { _, _, err := store.NextDue(background, []string{"one"}); return err },
+		"Brokers":  func() error { _, err := store.Brokers(background); return err },
+	}
+}
+
+// order is the row of an order that is due.
+func order(key platform.Key) platform.Entry {
+	return platform.Entry{
+		Order: platform.Order{
+			Key: key, Broker: "one", Service: osb.MustParseID(theService), Plan: osb.MustParseID(thePlan),
+			Names: platform.Names{Instance: key.Instance.String(), Service: theService, Plan: thePlan},
+			Space: "a space", Organization: "an organization", Body: []byte("{}"), Try: 1, Tries: 3, First: key.ID(),
+		},
+		State: platform.Ordered, Since: at(0), Due: at(0),
+	}
+}
+
+func accept(platform.Held) error { return nil }
+
+// addBroker adds the broker of the orders, unless it is there.
+func addBroker(t testing.TB, store platform.Store) {
+	t.Helper()
+	err := store.AddBroker(background, platform.Broker{Name: "one", URL: "http://one"})
+	if err != nil && !errors.Is(err, platform.ErrUsed) {
+		t.Fatalf("AddBroker: %v", err)
+	}
+}
+
+// insert writes the orders of keys, and their broker if it isn't there.
+func insert(t testing.TB, store platform.Store, keys ...platform.Key) {
+	t.Helper()
+	addBroker(t, store)
+	for _, it := range keys {
+		if err := store.Insert(background, order(it), accept); err != nil {
+			t.Fatalf("Insert of %v: %v", it, err)
+		}
+	}
+}
+
+// While others have locked whole tables against all that locks a row, what only reads goes on. So no command starts
+// that waits for a worker, and none keeps a worker waiting.
+func TestReadingLocksNothing(t *testing.T) {
+	url := pgtest.Schema(t, pgtest.URL(t), "osb_platform_reading")
+	store := open(t, url)
+	defer store.Close()
+	insert(t, store, instance(1), binding(1, 1))
+	tx, err := pgtest.DB(t, url).Begin()
+	if err != nil {
+		t.Fatal(err)
+	}
+	defer func() { _ = tx.Rollback() }()
+	const lock = "LOCK TABLE osb_instances, osb_bound, osb_lives, osb_brokers, osb_broker_asked, osb_platform " +
+		"IN EXCLUSIVE MODE"
+	if _, err := tx.Exec(lock); err != nil {
+		t.Fatal(err)
+	}
+	run(t, tx, "SELECT pg_advisory_xact_lock($1)", 0x6F73625F696E7374) // of those that create the tables
+	ctx, cancel := context.WithTimeout(background, 10*time.Second)
+	defer cancel()
+	second, err := postgres.Open(ctx, url, 1)
+	if err != nil {
+		t.Fatalf("Open: %v", err)
+	}
+	defer second.Close()
+	for name, call := range reads(second, instance(1)) {
+		done := make(chan error, 1)
+		go func() { done <- call() }()
+		select {
+		case err := <-done:
+			if err != nil {
+				t.Errorf("%s: %v", name, err)
+			}
+		case <-ctx.Done():
+			t.Fatalf("%s waits", name)
+		}
+	}
+}
+
+func TestAnotherEncoding(t *testing.T) {
+	url := pgtest.URL(t)
+	db := pgtest.DB(t, url)
+	pgtest.Exec(t, db, "DROP DATABASE IF EXISTS osb_platform_latin1",
+		"CREATE DATABASE osb_platform_latin1 ENCODING 'LATIN1' LOCALE 'C' TEMPLATE template0")
+	t.Cleanup(func() { pgtest.Exec(t, db, "DROP DATABASE osb_platform_latin1 WITH (FORCE)") })
+	_, err := postgres.Open(background, pgtest.In(t, url, "osb_platform_latin1"), 1)
+	if err == nil || !strings.Contains(err.Error(), "LATIN1") {
+		t.Errorf("Open: %v", err)
+	}
+}
+
+// A broker and a platform use one database.
+func TestBesideABroker(t *testing.T) {
+	url := pgtest.Schema(t, pgtest.URL(t), "osb_platform_beside")
+	if err := openBroker(url); err != nil {
+		t.Fatal(err)
+	}
+	store := open(t, url)
+	defer store.Close()
+	insert(t, store, instance(1), binding(1, 1))
+	if err := openBroker(url); err != nil {
+		t.Fatal(err)
+	}
+}

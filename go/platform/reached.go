@@ -1,0 +1,355 @@
+package platform
+
+import (
+	"bytes"
+	"context"
+	"encoding/json"
+	"errors"
+	"fmt"
+	"net/http"
+	"reflect"
+	"sort"
+	"sync"
+	"time"
+)
+
+// The times between two requests for a catalogue that wasn't had.
+const (
+	firstAsking   = 100 * time.Millisecond
+	longestAsking = 5 * time.Second
+)
+
+// sites are the brokers of a Store, as a run knows them. Each is asked for its catalogue before anything is sent to it.
+// So a broker that is down, and a wrong password, cost no order.
+type sites struct {
+	*Engine
+	ctx     context.Context // of all that is asked
+	stop    context.CancelFunc
+	group   *sync.WaitGroup // of all goroutines
+	changed chan struct{}   // has a value once a broker was reached
+
+	mu     sync.Mutex
+	byName map[string]*site
+}
+
+// A site is a broker. It is reached if it has a catalogue.
+type site struct {
+	broker    Broker
+	catalogue *Catalogue
+	cancel    context.CancelFunc // ends the goroutine that asks for the catalogue, now and later
+}
+
+func newSites(ctx context.Context, e *Engine, group *sync.WaitGroup) *sites {
+	asking, stop := context.WithCancel(ctx)
+	return &sites{
+		Engine: e, ctx: asking, stop: stop, group: group, changed: make(chan struct{}, 1), byName: map[string]*site{},
+	}
+}
+
+// watch notices brokers that are added, changed or dropped, until stop.
+func (s *sites) watch() {
+	s.group.Add(1)
+	go func() {
+		defer s.group.Done()
+		for {
+			brokers, err := s.store.Brokers(s.ctx)
+			if !s.once.failed("store_failed", "", err) {
+				s.refresh(brokers)
+			}
+			if !sleep(s.ctx, s.Look) {
+				return
+			}
+		}
+	}()
+}
+
+// refresh takes in which brokers there are. One that is new, or that is asked in another way, is asked for its
+// catalogue.
+func (s *sites) refresh(brokers []Broker) {
+	s.mu.Lock()
+	defer s.mu.Unlock()
+	dropped := map[string]bool{}
+	for name := range s.byName {
+		dropped[name] = true
+	}
+	for _, it := range brokers {
+		delete(dropped, it.Name)
+		have := s.byName[it.Name]
+		if have != nil && isAskedAlike(have.broker, it) {
+			continue
+		}
+		if have != nil {
+			have.cancel()
+		}
+		s.byName[it.Name] = &site{broker: it}
+		s.ask(s.ctx, s.byName[it.Name], s.group, s.Catalogues)
+	}
+	for name := range dropped {
+		s.byName[name].cancel()
+		delete(s.byName, name)
+	}
+}
+
+// isAskedAlike is whether two versions of a broker have the same address, login and settings.
+func isAskedAlike(one, other Broker) bool {
+	for _, it := range []*Broker{&one, &other} {
+		it.Catalogue, it.CatalogueAt, it.Reason = nil, time.Time{}, Reason{}
+		if len(it.Password) == 0 {
+			it.Password = nil
+		}
+	}
+	return reflect.DeepEqual(one, other)
+}
+
+// ask has a goroutine ask a broker for its catalogue until it is answered, and again and again after every so long. It
+// is asked once if every is 0. The goroutine ends once ctx is done, or the site's cancel is called.
+func (s *sites) ask(ctx context.Context, it *site, group *sync.WaitGroup, every time.Duration) {
+	asking, cancel := context.WithCancel(ctx)
+	it.cancel = cancel
+	broker := it.broker
+	group.Add(1)
+	go func() {
+		defer group.Done()
+		defer cancel()
+		for s.askOnce(asking, it, broker) && every > 0 && sleep(asking, every) {
+		}
+	}()
+}
+
+// askOnce asks a broker for its catalogue until it is answered. It returns false if ctx is done before. Until then the
+// last catalogue counts.
+func (s *sites) askOnce(ctx context.Context, it *site, broker Broker) bool {
+	for rest := firstAsking; ; rest *= 2 {
+		catalogue, err := s.catalogue(ctx, broker)
+		if err == nil {
+			s.reach(ctx, it, catalogue)
+			return true
+		}
+		if ctx.Err() == nil {
+			s.once.failed("broker_unreached", broker.Name, err)
+		}
+		if rest > longestAsking {
+			rest = longestAsking
+		}
+		if !sleep(ctx, rest) {
+			return false
+		}
+	}
+}
+
+// reach takes in that a broker has answered its catalogue, unless nobody asks for this answer any more.
+func (s *sites) reach(ctx context.Context, it *site, catalogue *Catalogue) {
+	s.mu.Lock()
+	isOver, isNew := ctx.Err() != nil, it.catalogue == nil
+	if !isOver {
+		it.catalogue = catalogue
+	}
+	s.mu.Unlock()
+	if isOver {
+		return
+	}
+	s.once.failed("broker_unreached", it.broker.Name, nil)
+	if !isNew {
+		return
+	}
+	s.observer.Reached(it.broker.Name)
+	select {
+	case s.changed <- struct{}{}:
+	default:
+	}
+}
+
+// catalogue asks for the catalogue once, and has it, or why it wasn't had, in the Store.
+func (s *sites) catalogue(ctx context.Context, broker Broker) (*Catalogue, error) {
+	limited, cancel := context.WithTimeout(ctx, s.Exchange)
+	defer cancel()
+	document, status, err := s.client.Catalogue(limited, broker)
+	var read *Catalogue
+	if err == nil {
+		read, err = ReadCatalogue(document)
+	}
+	if err != nil {
+		if status == http.StatusUnauthorized || status == http.StatusForbidden {
+			err = fmt.Errorf("the broker refuses the user or the password: %w", err)
+		}
+		reason := Reason{Kind: "catalogue", Status: status, Lost: atMost(err.Error())}
+		if written := s.keep(ctx, broker, nil, reason); written != nil && !errors.Is(written, errChanged) {
+			s.once.failed("store_failed", "", written)
+		}
+		return nil, err
+	}
+	return read, s.keep(ctx, broker, document, Reason{})
+}
+
+var errChanged = errors.New("the broker was changed or dropped meanwhile")
+
+// keep writes a catalogue, or why it wasn't had, unless the Store has the same. If the broker was changed or dropped
+// meanwhile, nothing is written, and the error is errChanged.
+func (s *sites) keep(ctx context.Context, asked Broker, document json.RawMessage, reason Reason) error {
+	now, err := timeOf(ctx, s.store)
+	if err != nil {
+		return err
+	}
+	err = s.store.ChangeBroker(ctx, asked.Name, func(it Broker) (*Broker, error) {
+		if !isAskedAlike(it, asked) {
+			return nil, errChanged
+		}
+		before := it.Reason
+		before.At = time.Time{}
+		isKept := document == nil || isSameJSON(it.Catalogue, document)
+		if before == reason && isKept {
+			return nil, nil
+		}
+		if it.Reason = reason; document == nil {
+			it.Reason.At = now
+		}
+		if !isKept {
+			it.Catalogue, it.CatalogueAt = document, now
+		}
+		return &it, nil
+	})
+	if errors.Is(err, ErrUnknown) {
+		return errChanged
+	}
+	return err
+}
+
+// timeOf is the time of a Store.
+func timeOf(ctx context.Context, store Store) (time.Time, error) {
+	_, now, err := store.NextDue(ctx, nil)
+	return now, err
+}
+
+// isSameJSON is whether two texts are the same JSON, in whatever form a database returns it.
+func isSameJSON(one, other json.RawMessage) bool {
+	if bytes.Equal(one, other) {
+		return true
+	}
+	var first, second any
+	if json.Unmarshal(one, &first) != nil || json.Unmarshal(other, &second) != nil {
+		return false
+	}
+	return reflect.DeepEqual(first, second)
+}
+
+// lose has a broker asked for its catalogue again before anything more is sent, since it refuses the user or the
+// password.
+func (s *sites) lose(asked Broker, status int) {
+	s.mu.Lock()
+	it := s.byName[asked.Name]
+	isLost := it != nil && it.catalogue != nil && isAskedAlike(it.broker, asked) && s.ctx.Err() == nil
+	if isLost {
+		it.cancel()
+		it.catalogue = nil
+		s.ask(s.ctx, it, s.group, s.Catalogues)
+	}
+	s.mu.Unlock()
+	if isLost {
+		err := fmt.Errorf("status %d: nothing more is sent until it answers its catalogue", status)
+		s.observer.Failed(Failure{Event: "broker_refuses", Broker: asked.Name, Err: err})
+	}
+}
+
+// names are those of the brokers that are reached. known is how many brokers there are.
+func (s *sites) names() (names []string, known int) {
+	s.mu.Lock()
+	defer s.mu.Unlock()
+	for name, it := range s.byName {
+		if it.catalogue != nil {
+			names = append(names, name)
+		}
+	}
+	sort.Strings(names)
+	return names, len(s.byName)
+}
+
+// reachAll asks each broker for its catalogue, for as long as an exchange may last.
+func (s *sites) reachAll() error {
+	brokers, err := s.store.Brokers(s.ctx)
+	if err != nil {
+		return err
+	}
+	limited, cancel := context.WithTimeout(s.ctx, s.Exchange)
+	defer cancel()
+	var group sync.WaitGroup
+	s.mu.Lock()
+	for _, it := range brokers {
+		s.byName[it.Name] = &site{broker: it}
+		s.ask(limited, s.byName[it.Name], &group, 0)
+	}
+	s.mu.Unlock()
+	group.Wait()
+	return s.ctx.Err()
+}
+
+// unreached are the names of the brokers that aren't reached.
+func (s *sites) unreached() (names []string) {
+	s.mu.Lock()
+	defer s.mu.Unlock()
+	for name, it := range s.byName {
+		if it.catalogue == nil {
+			names = append(names, name)
+		}
+	}
+	sort.Strings(names)
+	return names
+}
+
+// decide decides on a row by the terms of its broker. It returns nil if the broker isn't reached any more: the row
+// stays.
+func (s *sites) decide(now time.Time, held Held) (*decision, error) {
+	s.mu.Lock()
+	it := s.byName[held.Broker]
+	if it == nil || it.catalogue == nil {
+		s.mu.Unlock()
+		return nil, nil
+	}
+	broker, catalogue := it.broker, it.catalogue
+	s.mu.Unlock()
+	t := s.terms(broker, catalogue, held.Entry)
+	allGone := false
+	if needsAllGone(held.Entry, t) {
+		var err error
+		if allGone, err = held.AllGone(); err != nil {
+			return nil, err
+		}
+	}
+	made := decide(now, held, allGone, t)
+	if made.send != nil {
+		made.send.out.Broker = broker
+	}
+	return &made, nil
+}
+
+// terms are those of a row.
+func (s *sites) terms(broker Broker, catalogue *Catalogue, e Entry) terms {
+	settings := broker.Settings
+	service, plan := catalogue.numbered(e.Service, e.Plan)
+	t := terms{
+		pace: pace{
+			first: or(settings.FirstPace, s.FirstPace), longest: or(settings.LongestPace, s.LongestPace),
+			share: s.Share,
+		},
+		worker: s.Worker, exchange: s.Exchange, margin: s.Margin,
+		longestPoll: s.LongestPoll, hold: s.Hold,
+		removesUnsettled: s.Unsettled == RemoveUnsettled,
+		isRetrievable:    service != nil && service.IsRetrievable,
+		newID:            s.newID,
+	}
+	if plan != nil && plan.LongestPoll > 0 {
+		t.longestPoll = plan.LongestPoll
+	}
+	if catalogue.HasTombstones {
+		t.hold = 0
+	}
+	t.longestPoll, t.hold = or(settings.LongestPoll, t.longestPoll), or(settings.Hold, t.hold)
+	return t
+}
+
+// or is what is set, or what else counts.
+func or(set *time.Duration, standby time.Duration) time.Duration {
+	if set != nil {
+		return *set
+	}
+	return standby
+}

@@ -1,0 +1,133 @@
+package platform
+
+import (
+	"context"
+	"encoding/json"
+	"errors"
+	"time"
+
+	"pippinterm/osb"
+)
+
+// Remove has an instance or a binding deleted. An order that wasn't sent is withdrawn. withBindings has the bindings of
+// an instance deleted first. It returns the row after that; if the row is gone or withdrawn already, it stays as it is.
+//
+// Errors: a Fault if the key is unknown, or if the instance has bindings and withBindings is false; those of the Store.
+// A binding that is abandoned doesn't count.
+func (o *Orders) Remove(ctx context.Context, key Key, withBindings bool) (Entry, error) {
+	return o.change(ctx, key, func(now time.Time, held Held) (*Change, error) {
+		e := held.Entry
+		switch {
+		case e.State == Gone || e.State == Withdrawn:
+			return nil, nil
+		case e.State == Abandoned:
+			return nil, fault(Conflict, "%s %v is abandoned: nothing is sent any more", what(key), key)
+		case !e.IsSent:
+			e.State, e.Since, e.Due, e.Removal = Withdrawn, now, time.Time{}, Removed
+			return &Change{Entry: e, WakeInstance: key.IsBinding}, nil
+		}
+		removal := Removed
+		if !key.IsBinding {
+			allGone, err := held.AllGone()
+			switch {
+			case err != nil:
+				return nil, err
+			case withBindings:
+				removal = RemovedWhole
+			case !allGone && e.Removal != RemovedWhole:
+				return nil, fault(Conflict, "the instance %v has bindings: remove them first, or with it", key)
+			}
+		}
+		if e.Removal < removal {
+			e.Removal = removal
+		}
+		e.Due = now
+		return &Change{Entry: e, RemoveBindings: !key.IsBinding && withBindings}, nil
+	})
+}
+
+// Retry has a deletion sent again that hangs in cleaning-polling, and every other step that is due later done at once.
+//
+// Errors: a Fault if the key is unknown, or nothing is to be done for it; those of the Store.
+func (o *Orders) Retry(ctx context.Context, key Key) (Entry, error) {
+	return o.change(ctx, key, func(now time.Time, held Held) (*Change, error) {
+		e := held.Entry
+		switch {
+		case e.Rests():
+			return nil, fault(Conflict, "%s %v is %s: nothing is to be done for it", what(key), key, e.State)
+		case e.IsSent && e.Record.InFlight() != osb.KindNone && now.Before(e.Lease.Until):
+			return nil, fault(Conflict, "a request of %s %v is in flight: try again later", what(key), key)
+		case e.IsSent && e.Record.InFlight() != osb.KindNone: // its worker has ended
+			if err := e.giveUp(now); err != nil {
+				return nil, err
+			}
+		}
+		if e.State == CleaningPolling {
+			record, err := e.Record.Retry()
+			if err != nil {
+				return nil, err
+			}
+			e.come(now, record)
+		}
+		e.Due, e.Unchanged = now, 0
+		return &Change{Entry: e}, nil
+	})
+}
+
+// Abandon ends the record as abandoned, for a reason that an operator gives. Nothing is sent any more. Nobody knows
+// whether the resource exists. If a binding of an instance may exist, the instance can't be abandoned. An instance
+// whose bindings are gone or abandoned can be removed, and it can be abandoned.
+//
+// Errors: a Fault; those of the Store.
+func (o *Orders) Abandon(ctx context.Context, key Key, because string) (Entry, error) {
+	if because == "" {
+		return Entry{}, fault(Invalid, "give a reason for which %s %v is abandoned", what(key), key)
+	}
+	return o.change(ctx, key, func(now time.Time, held Held) (*Change, error) {
+		e := held.Entry
+		switch {
+		case e.State == Gone && !e.HasLast, e.State == Withdrawn, e.State == Abandoned:
+			return nil, fault(Conflict, "%s %v is %s already", what(key), key, e.State)
+		case !e.IsSent:
+			return nil, fault(Conflict, "%s %v wasn't sent yet: remove it", what(key), key)
+		}
+		if !key.IsBinding {
+			allGone, err := held.AllGone()
+			if err != nil {
+				return nil, err
+			}
+			if !allGone {
+				return nil, fault(Conflict, "a binding of the instance %v may exist: remove its bindings first", key)
+			}
+		}
+		e.Because = because
+		e.Due, e.Lease, e.HasLast, e.Credentials, e.Operation = time.Time{}, Lease{}, false, nil, nil
+		if e.State != Gone { // of what is gone, only the last deletion is abandoned
+			e.State, e.Since = Abandoned, now
+		}
+		return &Change{Entry: e, WakeInstance: key.IsBinding}, nil
+	})
+}
+
+// Credentials returns the object of a binding that is ready, as the broker has answered it.
+//
+// Errors: a Fault if the key is unknown or not ready, or there is no vault; those of the Store and the Vault.
+func (o *Orders) Credentials(ctx context.Context, key Key) (json.RawMessage, error) {
+	if !key.IsBinding {
+		return nil, fault(Invalid, "%v is an instance: bindings have credentials", key)
+	}
+	if o.vault == nil {
+		return nil, fault(Conflict, "there is no key to read credentials with: give the program the right one")
+	}
+	e, err := o.store.Read(ctx, key)
+	if err != nil {
+		return nil, unknown(key, err)
+	}
+	if e.State != Ready {
+		return nil, fault(Conflict, "the binding %v is %s: it has credentials while it is ready", key, e.State)
+	}
+	if e.Credentials == nil {
+		return nil, errors.New("a binding that is ready has no credentials in the store")
+	}
+	return o.vault.Open(e.Credentials, key.String())
+}

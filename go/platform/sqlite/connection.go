@@ -1,0 +1,290 @@
+package sqlite
+
+import (
+	"context"
+	"database/sql/driver"
+	"fmt"
+	"strings"
+	"time"
+
+	"pippinterm/platform"
+	"pippinterm/program/sqlite"
+)
+
+// A connection is one of the file, with its statements. One goroutine at a time uses it.
+type connection struct {
+	*sqlitefile.Conn
+	instances, bindings          table
+	stay, anyBinding             *sqlitefile.Statement
+	removeBindings, wakeInstance *sqlitefile.Statement
+	freeInstances, freeBindings  *sqlitefile.Statement
+	due                          map[int]*sqlitefile.Statement // by the number of brokers
+	lists                        map[string]*sqlitefile.Statement
+	life, inFlight, counts       *sqlitefile.Statement
+	brokers, broker              *sqlitefile.Statement
+	insertBroker, updateBroker   *sqlitefile.Statement
+	dropBroker, brokerUsed       *sqlitefile.Statement
+	fingerprint, putFingerprint  *sqlitefile.Statement
+	ready                        *sqlitefile.Statement
+}
+
+// A table has the statements of one of the two tables of rows.
+type table struct{ read, insert, update, updateInState, postpone *sqlitefile.Statement }
+
+// prepared prepares the statements for a connection.
+func prepared(ctx context.Context, conn *sqlitefile.Conn) (*connection, error) {
+	c := &connection{
+		Conn: conn, due: map[int]*sqlitefile.Statement{}, lists: map[string]*sqlitefile.Statement{},
+	}
+	for _, texts := range []map[**sqlitefile.Statement]string{c.ofRows(), c.ofOthers(), c.ofReading(), c.ofBrokers()} {
+		for to, text := range texts {
+			var err error
+			if *to, err = conn.Prepare(ctx, text); err != nil {
+				return nil, err
+			}
+		}
+	}
+	return c, nil
+}
+
+// ofRows are the statements of one row.
+func (c *connection) ofRows() map[**sqlitefile.Statement]string {
+	instance := append(append([]string{"id"}, orderColumns...), stateColumns...)
+	binding := append(append([]string{"instance", "id"}, orderColumns...), bindingOrder...)
+	ofBinding := append(append([]string{}, stateColumns...), bindingState...)
+	binding = append(binding, ofBinding...)
+	return map[**sqlitefile.Statement]string{
+		&c.instances.read:   "SELECT " + instanceRow + " FROM osb_instances WHERE id = ?",
+		&c.bindings.read:    "SELECT " + bindingRow + " FROM osb_bindings WHERE instance = ? AND id = ?",
+		&c.instances.insert: inserting("osb_instances", instance...),
+		&c.bindings.insert:  inserting("osb_bindings", binding...),
+		&c.instances.update: updating("osb_instances", "id = ?", stateColumns),
+		&c.bindings.update:  updating("osb_bindings", "instance = ? AND id = ?", ofBinding),
+
+		&c.instances.updateInState: updating("osb_instances", "id = ?", stateColumns[lasting:]),
+		&c.bindings.updateInState:  updating("osb_bindings", "instance = ? AND id = ?", ofBinding[lasting:]),
+
+		&c.instances.postpone: updating("osb_instances", "id = ?", []string{"due"}),
+		&c.bindings.postpone:  updating("osb_bindings", "instance = ? AND id = ?", []string{"due"}),
+	}
+}
+
+// earlier is when a row is due that is due at the time ?1 at the latest.
+const earlier = "min(coalesce(due, ?1), ?1)"
+
+// ofOthers are the statements of what is written or asked beside a row.
+func (c *connection) ofOthers() map[**sqlitefile.Statement]string {
+	free := " SET worker = NULL, leased_until = NULL, due = " + earlier + " WHERE worker = ?2"
+	return map[**sqlitefile.Statement]string{
+		&c.stay: "INSERT INTO osb_lives (id, number, state, since) SELECT ?1, coalesce(max(number), 0) + 1, ?2, ?3 " +
+			"FROM osb_lives WHERE id = ?1",
+		&c.anyBinding: "SELECT 1 FROM osb_bindings WHERE instance = ? AND may_exist LIMIT 1",
+		&c.removeBindings: fmt.Sprintf("UPDATE osb_bindings SET removal = max(removal, %d), due = %s "+
+			"WHERE instance = ?2 AND state NOT IN ('%s', '%s', '%s')",
+			platform.Removed, earlier, platform.Gone, platform.Withdrawn, platform.Abandoned),
+		&c.wakeInstance:  "UPDATE osb_instances SET due = " + earlier + " WHERE id = ?2 AND removal <> 0",
+		&c.freeInstances: "UPDATE osb_instances" + free,
+		&c.freeBindings:  "UPDATE osb_bindings" + free,
+		&c.fingerprint:   "SELECT fingerprint FROM osb_store",
+		&c.putFingerprint: "INSERT INTO osb_store VALUES (1, ?) ON CONFLICT (one) DO UPDATE " +
+			"SET fingerprint = excluded.fingerprint WHERE fingerprint IS NULL",
+		&c.ready: "INSERT INTO osb_readiness VALUES (1, ?) ON CONFLICT (one) DO UPDATE SET asked = excluded.asked",
+	}
+}
+
+// ofReading are the statements that read for people.
+func (c *connection) ofReading() map[**sqlitefile.Statement]string {
+	oldest := func(table string) string {
+		return "(SELECT min(since) FROM " + table + " AS r WHERE r.broker = counts.broker AND r.state = counts.state)"
+	}
+	return map[**sqlitefile.Statement]string{
+		&c.life: "SELECT state, since FROM osb_lives WHERE id = ? ORDER BY number",
+		&c.inFlight: "SELECT leased_until, id, '' FROM osb_instances WHERE worker IS NOT NULL UNION ALL " +
+			"SELECT leased_until, instance, id FROM osb_bindings WHERE worker IS NOT NULL ORDER BY 1, 2, 3 LIMIT ?",
+		&c.counts: "SELECT broker, is_binding, state, count, CASE is_binding WHEN 0 THEN " + oldest("osb_instances") +
+			" ELSE " + oldest("osb_bindings") + " END FROM osb_counts AS counts WHERE count > 0",
+	}
+}
+
+// ofBrokers are the statements of brokers.
+func (c *connection) ofBrokers() map[**sqlitefile.Statement]string {
+	return map[**sqlitefile.Statement]string{
+		&c.brokers:      "SELECT name, " + joined(brokerColumns) + " FROM osb_brokers ORDER BY name",
+		&c.broker:       "SELECT name, " + joined(brokerColumns) + " FROM osb_brokers WHERE name = ?",
+		&c.insertBroker: inserting("osb_brokers", append([]string{"name"}, brokerColumns...)...),
+		&c.updateBroker: updating("osb_brokers", "name = ?", brokerColumns),
+		&c.dropBroker:   "DELETE FROM osb_brokers WHERE name = ?",
+		&c.brokerUsed: "SELECT 1 FROM osb_instances WHERE broker = ?1 UNION ALL " +
+			"SELECT 1 FROM osb_bindings WHERE broker = ?1 LIMIT 1",
+	}
+}
+
+// of is the table of a key.
+func (c *connection) of(key platform.Key) *table {
+	if key.IsBinding {
+		return &c.bindings
+	}
+	return &c.instances
+}
+
+// entry reads a row. Errors: platform.ErrUnknown.
+func (c *connection) entry(key platform.Key) (platform.Entry, error) {
+	values, err := c.of(key).read.One(keyValues(key)...)
+	if err != nil {
+		return platform.Entry{}, err
+	}
+	if values == nil {
+		return platform.Entry{}, platform.ErrUnknown
+	}
+	return entryOf(values)
+}
+
+// held reads what a step is told of a row.
+func (c *connection) held(key platform.Key) (held platform.Held, err error) {
+	if held.Entry, err = c.entry(key); err != nil {
+		return held, err
+	}
+	if key.IsBinding {
+		held.Instance, err = c.instance(key)
+		return held, err
+	}
+	held.AllGone = func() (bool, error) {
+		row, err := c.anyBinding.One(key.Instance.String())
+		return row == nil && err == nil, err
+	}
+	return held, nil
+}
+
+// instance reads the row of a binding's instance.
+func (c *connection) instance(key platform.Key) (*platform.Entry, error) {
+	entry, err := c.entry(platform.InstanceKey(key.Instance))
+	if err != nil {
+		return nil, fmt.Errorf("the instance of %v: %w", key, err)
+	}
+	return &entry, nil
+}
+
+// insert writes a new row. Errors: platform.ErrUsed, and then nothing was written.
+func (c *connection) insert(entry platform.Entry) error {
+	state, err := stateValues(entry)
+	if err != nil {
+		return err
+	}
+	values := append(keyValues(entry.Key), orderValues(entry.Order)...)
+	rows, err := c.of(entry.Key).insert.Run(append(values, state...)...)
+	if err == nil && rows == 0 {
+		return platform.ErrUsed
+	}
+	return err
+}
+
+// isOne is whether a change is one statement, which needs nothing else to be undone.
+func isOne(before platform.Entry, change *platform.Change) bool {
+	return change.Next == nil && before.State == change.Entry.State && !change.RemoveBindings && !change.WakeInstance
+}
+
+// write writes a change of a row. If it fails, a part of it may be written, which the caller undoes.
+func (c *connection) write(now time.Time, before platform.Entry, change *platform.Change) error {
+	if change.Next != nil {
+		if err := c.insert(*change.Next); err != nil {
+			return fmt.Errorf("the next order, %v: %w", change.Next.Key, err)
+		}
+	}
+	key, after := before.Key, change.Entry
+	after.Order = before.Order // it never changes
+	if before.State != after.State {
+		if _, err := c.stay.Run(key.String(), string(before.State), seconds(before.Since)); err != nil {
+			return err
+		}
+	}
+	values, err := stateValues(after)
+	if err != nil {
+		return err
+	}
+	update := c.of(key).update
+	if before.State == after.State && seconds(before.Since) == seconds(after.Since) {
+		update, values = c.of(key).updateInState, values[lasting:]
+	}
+	if _, err := update.Run(append(values, keyValues(key)...)...); err != nil {
+		return err
+	}
+	return c.writeBeside(now, key, change)
+}
+
+// writeBeside writes what a change of a row has for other rows.
+func (c *connection) writeBeside(now time.Time, key platform.Key, change *platform.Change) error {
+	if change.RemoveBindings {
+		if _, err := c.removeBindings.Run(seconds(now), key.Instance.String()); err != nil {
+			return err
+		}
+	}
+	if change.WakeInstance {
+		if _, err := c.wakeInstance.Run(seconds(now), key.Instance.String()); err != nil {
+			return err
+		}
+	}
+	return nil
+}
+
+// keysDue returns when rows of these brokers are due, and their keys: those that are due until the time, and that
+// nobody has leased now, at most so many, the longest due first.
+func (c *connection) keysDue(brokers []string, until, now driver.Value, most int) (found []dueKey, err error) {
+	for len(brokers) > 0 && err == nil {
+		count := len(brokers)
+		if count > brokersAtOnce {
+			count = brokersAtOnce
+		}
+		var statement *sqlitefile.Statement
+		if statement, err = c.dueOf(count); err != nil {
+			return nil, err
+		}
+		values := []driver.Value{until, now, int64(most)}
+		for _, it := range brokers[:count] {
+			values = append(values, it)
+		}
+		brokers = brokers[count:]
+		err = statement.Each(values, func(values []driver.Value) error {
+			r := &row{values: values}
+			it := dueKey{at: r.at(), key: r.keyOfTexts()}
+			found = append(found, it)
+			return r.err
+		})
+	}
+	return longestDue(found, most), err
+}
+
+// keyOfTexts is a key whose binding is an empty text for an instance.
+func (r *row) keyOfTexts() platform.Key {
+	if r.values[1] == "" {
+		r.values[1] = nil
+	}
+	return r.key()
+}
+
+// brokersAtOnce is how many brokers one statement asks for: SQLite takes no more than 500 parts.
+const brokersAtOnce = 100
+
+// dueOf is the statement for so many brokers.
+func (c *connection) dueOf(count int) (*sqlitefile.Statement, error) {
+	if statement := c.due[count]; statement != nil {
+		return statement, nil
+	}
+	statement, err := c.Prepare(context.Background(), dueText(count))
+	if err == nil {
+		c.due[count] = statement
+	}
+	return statement, err
+}
+
+// dueText is the text of that statement. Each of its parts reads an index from its beginning.
+func dueText(count int) string {
+	var parts []string
+	for n := 0; n < count; n++ {
+		for _, it := range [][2]string{{"osb_instances", "id, ''"}, {"osb_bindings", "instance, id"}} {
+			parts = append(parts, fmt.Sprintf("SELECT * FROM (SELECT due, %s FROM %s INDEXED BY %s_to_do "+
+				"WHERE broker = ?%d AND due IS NOT NULL AND due <= ?1 AND (leased_until IS NULL OR leased_until < ?2) "+
+				"ORDER BY due LIMIT ?3)", it[1], it[0], it[0], n+4))
+		}
+	}
+	return strings.Join(parts, " UNION ALL ") + " ORDER BY 1, 2, 3 LIMIT ?3"
+}

@@ -1,0 +1,28 @@
+package sqlite_test
+
+import (
+	"context"
+	"os"
+	"path/filepath"
+	"testing"
+
+	"pippinterm/platform"
+	"pippinterm/platform/sqlite"
+	"pippinterm/platform/storetest"
+)
+
+// What every store must do.
+func TestStore(t *testing.T) {
+	folder, err := os.MkdirTemp("", "osb-sqlite")
+	if err != nil {
+		t.Fatal(err)
+	}
+	t.Cleanup(func() { _ = os.RemoveAll(folder) })
+	storetest.Test(t, func(t *testing.T) platform.Store {
+		store, err := sqlite.Open(context.Background(), filepath.Join(folder, storetest.NameOf(t)))
+		if err != nil {
+			t.Fatal(err)
+		}
+		return store
+	})
+}

@@ -1,0 +1,136 @@
+package sqlite
+
+import (
+	"bufio"
+	"errors"
+	"fmt"
+	"io"
+	"os"
+	"os/exec"
+	"path/filepath"
+	"testing"
+	"time"
+
+	"pippinterm/platform"
+)
+
+// pathVariable makes the test binary another process of a test: the worker child of the file that the variable names.
+const pathVariable = "OSB_TEST_SQLITE_FILE"
+
+func TestMain(m *testing.M) {
+	path := os.Getenv(pathVariable)
+	if path == "" {
+		os.Exit(m.Run())
+	}
+	if err := play(path); err != nil {
+		fmt.Fprintln(os.Stderr, err)
+		os.Exit(1)
+	}
+}
+
+// play is the worker child, counts, and goes on until standard input ends.
+func play(path string) error {
+	s, err := Open(background, path)
+	if err != nil {
+		return err
+	}
+	end, _, err := s.Only(background, "child")
+	if err == nil && end == nil {
+		err = errors.New("there is another child")
+	}
+	if err != nil {
+		return err
+	}
+	fmt.Println("begun")
+	if err := count(s); err != nil {
+		return err
+	}
+	fmt.Println("counted")
+	_, err = io.Copy(io.Discard, os.Stdin)
+	return err
+}
+
+const each = 50
+
+// count counts in a row.
+func count(s *Store) error {
+	for n := 0; n < each; n++ {
+		err := s.Change(background, keyOf(1), func(_ time.Time, held platform.Held) (*platform.Change, error) {
+			held.Entry.Unchanged++
+			return &platform.Change{Entry: held.Entry}, nil
+		})
+		if err != nil {
+			return err
+		}
+	}
+	return nil
+}
+
+// A child is another process, which says how far it has come.
+type child struct {
+	*exec.Cmd
+	input io.Closer
+	lines *bufio.Scanner
+}
+
+func started(t *testing.T, path string) *child {
+	t.Helper()
+	it := &child{Cmd: exec.Command(os.Args[0])}
+	it.Env, it.Stderr = append(os.Environ(), pathVariable+"="+path), os.Stderr
+	input, err := it.StdinPipe()
+	if err != nil {
+		t.Fatal(err)
+	}
+	output, err := it.StdoutPipe()
+	if err == nil {
+		err = it.Start()
+	}
+	if err != nil {
+		t.Fatal(err)
+	}
+	it.input, it.lines = input, bufio.NewScanner(output)
+	return it
+}
+
+// wait waits for the next line of a child.
+func (c *child) wait(t *testing.T, line string) {
+	t.Helper()
+	if !c.lines.Scan() || c.lines.Text() != line {
+		t.Errorf("the child says %q, and not %q", c.lines.Text(), line)
+	}
+}
+
+// kill kills a child, and returns once it has ended.
+func (c *child) kill() {
+	_ = c.Process.Kill()
+	_ = c.Wait()
+	_ = c.input.Close()
+}
+
+// Of two processes that change a row, no change is lost. One sees that the other is a worker, until that one is killed.
+func TestProcesses(t *testing.T) {
+	path := filepath.Join(t.TempDir(), "store")
+	s := withBroker(t, open(t, path))
+	if err := s.Insert(background, order(1), nil); err != nil {
+		t.Fatal(err)
+	}
+	other := started(t, path)
+	defer other.kill()
+	other.wait(t, "begun")
+	if end, _, err := s.Only(background, "child"); err != nil || end != nil {
+		t.Errorf("beside the child: %t, %v", end != nil, err)
+	}
+	if err := count(s); err != nil {
+		t.Error(err)
+	}
+	other.wait(t, "counted")
+	if got, err := s.Read(background, keyOf(1)); err != nil || got.Unchanged != 2*each {
+		t.Errorf("%d of %d were counted: %v", got.Unchanged, 2*each, err)
+	}
+	other.kill()
+	end, _, err := s.Only(background, "child")
+	if err != nil || end == nil {
+		t.Fatalf("once it was killed: %t, %v", end != nil, err)
+	}
+	end()
+}

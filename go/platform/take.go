@@ -1,0 +1,251 @@
+package platform
+
+import (
+	"encoding/json"
+	"errors"
+	"net/http"
+	"time"
+	"unicode/utf8"
+
+	"pippinterm/osb"
+)
+
+// The greatest lengths of what is kept of a broker's words, in bytes.
+const (
+	longestText = 1000
+	longestURL  = 10_000
+)
+
+// A hearing is what came back of an exchange: of a Poll that a Fetch followed, the answer to the Poll and the object of
+// the Fetch.
+type hearing struct {
+	Incoming
+	kind   string // of the request whose reason counts
+	sealed []byte // the object of a binding, sealed, or nil
+}
+
+// taken is what is written once a request was answered, or wasn't. It is nil if nothing is to be written, because
+// another worker has given the request up, or an operator has abandoned the row.
+func taken(now time.Time, held Held, s sending, heard hearing) (*Change, error) {
+	e, t := held.Entry, s.terms
+	if s.isLast() {
+		return takenLast(now, e, s, heard), nil
+	}
+	if !e.IsSent || e.State == Abandoned {
+		return nil, nil
+	}
+	record, err := e.answered(s, heard)
+	if errors.Is(err, osb.ErrNotInFlight) {
+		return nil, nil
+	}
+	if err != nil {
+		return nil, err
+	}
+	read := e.State
+	e.come(now, record)
+	e.Lease = Lease{}
+	e.keep(heard, s)
+	e.Last = reasonOf(now, heard)
+	if isFailedCreation(read, e.State) {
+		e.Failure, e.Passing, e.After = e.Last, heard.isPassing(), atMostAnHour(heard.RetryAfter)
+	}
+	e.schedule(now, s, heard.RetryAfter)
+	change := &Change{Entry: e, WakeInstance: e.Key.IsBinding && e.State == Gone}
+	if e.State == Gone {
+		change.Next, err = nextTry(now, e, t)
+	}
+	return change, err
+}
+
+// answered is the record after the answer to a request, or after a timeout. A binding is ready only with its
+// credentials.
+func (e *Entry) answered(s sending, heard hearing) (osb.Record, error) {
+	if heard.Lost != nil {
+		return e.Record.Timeout(s.attempt)
+	}
+	if !e.Key.IsBinding {
+		return e.Record.Answer(s.attempt, heard.Answer)
+	}
+	record, err := e.Record.AnswerBinding(s.attempt, heard.Answer, s.terms.isRetrievable)
+	if err == nil && record.IsReady() && heard.sealed == nil {
+		return e.Record.Timeout(s.attempt)
+	}
+	return record, err
+}
+
+// keep keeps what an answer says besides.
+func (e *Entry) keep(heard hearing, s sending) {
+	if e.Key.IsBinding && e.State == Ready {
+		e.Credentials = heard.sealed
+	}
+	if heard.Lost != nil {
+		return
+	}
+	if isPolled(e.State) && s.out.Request.Kind != osb.KindPoll {
+		e.Operation = heard.Operation
+	}
+	if s.out.Request.Kind == osb.KindProvision {
+		if url := heard.Details.DashboardURL; url != nil && len(*url) <= longestURL {
+			e.Dashboard = *url
+		}
+	}
+	if heard.Metadata != nil {
+		e.Metadata = append(json.RawMessage(nil), heard.Metadata...)
+	}
+}
+
+// isFailedCreation is whether a creation has failed by what was answered.
+func isFailedCreation(before, after State) bool {
+	return (before == Wanted || before == Polling) && (after == Cleaning || after == Gone || after == Unsettled)
+}
+
+// schedule is when the next step is due after an exchange, and whether one deletion more follows.
+func (e *Entry) schedule(now time.Time, s sending, named time.Duration) {
+	t := s.terms
+	if e.Unchanged++; hasComeOn(s.before, e.State) {
+		e.Unchanged = 0
+	}
+	switch e.State {
+	case Gone:
+		e.Due, e.Unchanged = time.Time{}, 0
+		if e.HasLast = t.hold > 0 && !e.SentUntil.IsZero(); e.HasLast {
+			e.Due = e.lastDue(t)
+		}
+		return
+	case Ready, Unsettled:
+		if e.Due = (time.Time{}); e.isToBeRemoved(t) {
+			e.Due = now
+		}
+		return
+	}
+	unchanged := e.Unchanged
+	if isPolled(e.State) && s.out.Request.Kind != osb.KindPoll { // the first Poll comes soon
+		unchanged = 0
+	}
+	e.Due = later(now.Add(t.pace.wait(unchanged, named)), e.heldUntil(t))
+	if e.isToBeRemoved(t) {
+		e.Due = now
+	}
+	if isPolled(e.State) {
+		e.Due = earlier(e.Due, later(e.PolledSince.Add(t.longestPoll), now))
+	}
+}
+
+// nextTry is the order under another id that follows one that has ended for a passing reason, or nil.
+func nextTry(now time.Time, e Entry, t terms) (*Entry, error) {
+	if e.Key.IsBinding || !e.Passing || e.Removal != NotRemoved || e.Try >= e.Tries {
+		return nil, nil
+	}
+	id, err := t.newID()
+	if err != nil {
+		return nil, err
+	}
+	next := Entry{Order: e.Order, State: Ordered, Since: now}
+	next.Key, next.Names.Instance, next.IsOwnID = InstanceKey(id), id.String(), true
+	next.Try++
+	next.Due = later(now.Add(t.pace.wait(e.Try-1, 0)), e.Failure.At.Add(t.pace.wait(0, e.After)))
+	return &next, nil
+}
+
+// ofGateways are the statuses that gateways, proxies and servers give of themselves (docs/wire.md). After the wrong
+// password or too many requests, the broker may still have what is asked for.
+var ofGateways = map[int]bool{
+	http.StatusUnauthorized: true, http.StatusForbidden: true, http.StatusNotFound: true,
+	http.StatusMethodNotAllowed: true, http.StatusProxyAuthRequired: true, http.StatusRequestTimeout: true,
+	http.StatusPreconditionFailed: true, http.StatusRequestEntityTooLarge: true, http.StatusRequestURITooLong: true,
+	http.StatusUnsupportedMediaType: true, http.StatusTooManyRequests: true,
+	http.StatusRequestHeaderFieldsTooLarge: true,
+}
+
+// isPassing is whether a creation that has failed so may succeed later: no answer came, or none that is surely the
+// broker's, or it was an error of the broker, or too much was asked of it.
+func (h hearing) isPassing() bool {
+	status := int(h.Answer.Status)
+	switch {
+	case h.Lost != nil, ofGateways[status]:
+		return true
+	case status == http.StatusUnprocessableEntity:
+		return h.Answer.Body == osb.BodyConcurrencyError
+	}
+	return status >= 500 && status < 600
+}
+
+// ---- the last deletion of a row that is gone
+
+// An aftermath is what the answer to a last deletion shows.
+type aftermath int
+
+const (
+	nothingLeft   aftermath = iota // or nothing that is known
+	orphanFound                    // the broker had what was recorded as gone
+	orphanUnknown                  // the broker, or a gateway, has rejected the deletion
+)
+
+// judgeLast judges the answer to a last deletion. isOver is whether none follows. The record stays gone in any case.
+func judgeLast(in Incoming) (shown aftermath, isOver bool) {
+	if in.Lost != nil {
+		return nothingLeft, false
+	}
+	status := int(in.Answer.Status)
+	state := osb.DecideDeprovision(in.Answer)
+	switch {
+	case status == http.StatusGone:
+		return nothingLeft, true
+	case state == osb.StateGone:
+		return orphanFound, true
+	case state == osb.StateCleaningPolling:
+		return orphanFound, false
+	case status >= 400 && status < 500 && status != http.StatusUnprocessableEntity:
+		return orphanUnknown, !ofGateways[status]
+	}
+	return nothingLeft, false
+}
+
+// takenLast is what is written after a last deletion, or nil if another worker has leased the row since.
+func takenLast(now time.Time, e Entry, s sending, heard hearing) *Change {
+	lease := s.out.Entry.Lease
+	if e.State != Gone || e.Lease.Worker != lease.Worker || !e.Lease.Until.Equal(lease.Until) {
+		return nil
+	}
+	e.Lease, e.Last = Lease{}, reasonOf(now, heard)
+	if _, isOver := judgeLast(heard.Incoming); isOver {
+		e.HasLast, e.Due, e.Unchanged = false, time.Time{}, 0
+		return &Change{Entry: e}
+	}
+	e.Unchanged++
+	e.Due = now.Add(s.terms.pace.wait(e.Unchanged, heard.RetryAfter))
+	return &Change{Entry: e}
+}
+
+// ---- reasons
+
+// reasonOf is what was said last.
+func reasonOf(now time.Time, heard hearing) Reason {
+	reason := Reason{
+		At: now, Kind: heard.kind, Status: heard.Status,
+		Error: textOf(heard.Details.Error), Description: textOf(heard.Details.Description),
+	}
+	if heard.Lost != nil {
+		reason.Lost = atMost(heard.Lost.Error())
+	}
+	return reason
+}
+
+func textOf(text *string) string {
+	if text == nil {
+		return ""
+	}
+	return atMost(*text)
+}
+
+// atMost is the front of a text that isn't longer than is kept, as whole characters.
+func atMost(text string) string {
+	if len(text) <= longestText {
+		return text
+	}
+	end := longestText
+	for end > 0 && !utf8.RuneStart(text[end]) {
+		end--
+	}
+	return text[:end]
+}

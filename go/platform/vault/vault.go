@@ -1,0 +1,172 @@
+// Package vault seals secrets by AES-256 in Galois/Counter Mode, with a key from a file.
+//
+// What is sealed is
+//
+//	1 byte    the version of this layout: 1
+//	8 bytes   the id of the key
+//	12 bytes  a random nonce
+//	the rest  the ciphertext, and 16 bytes that authenticate it
+//
+// The first 9 bytes and the context are the additional data, so nothing of it can be changed, and nothing be moved to
+// another row. Of the key in the file three are derived by HKDF-SHA256 (RFC 5869): the one that seals, the id, and the
+// fingerprint. So neither the id nor the fingerprint shows anything of the one that seals. The layout and the names in
+// the derivation are this project's choice.
+package vault
+
+import (
+	"crypto/aes"
+	"crypto/cipher"
+	"crypto/rand"
+	"encoding/hex"
+	"errors"
+	"fmt"
+	"io"
+
+	"pippinterm/platform"
+)
+
+const (
+	version   = 1
+	idSize    = 8
+	headSize  = 1 + idSize
+	nonceSize = 12 // as GCM has it
+	tagSize   = 16 // as GCM has it
+	leastSize = headSize + nonceSize + tagSize
+)
+
+// ShortestKey is the least length of a key, in bytes.
+const ShortestKey = 32
+
+var (
+	// ErrShortKey reports a key of less than ShortestKey bytes.
+	ErrShortKey = fmt.Errorf("the key is shorter than %d bytes", ShortestKey)
+	// ErrMalformed reports that a text was never sealed by a Vault: it is too short, or has another version.
+	ErrMalformed = errors.New("it isn't sealed in a form that this version knows")
+	// ErrOtherKey reports that a text was sealed with a key that the Vault doesn't have.
+	ErrOtherKey = errors.New("it was sealed with a key that isn't given")
+	// ErrChanged reports that a text has been changed since it was sealed, or was sealed under another context.
+	ErrChanged = errors.New("it has been changed since it was sealed, or belongs elsewhere")
+)
+
+// A Vault seals and opens secrets. Any number of goroutines use it. It is a platform.Vault.
+type Vault struct {
+	keys   []key // the first one seals
+	random io.Reader
+}
+
+var _ platform.Vault = (*Vault)(nil)
+
+type key struct {
+	id          [idSize]byte
+	fingerprint string
+	aead        cipher.AEAD
+}
+
+// New makes a vault. The first key seals, and all of them open: while a key is replaced, give the new one first and the
+// old one after it. A key should be random: its fingerprint lets everybody who reads it try guesses.
+//
+// Errors: there is no key; ErrShortKey. No error contains a part of a key.
+func New(keys ...[]byte) (*Vault, error) {
+	if len(keys) == 0 {
+		return nil, errors.New("a vault needs a key")
+	}
+	v := &Vault{random: rand.Reader}
+	for at, secret := range keys {
+		made, err := newKey(secret)
+		if err != nil {
+			return nil, fmt.Errorf("key %d of %d: %w", at+1, len(keys), err)
+		}
+		v.keys = append(v.keys, made)
+	}
+	return v, nil
+}
+
+func newKey(secret []byte) (key, error) {
+	if len(secret) < ShortestKey {
+		return key{}, ErrShortKey
+	}
+	extracted := extract(secret)
+	block, err := aes.NewCipher(expand(extracted, "seal"))
+	if err != nil {
+		return key{}, err
+	}
+	aead, err := cipher.NewGCM(block)
+	if err != nil {
+		return key{}, err
+	}
+	made := key{aead: aead, fingerprint: hex.EncodeToString(expand(extracted, "fingerprint")[:16])}
+	copy(made.id[:], expand(extracted, "id"))
+	return made, nil
+}
+
+// Seal returns the sealed form of a secret. Two calls never return the same. What was sealed under a context can only
+// be opened under it. One key may seal 2^32 secrets (NIST SP 800-38D, section 8.3).
+//
+// Errors: the system gives no random bytes.
+func (v *Vault) Seal(plain []byte, context string) ([]byte, error) {
+	first := v.keys[0]
+	sealed := make([]byte, headSize+nonceSize, leastSize+len(plain))
+	sealed[0] = version
+	copy(sealed[1:], first.id[:])
+	nonce := sealed[headSize:]
+	if _, err := io.ReadFull(v.random, nonce); err != nil {
+		return nil, fmt.Errorf("random bytes: %w", err)
+	}
+	return first.aead.Seal(sealed, nonce, plain, additional(sealed[:headSize], context)), nil
+}
+
+// Open returns the secret of its sealed form.
+//
+// Errors: ErrMalformed, ErrOtherKey, ErrChanged.
+func (v *Vault) Open(sealed []byte, context string) ([]byte, error) {
+	if len(sealed) < leastSize || sealed[0] != version {
+		return nil, ErrMalformed
+	}
+	nonce, rest := sealed[headSize:headSize+nonceSize], sealed[headSize+nonceSize:]
+	failed := ErrOtherKey
+	for _, it := range v.keys {
+		if string(it.id[:]) != string(sealed[1:headSize]) {
+			continue
+		}
+		if plain, err := it.aead.Open(nil, nonce, rest, additional(sealed[:headSize], context)); err == nil {
+			return plain, nil
+		}
+		failed = ErrChanged
+	}
+	return nil, failed
+}
+
+// Rekey returns the secret of a sealed form sealed anew with the first key, or the form as it is and false if the first
+// key has sealed it. Once every sealed form has been replaced, the old keys aren't needed any more.
+//
+// Errors: those of Open and Seal.
+func (v *Vault) Rekey(sealed []byte, context string) (again []byte, isChanged bool, err error) {
+	plain, err := v.Open(sealed, context)
+	if err != nil {
+		return nil, false, err
+	}
+	if string(v.keys[0].id[:]) == string(sealed[1:headSize]) {
+		return sealed, false, nil
+	}
+	again, err = v.Seal(plain, context)
+	return again, err == nil, err
+}
+
+// Fingerprint is the same for the same first key, and shows nothing of it. It is 32 hexadecimal digits.
+func (v *Vault) Fingerprint() string { return v.keys[0].fingerprint }
+
+// Knows returns whether one of the keys has this fingerprint. While a key is replaced, a store still has that of the
+// old one.
+func (v *Vault) Knows(fingerprint string) bool {
+	for _, it := range v.keys {
+		if it.fingerprint == fingerprint {
+			return true
+		}
+	}
+	return false
+}
+
+// additional is the additional data: the head, whose length is fixed, and the context.
+func additional(head []byte, context string) []byte {
+	return append(append(make([]byte, 0, len(head)+len(context)), head...), context...)
+}

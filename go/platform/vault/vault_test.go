@@ -1,0 +1,276 @@
+package vault
+
+import (
+	"bytes"
+	"encoding/hex"
+	"errors"
+	"os"
+	"path/filepath"
+	"strings"
+	"testing"
+)
+
+var (
+	one   = []byte("the first key, of forty bytes, and more.")
+	other = []byte("another key, which has forty bytes, too.")
+)
+
+const here, there = "an instance/a binding", "an instance/another"
+
+func newVault(t *testing.T, keys ...[]byte) *Vault {
+	t.Helper()
+	v, err := New(keys...)
+	if err != nil {
+		t.Fatal(err)
+	}
+	return v
+}
+
+func sealedBy(t *testing.T, v *Vault, plain string) []byte {
+	t.Helper()
+	sealed, err := v.Seal([]byte(plain), here)
+	if err != nil {
+		t.Fatal(err)
+	}
+	return sealed
+}
+
+// What is sealed opens, under its context, and shows nothing.
+func TestSealed(t *testing.T) {
+	v := newVault(t, one)
+	for _, plain := range []string{"", "x", `{"credentials":{"password":"hunter2"}}`, strings.Repeat("long", 1<<18)} {
+		sealed := sealedBy(t, v, plain)
+		opened, err := v.Open(sealed, here)
+		if err != nil || string(opened) != plain {
+			t.Errorf("%.20q: %.20q, %v", plain, opened, err)
+		}
+		if len(sealed) != leastSize+len(plain) || len(plain) > 9 && bytes.Contains(sealed, []byte(plain[:9])) {
+			t.Errorf("%.20q: sealed as %d bytes", plain, len(sealed))
+		}
+	}
+}
+
+// Two seals of the same differ in their nonces and in all that follows.
+func TestSealedTwice(t *testing.T) {
+	v, seen := newVault(t, one), map[string]bool{}
+	for range [1000]int{} {
+		sealed := sealedBy(t, v, "the same")
+		seen[string(sealed[headSize:headSize+nonceSize])] = true
+		seen[string(sealed[headSize+nonceSize:])] = true
+	}
+	if len(seen) != 2000 {
+		t.Errorf("%d of 2000 differ", len(seen))
+	}
+}
+
+// What doesn't open.
+func TestNotOpened(t *testing.T) {
+	v := newVault(t, one)
+	sealed := sealedBy(t, v, "a secret")
+	for what, row := range map[string]struct {
+		by      *Vault
+		sealed  []byte
+		context string
+		failed  error
+	}{
+		"another context":    {v, sealed, there, ErrChanged},
+		"no context":         {v, sealed, "", ErrChanged},
+		"a longer context":   {v, sealed, here + "x", ErrChanged},
+		"another key":        {newVault(t, other), sealed, here, ErrOtherKey},
+		"nothing":            {v, nil, here, ErrMalformed},
+		"an empty text":      {v, []byte{}, here, ErrMalformed},
+		"a clear text":       {v, []byte("a password that was never sealed, in clear"), here, ErrMalformed},
+		"one byte more":      {v, append(append([]byte(nil), sealed...), 0), here, ErrChanged},
+		"twice":              {v, append(append([]byte(nil), sealed...), sealed...), here, ErrChanged},
+		"the secret of none": {v, make([]byte, 99), here, ErrMalformed},
+	} {
+		if plain, err := row.by.Open(row.sealed, row.context); !errors.Is(err, row.failed) || plain != nil {
+			t.Errorf("%s: %q, %v", what, plain, err)
+		}
+	}
+}
+
+// Each bit counts.
+func TestFlippedBits(t *testing.T) {
+	v := newVault(t, one)
+	sealed := sealedBy(t, v, "a secret")
+	for at := 0; at < 8*len(sealed); at++ {
+		flipped := append([]byte(nil), sealed...)
+		flipped[at/8] ^= 1 << (at % 8)
+		if plain, err := v.Open(flipped, here); err == nil || plain != nil {
+			t.Errorf("bit %d: %q", at, plain)
+		}
+	}
+}
+
+// Each byte counts.
+func TestTruncated(t *testing.T) {
+	v := newVault(t, one)
+	sealed := sealedBy(t, v, "a secret")
+	for length := range sealed {
+		if plain, err := v.Open(sealed[:length], here); err == nil || plain != nil {
+			t.Errorf("%d bytes: %q", length, plain)
+		}
+		if plain, err := v.Open(sealed[len(sealed)-length:], here); err == nil || plain != nil {
+			t.Errorf("the last %d bytes: %q", length, plain)
+		}
+	}
+}
+
+// What was sealed isn't changed by being opened, and neither is what is sealed.
+func TestUnchanged(t *testing.T) {
+	v, plain := newVault(t, one), []byte("a secret")
+	sealed, err := v.Seal(plain, here)
+	if err != nil {
+		t.Fatal(err)
+	}
+	before := append([]byte(nil), sealed...)
+	for range [2]int{} {
+		if opened, err := v.Open(sealed, here); err != nil || string(opened) != "a secret" {
+			t.Errorf("%q, %v", opened, err)
+		}
+	}
+	if !bytes.Equal(before, sealed) || string(plain) != "a secret" {
+		t.Errorf("%x is now %x", before, sealed)
+	}
+}
+
+// Keys that are too short, or none.
+func TestKeys(t *testing.T) {
+	for _, keys := range [][][]byte{{one[:31]}, {{}}, {nil}, {one, one[:31]}} {
+		if _, err := New(keys...); !errors.Is(err, ErrShortKey) {
+			t.Errorf("%d keys: %v", len(keys), err)
+		}
+	}
+	if _, err := New(); err == nil {
+		t.Error("a vault without a key was made")
+	}
+	newVault(t, one[:32])
+}
+
+// While a key is replaced, the new one seals, and both open.
+func TestRotated(t *testing.T) {
+	before, during, after := newVault(t, one), newVault(t, other, one), newVault(t, other)
+	old := sealedBy(t, before, "a secret")
+	if plain, err := during.Open(old, here); err != nil || string(plain) != "a secret" {
+		t.Errorf("%q, %v", plain, err)
+	}
+	if plain, err := after.Open(sealedBy(t, during, "a secret"), here); err != nil || string(plain) != "a secret" {
+		t.Errorf("%q, %v", plain, err)
+	}
+	again, isChanged, err := during.Rekey(old, here)
+	if err != nil || !isChanged {
+		t.Fatal(isChanged, err)
+	}
+	if plain, err := after.Open(again, here); err != nil || string(plain) != "a secret" {
+		t.Errorf("%q, %v", plain, err)
+	}
+	same, isChanged, err := during.Rekey(again, here)
+	if err != nil || isChanged || !bytes.Equal(same, again) {
+		t.Errorf("%x, %v, %v", same, isChanged, err)
+	}
+	if _, _, err := during.Rekey(old, there); !errors.Is(err, ErrChanged) {
+		t.Error(err)
+	}
+	if _, _, err := after.Rekey(old, here); !errors.Is(err, ErrOtherKey) {
+		t.Error(err)
+	}
+}
+
+// The fingerprint is that of the first key, and all of them are known.
+func TestFingerprint(t *testing.T) {
+	first, second, both := newVault(t, one), newVault(t, other), newVault(t, one, other)
+	if first.Fingerprint() != both.Fingerprint() || first.Fingerprint() == second.Fingerprint() {
+		t.Error(first.Fingerprint(), second.Fingerprint(), both.Fingerprint())
+	}
+	if !both.Knows(first.Fingerprint()) || !both.Knows(second.Fingerprint()) || first.Knows(second.Fingerprint()) ||
+		first.Knows("") {
+		t.Error("other fingerprints are known than those of the keys")
+	}
+	sealed := sealedBy(t, first, "a secret")
+	id, extracted := hex.EncodeToString(sealed[1:headSize]), extract(one)
+	seals := hex.EncodeToString(expand(extracted, "seal"))
+	if strings.Contains(seals, id) || strings.Contains(seals, first.Fingerprint()) ||
+		strings.Contains(first.Fingerprint(), id) {
+		t.Error("the fingerprint or the id is a part of the key that seals")
+	}
+}
+
+// What another implementation of the layout has sealed: by the package cryptography of Python, with the nonce 00 01 ..
+// 0b.
+const (
+	written = "01db1753f010df6214" + "000102030405060708090a0b" +
+		"0707072fa6ae55668de3278a785fed49891b05e5385527e7"
+	fingerprint = "222467f16c1f06c92e12220847c420e6"
+)
+
+// The layout and the derivation stay, so that what was sealed before can be opened.
+func TestStaysReadable(t *testing.T) {
+	sealed, err := hex.DecodeString(written)
+	if err != nil {
+		t.Fatal(err)
+	}
+	v := newVault(t, one)
+	if plain, err := v.Open(sealed, here); err != nil || string(plain) != "a secret" {
+		t.Errorf("%q, %v", plain, err)
+	}
+	if v.Fingerprint() != fingerprint {
+		t.Error(v.Fingerprint())
+	}
+}
+
+// HKDF-SHA256 has the values of RFC 5869, appendix A.1, whose first 32 bytes are its first block.
+func TestDerivation(t *testing.T) {
+	secret := bytes.Repeat([]byte{0x0b}, 22)
+	salt, _ := hex.DecodeString("000102030405060708090a0b0c")
+	info, _ := hex.DecodeString("f0f1f2f3f4f5f6f7f8f9")
+	const wanted = "3cb25f25faacd57a90434f64d0362f2a2d2d0a90cf1a5a4c5db02d56ecc4c5bf"
+	if got := hex.EncodeToString(expand(mac(salt, secret), string(info))); got != wanted {
+		t.Error(got)
+	}
+}
+
+// No random bytes: nothing is sealed.
+func TestNoRandomBytes(t *testing.T) {
+	v := newVault(t, one)
+	v.random = strings.NewReader("short")
+	if sealed, err := v.Seal([]byte("a secret"), here); err == nil || sealed != nil {
+		t.Errorf("%x", sealed)
+	}
+}
+
+// Keys of files: each a line.
+func TestFromFiles(t *testing.T) {
+	write := func(text string, mode os.FileMode) string {
+		name := filepath.Join(t.TempDir(), "key")
+		if err := os.WriteFile(name, []byte(text), 0o600); err != nil {
+			t.Fatal(err)
+		}
+		if err := os.Chmod(name, mode); err != nil {
+			t.Fatal(err)
+		}
+		return name
+	}
+	long := string(one) + "\n"
+	v, warnings, err := FromFiles(write(string(other)+"\n", 0o600), write(long, 0o644))
+	if err != nil || len(warnings) != 1 {
+		t.Fatal(warnings, err)
+	}
+	sealed := sealedBy(t, newVault(t, one), "a secret")
+	if plain, err := v.Open(sealed, here); err != nil || string(plain) != "a secret" {
+		t.Errorf("%q, %v", plain, err)
+	}
+	if v.Fingerprint() != newVault(t, other).Fingerprint() {
+		t.Error("the first file's key doesn't seal")
+	}
+	for what, files := range map[string][]string{
+		"none": {}, "no name": {""}, "no file": {"nowhere"}, "short": {write("short", 0o600)},
+		"empty":     {write("", 0o600)},
+		"two lines": {write(long+long, 0o600)}, "no text": {write("\x00\xff"+long, 0o600)},
+		"the second": {write(long, 0o600), write("short", 0o600)},
+	} {
+		if _, _, err := FromFiles(files...); err == nil || strings.Contains(err.Error(), string(one)) {
+			t.Errorf("%s: %v", what, err)
+		}
+	}
+}
