@@ -1,0 +1,97 @@
+package main
+
+import (
+	"context"
+	"errors"
+	"strings"
+
+	"github.com/spf13/cobra"
+
+	"pippinterm/platform"
+	"pippinterm/program"
+)
+
+// The exit statuses besides those of package program.
+const (
+	statusRejected  = 1 // an order that can't be taken
+	statusOtherwise = 3 // --wait: it has ended otherwise than asked for
+	statusGoesOn    = 4 // --wait: the time is over
+)
+
+// An app is one run of the program.
+type app struct {
+	places places
+	status int // that of the error of the command, or 0 for that of program.Run
+}
+
+// exit is the exit status, by that of program.Run.
+func (a *app) exit(status int) int {
+	if a.status != 0 && status == program.StatusFailed {
+		return a.status
+	}
+	return status
+}
+
+// judged marks the error of a command with its exit status.
+func (a *app) judged(err error) error {
+	var fault *platform.Fault
+	var ended *endError
+	switch {
+	case errors.As(err, &ended):
+		a.status = ended.status
+	case errors.As(err, &fault) && fault.Kind == platform.Invalid:
+		return program.Unusable(err)
+	case errors.As(err, &fault):
+		a.status = statusRejected
+	case errors.Is(err, platform.ErrAway):
+		return program.Unavailable(err)
+	}
+	return err
+}
+
+// An endError is how a wait has ended, if not as it was asked for.
+type endError struct {
+	text   string
+	status int
+}
+
+func (e *endError) Error() string { return e.text }
+
+// A session is what the commands but run work with.
+type session struct {
+	store  platform.Store
+	vault  platform.Vault // or nil
+	orders *platform.Orders
+}
+
+// over is the RunE of a command over the store. If needsKey, the vault is opened, if there is a file with its key.
+func (a *app) over(
+	needsKey bool, do func(ctx context.Context, c *cobra.Command, s session, arguments []string) error,
+) func(*cobra.Command, []string) error {
+	return func(c *cobra.Command, arguments []string) (err error) {
+		ctx := c.Context()
+		store, err := openStore(ctx, a.places.store, 1)
+		if err != nil {
+			return err
+		}
+		defer func() {
+			if failed := store.Close(); err == nil && failed != nil {
+				err = failed
+			}
+		}()
+		var vault platform.Vault
+		if needsKey {
+			if vault, err = openVault(ctx, a.places.keys(), store, warner(c.ErrOrStderr())); err != nil {
+				return a.judged(err)
+			}
+		}
+		s := session{store: store, vault: vault, orders: platform.NewOrders(store, vault)}
+		return a.judged(do(ctx, c, s, arguments))
+	}
+}
+
+// wrapUsage has the options of all commands shown in lines that fit a wide terminal.
+func wrapUsage(command *cobra.Command) {
+	text := strings.ReplaceAll(command.UsageTemplate(), ".FlagUsages", ".FlagUsagesWrapped 110")
+	command.SetUsageTemplate(text)
+}

@@ -1,0 +1,246 @@
+package main
+
+import (
+	"bufio"
+	"context"
+	"errors"
+	"fmt"
+	"io"
+	"os"
+	"path/filepath"
+	"strings"
+	"time"
+
+	"github.com/spf13/cobra"
+	"github.com/spf13/pflag"
+
+	"pippinterm/platform"
+	"pippinterm/platform/client"
+	"pippinterm/program"
+	"pippinterm/program/secrets"
+)
+
+const passwordVariable = "OSB_PLATFORM_PASSWORD"
+
+// brokerCommand has the commands about brokers.
+func brokerCommand(a *app) *cobra.Command {
+	made := &cobra.Command{
+		Use:   "broker",
+		Short: "Add, change, list, show or drop a broker",
+		Example: `  osb-platform broker add shop https://broker.example --user platform --password-file password
+  osb-platform broker list`,
+	}
+	made.AddCommand(addCommand(a), setCommand(a), brokersCommand(a), showBrokerCommand(a), dropCommand(a))
+	return made
+}
+
+// A login is how the platform logs in at a broker, and how the broker is asked.
+type login struct {
+	url, user, passwordFile string
+	stores, allowHTTP       bool
+	settings                platform.Settings
+	set                     []*setting
+}
+
+func (l *login) add(flags *pflag.FlagSet, user string) {
+	flags.SortFlags = false
+	flags.StringVar(&l.user, "user", user, "the `name` with which the platform logs in")
+	flags.StringVar(&l.passwordFile, "password-file", "",
+		"a `file` with the password, which each worker reads again when it changes")
+	flags.BoolVar(&l.stores, "store-password", false, "keep the password in the store, sealed with the key of "+
+		"--key-file. It is taken from "+passwordVariable+", or from a line of standard input")
+	l.addSettings(flags)
+	flags.BoolVar(&l.allowHTTP, "allow-http", false, "allow http:// for a broker that isn't on this machine. 'run' "+
+		"needs it too")
+}
+
+func (l *login) addSettings(flags *pflag.FlagSet) {
+	for _, it := range []struct {
+		name, text string
+		to         **time.Duration
+		least      time.Duration
+	}{
+		{"hold", "for how many seconds after a creation was sent no deletion is sent (default: 0 if the catalogue " +
+			"has x-osb-tombstones: true, and else 300)", &l.settings.Hold, 0},
+		{"first-pace", "seconds until the next request (default 2)", &l.settings.FirstPace, time.Millisecond},
+		{"longest-pace", "what the pace grows to while nothing changes (default 120)", &l.settings.LongestPace,
+			time.Millisecond},
+		{"longest-poll", "for how many seconds an operation is polled (default: maximum_polling_duration of the " +
+			"plan, or a week)", &l.settings.LongestPoll, time.Second},
+	} {
+		value := &setting{to: it.to, least: it.least}
+		l.set = append(l.set, value)
+		flags.Var(value, it.name, it.text)
+	}
+}
+
+// change writes the settings that were given.
+func (l *login) change(to *platform.Settings) {
+	for at, of := range []**time.Duration{&to.Hold, &to.FirstPace, &to.LongestPace, &to.LongestPoll} {
+		if l.set[at].changed {
+			*of = *l.set[at].to
+		}
+	}
+}
+
+// password is the password that the store is to keep, or nil.
+func (l *login) password(stdin io.Reader, warn func(string)) ([]byte, error) {
+	if !l.stores {
+		return nil, nil
+	}
+	if l.passwordFile != "" {
+		return nil, program.Unusable(errors.New("give --password-file or --store-password, and not both"))
+	}
+	if os.Getenv(passwordVariable) != "" {
+		text, warning, err := secrets.Secret(passwordVariable, "")
+		if warning != "" {
+			warn(warning)
+		}
+		return []byte(text), program.Unusable(err)
+	}
+	if isTerminal(stdin) {
+		return nil, program.Unusable(fmt.Errorf("set %s, or write the password to standard input by <FILE: a terminal "+
+			"would show it", passwordVariable))
+	}
+	line, err := bufio.NewReader(io.LimitReader(stdin, 64<<10)).ReadString('\n')
+	line = strings.TrimSuffix(line, "\n")
+	if err != nil && !errors.Is(err, io.EOF) {
+		return nil, err
+	}
+	if line == "" {
+		return nil, program.Unusable(fmt.Errorf("set %s, or write the password to standard input", passwordVariable))
+	}
+	return []byte(line), nil
+}
+
+// absolute is the absolute path of a file with a password, for workers in other folders.
+func absolute(file string) (string, error) {
+	if file == "" {
+		return "", nil
+	}
+	if _, _, err := secrets.Secret("", file); err != nil {
+		return "", program.Unusable(fmt.Errorf("--password-file: %w", err))
+	}
+	return filepath.Abs(file)
+}
+
+func addCommand(a *app) *cobra.Command {
+	l := &login{}
+	made := &cobra.Command{
+		Use:   "add NAME URL",
+		Short: "Add a broker",
+		Long: `Add a broker, by a name of your own and its URL up to before /v2. Its catalogue is asked for, and with it
+'create' can name services and plans. If the broker doesn't answer, 'run' asks again.`,
+		Example: `  osb-platform broker add shop https://broker.example/postgres --password-file password
+  OSB_PLATFORM_PASSWORD=secret osb-platform broker add local http://127.0.0.1:8080 --user platform --store-password`,
+		Args: cobra.ExactArgs(2),
+		RunE: a.over(true, func(ctx context.Context, c *cobra.Command, s session, arguments []string) error {
+			broker := platform.Broker{Name: arguments[0], URL: arguments[1], User: l.user, Settings: l.settings}
+			if err := client.CheckURL(broker.URL, l.allowHTTP); err != nil {
+				return program.Unusable(err)
+			}
+			warn := warner(c.ErrOrStderr())
+			password, err := l.password(c.InOrStdin(), warn)
+			if err != nil {
+				return err
+			}
+			if broker.PasswordFile, err = absolute(l.passwordFile); err != nil {
+				return err
+			}
+			if err := s.orders.AddBroker(ctx, broker, password); err != nil {
+				return err
+			}
+			return s.askCatalogue(ctx, broker.Name, l.allowHTTP, warn)
+		}),
+	}
+	l.add(made.Flags(), "platform")
+	return made
+}
+
+func setCommand(a *app) *cobra.Command {
+	l := &login{}
+	made := &cobra.Command{
+		Use:   "set NAME",
+		Short: "Change a broker",
+		Long: `Change a broker: what no option names stays. Seconds may be the word default. Workers notice the change.
+
+--url is for the same broker at another address. Another broker would answer that each instance is gone.`,
+		Example: `  osb-platform broker set shop --url https://broker-2.example --hold 900
+  osb-platform broker set shop --store-password <password`,
+		Args: cobra.ExactArgs(1),
+		RunE: a.over(true, func(ctx context.Context, c *cobra.Command, s session, arguments []string) error {
+			warn := warner(c.ErrOrStderr())
+			password, err := l.password(c.InOrStdin(), warn)
+			if err != nil {
+				return err
+			}
+			file, err := absolute(l.passwordFile)
+			if err != nil {
+				return err
+			}
+			return s.orders.SetBroker(ctx, arguments[0], func(of *platform.Broker) error {
+				if l.url != "" {
+					if err := client.CheckURL(l.url, l.allowHTTP); err != nil {
+						return program.Unusable(err)
+					}
+					of.URL = l.url
+				}
+				if l.user != "" {
+					of.User = l.user
+				}
+				if file != "" {
+					of.PasswordFile = file
+				}
+				l.change(&of.Settings)
+				return nil
+			}, password)
+		}),
+	}
+	made.Flags().StringVar(&l.url, "url", "", "the new `URL`, up to before /v2")
+	l.add(made.Flags(), "")
+	return made
+}
+
+func brokersCommand(a *app) *cobra.Command {
+	return &cobra.Command{
+		Use:   "list",
+		Short: "List the brokers",
+		Long: `List the brokers. The columns are name, url, user, since when the catalogue is as it is, and
+why the broker didn't answer it last. They are separated by tabs.`,
+		Example: `  osb-platform broker list`,
+		RunE: a.over(false, func(ctx context.Context, c *cobra.Command, s session, _ []string) error {
+			brokers, err := s.store.Brokers(ctx)
+			if err != nil {
+				return err
+			}
+			for _, it := range brokers {
+				cells := []string{
+					it.Name, printable(it.URL), printable(it.User), orNone(momentOf(it.CatalogueAt)), textOf(it.Reason),
+				}
+				if _, err := fmt.Fprintln(c.OutOrStdout(), strings.Join(cells, "\t")); err != nil {
+					return err
+				}
+			}
+			return nil
+		}),
+	}
+}
+
+func orNone(text string) string {
+	if text == "" {
+		return "none"
+	}
+	return text
+}
+
+func dropCommand(a *app) *cobra.Command {
+	return &cobra.Command{
+		Use:     "drop NAME",
+		Short:   "Drop a broker of which nothing was ever ordered",
+		Example: `  osb-platform broker drop shop`,
+		Args:    cobra.ExactArgs(1),
+		RunE: a.over(false, func(ctx context.Context, _ *cobra.Command, s session, arguments []string) error {
+			return s.orders.DropBroker(ctx, arguments[0])
+		}),
+	}
+}

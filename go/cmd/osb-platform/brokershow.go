@@ -1,0 +1,138 @@
+package main
+
+import (
+	"context"
+	"fmt"
+	"io"
+	"strconv"
+	"time"
+
+	"github.com/spf13/cobra"
+
+	"pippinterm/platform"
+	"pippinterm/platform/client"
+)
+
+// showBrokerCommand shows a broker and what it sells.
+func showBrokerCommand(a *app) *cobra.Command {
+	return &cobra.Command{
+		Use:   "show NAME",
+		Short: "Show a broker, its settings, and the services and plans of its catalogue",
+		Long: `Show a broker, each fact on a line with its name before a tab. Then come the plans of its catalogue,
+with the names of the service and the plan, their ids, and whether the plan is bindable.`,
+		Example: `  osb-platform broker show shop`,
+		Args:    cobra.ExactArgs(1),
+		RunE: a.over(false, func(ctx context.Context, c *cobra.Command, s session, arguments []string) error {
+			broker, err := brokerOf(ctx, s.store, arguments[0])
+			if err != nil {
+				return err
+			}
+			return showBroker(c.OutOrStdout(), broker)
+		}),
+	}
+}
+
+// brokerOf is the broker of a name. If there is none, the error is a Fault.
+func brokerOf(ctx context.Context, store platform.Store, name string) (platform.Broker, error) {
+	brokers, err := store.Brokers(ctx)
+	if err != nil {
+		return platform.Broker{}, err
+	}
+	for _, it := range brokers {
+		if it.Name == name {
+			return it, nil
+		}
+	}
+	return platform.Broker{}, &platform.Fault{
+		Kind: platform.NotFound, Text: fmt.Sprintf("the broker %q is unknown", name),
+	}
+}
+
+func showBroker(to io.Writer, b platform.Broker) error {
+	for _, it := range [][2]string{
+		{"name", b.Name}, {"url", printable(b.URL)}, {"user", printable(b.User)}, {"password", passwordOf(b)},
+		{"hold", secondsText(b.Settings.Hold)}, {"first pace", secondsText(b.Settings.FirstPace)},
+		{"longest pace", secondsText(b.Settings.LongestPace)}, {"longest poll", secondsText(b.Settings.LongestPoll)},
+		{"catalogue since", orNone(momentOf(b.CatalogueAt))}, {"last reason", at(b.Reason)},
+	} {
+		if it[1] == "" {
+			continue
+		}
+		if _, err := fmt.Fprintf(to, "%s\t%s\n", it[0], it[1]); err != nil {
+			return err
+		}
+	}
+	return showPlans(to, b)
+}
+
+func passwordOf(b platform.Broker) string {
+	switch {
+	case b.PasswordFile != "":
+		return "in the file " + printable(b.PasswordFile)
+	case b.Password != nil:
+		return "in the store, sealed"
+	}
+	return "none: that of 'run --broker', from " + passwordVariable
+}
+
+func secondsText(of *time.Duration) string {
+	if of == nil {
+		return "default"
+	}
+	return strconv.FormatFloat(of.Seconds(), 'f', -1, 64)
+}
+
+func showPlans(to io.Writer, b platform.Broker) error {
+	if b.Catalogue == nil {
+		return nil
+	}
+	catalogue, err := platform.ReadCatalogue(b.Catalogue)
+	if err != nil {
+		return err
+	}
+	for _, service := range catalogue.Services {
+		for _, plan := range service.Plans {
+			isBindable := "not bindable"
+			if plan.IsBindable {
+				isBindable = "bindable"
+			}
+			if _, err := fmt.Fprintf(to, "plan\t%s\t%s\t%s\t%s\t%s\n", printable(service.Name), printable(plan.Name),
+				printable(service.ID), printable(plan.ID), isBindable); err != nil {
+				return err
+			}
+		}
+	}
+	return nil
+}
+
+// askTime is for how long a command asks for a catalogue.
+const askTime = 10 * time.Second
+
+// askCatalogue asks a broker for its catalogue once, and keeps it, so that orders can name its services at once. If the
+// broker doesn't answer it, that is a warning: a worker asks again.
+func (s session) askCatalogue(ctx context.Context, name string, allowHTTP bool, warn func(string)) error {
+	broker, err := brokerOf(ctx, s.store, name)
+	if err != nil {
+		return err
+	}
+	asking, err := client.New(client.Options{
+		Password: client.NewPasswords(s.vault, warn).Of, AllowHTTP: allowHTTP, CatalogueTime: askTime,
+	})
+	if err != nil {
+		return err
+	}
+	defer asking.Close()
+	document, _, err := asking.Catalogue(ctx, broker)
+	if err == nil {
+		_, err = platform.ReadCatalogue(document)
+	}
+	if err != nil {
+		warn(fmt.Sprintf("%v. The broker is added: 'run' asks for the catalogue again", err))
+		return nil
+	}
+	now := time.Now().UTC().Truncate(time.Millisecond)
+	return s.store.ChangeBroker(ctx, name, func(it platform.Broker) (*platform.Broker, error) {
+		it.Catalogue, it.CatalogueAt = document, now
+		return &it, nil
+	})
+}

@@ -1,0 +1,97 @@
+package main
+
+import (
+	"context"
+	"encoding/json"
+	"fmt"
+
+	"github.com/spf13/cobra"
+	"github.com/spf13/pflag"
+
+	"pippinterm/platform"
+	"pippinterm/program"
+)
+
+// mostTries is the most for --tries.
+const mostTries = 100
+
+// createCommand writes down an instance.
+func createCommand(a *app) *cobra.Command {
+	wanted, wait := platform.NewInstance{}, &waiting{}
+	made := &cobra.Command{
+		Use:   "create",
+		Short: "Create an instance, and print its id",
+		Long: `Write down an instance to create, and print its id. 'run' sends the request.
+
+If the creation fails for a reason that may pass, such as a timeout or a 503, it is tried again under another id,
+--tries times in all. 'show' has the ids of all tries.`,
+		Example: `  osb-platform create --broker shop --service database --plan small
+  osb-platform create --service database --plan small --parameters '{"size": 3}' --wait=600`,
+		RunE: a.over(false, func(ctx context.Context, c *cobra.Command, s session, _ []string) error {
+			entry, err := s.orders.Create(ctx, wanted)
+			if err != nil {
+				return err
+			}
+			if _, err := fmt.Fprintln(c.OutOrStdout(), printable(idOf(entry))); err != nil {
+				return err
+			}
+			return wait.wait(ctx, c, s, entry.Key, true, created)
+		}),
+	}
+	flags := made.Flags()
+	flags.SortFlags = false
+	flags.StringVar(&wanted.Broker, "broker", "", "the `name` of the broker, if there are several")
+	flags.StringVar(&wanted.Service, "service", "", "the `name` or id of the service in the broker's catalogue")
+	flags.StringVar(&wanted.Plan, "plan", "", "the `name` or id of the plan")
+	flags.StringVar(&wanted.ID, "id", "", "the `id` of the instance, that nobody has used (default: a new GUID)")
+	flags.StringVar(&wanted.Organization, "organization", "", "the `text` sent as organization_guid (default "+
+		platform.DefaultOrganization+")")
+	flags.StringVar(&wanted.Space, "space", "", "the `text` sent as space_guid (default "+platform.DefaultSpace+")")
+	addObjects(made, flags, &wanted.Parameters, &wanted.Context, &wanted.Identity)
+	flags.Var(program.Count(&wanted.Tries, platform.DefaultTries, 1, mostTries), "tries",
+		"how often it is tried, under another id each time")
+	wait.add(flags, "ready")
+	return made
+}
+
+func addObjects(c *cobra.Command, flags *pflag.FlagSet, parameters, around *json.RawMessage, user *string) {
+	flags.Var(objectValue(parameters, c.InOrStdin), "parameters",
+		"an object sent as parameters, or @ and a file with it. It is kept in the store, not encrypted")
+	flags.Var(objectValue(around, c.InOrStdin), "context", "an object sent as context, or @ and a file with it")
+	flags.Var(&identity{to: user}, "identity",
+		"the user behind the order, sent as X-Broker-API-Originating-Identity: a platform and an object")
+}
+
+// bindCommand writes down a binding.
+func bindCommand(a *app) *cobra.Command {
+	wanted, wait := platform.NewBinding{}, &waiting{}
+	made := &cobra.Command{
+		Use:   "bind INSTANCE",
+		Short: "Create a binding of an instance that is ready, and print its id",
+		Long: `Write down a binding to create, and print its id: that of the instance, a slash, and its own. 'run' sends
+the request. Once the binding is ready, 'credentials' prints its credentials. They are kept sealed with the key of
+--key-file.`,
+		Example: `  osb-platform bind 5f1b7c0e-2f0b-4d0a-9d3e-6a3f0e1f2a3b --wait
+  osb-platform bind my-database --resource '{"app_guid": "one"}'`,
+		Args: cobra.ExactArgs(1),
+		RunE: a.over(true, func(ctx context.Context, c *cobra.Command, s session, arguments []string) error {
+			wanted.Instance = arguments[0]
+			entry, err := s.orders.Bind(ctx, wanted)
+			if err != nil {
+				return err
+			}
+			if _, err := fmt.Fprintln(c.OutOrStdout(), printable(idOf(entry))); err != nil {
+				return err
+			}
+			return wait.wait(ctx, c, s, entry.Key, false, created)
+		}),
+	}
+	flags := made.Flags()
+	flags.SortFlags = false
+	flags.StringVar(&wanted.ID, "id", "", "the `id` of the binding, that nobody has used (default: a new GUID)")
+	flags.Var(objectValue(&wanted.BindResource, made.InOrStdin), "resource",
+		"an object sent as bind_resource, or @ and a file with it")
+	addObjects(made, flags, &wanted.Parameters, &wanted.Context, &wanted.Identity)
+	wait.add(flags, "ready")
+	return made
+}

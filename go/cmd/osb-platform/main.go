@@ -1,0 +1,68 @@
+// osb-platform is a platform under the Open Service Broker API 2.17 (docs/platform-guide.md).
+package main
+
+import (
+	"context"
+	"os"
+	"runtime/debug"
+	"syscall"
+
+	"github.com/spf13/cobra"
+
+	"pippinterm/platform"
+	"pippinterm/program"
+)
+
+func main() {
+	syscall.Umask(0o077)
+	debug.SetGCPercent(400) // it has little in memory, and makes much that is short-lived
+	a := &app{}
+	os.Exit(a.exit(program.Run(context.Background(), rootCommand(a))))
+}
+
+const environment = `
+environment:
+  OSB_PLATFORM_PASSWORD  the password at a broker, for 'run --broker URL' and for
+                         --store-password
+  PGPASSWORD, PGPASSFILE and PostgreSQL's other variables: how its server is reached. A URL
+                         must not have a password
+
+exit status: 0 done; 1 rejected: an id or a broker is unknown, used already, or in a state
+that doesn't allow it; 2 change something first: an argument, a file, a password or a right;
+3 --wait: it has ended otherwise than asked for; 4 --wait: the time is over and it goes on;
+75 the store is away, so try again; 70 any other error`
+
+func rootCommand(a *app) *cobra.Command {
+	root := &cobra.Command{
+		Use:   "osb-platform",
+		Short: "A platform under the Open Service Broker API 2.17",
+		Long: `A platform under the Open Service Broker API 2.17. It creates instances and bindings of any number of
+brokers, goes on with each until it is ready or gone, and loses none.
+
+The commands write down what is wanted, and 'run' sends it. 'run' may be killed at any moment and started again.
+
+    osb-platform broker add shop https://broker.example --user platform --password-file password
+    osb-platform run &
+    osb-platform create --broker shop --service database --plan small --wait
+
+docs/platform-guide.md says how to run it.
+` + environment,
+		PersistentPreRunE: func(*cobra.Command, []string) error { return program.Unusable(platform.CheckPoint()) },
+	}
+	root.AddGroup(
+		&cobra.Group{ID: "orders", Title: "Instances and bindings:"}, &cobra.Group{ID: "run", Title: "The program:"},
+	)
+	add := func(group string, commands ...*cobra.Command) {
+		for _, it := range commands {
+			it.GroupID = group
+			root.AddCommand(it)
+		}
+	}
+	add("orders", createCommand(a), bindCommand(a), unbindCommand(a), credentialsCommand(a), removeCommand(a),
+		retryCommand(a), abandonCommand(a), listCommand(a), showCommand(a))
+	add("run", brokerCommand(a), runCommand(a), serveCommand(a), keyCommand())
+	root.CompletionOptions.DisableDefaultCmd = true
+	a.places.add(root.PersistentFlags())
+	wrapUsage(root)
+	return root
+}

@@ -1,0 +1,258 @@
+package main
+
+import (
+	"context"
+	"net/http"
+	"strconv"
+	"sync"
+	"time"
+
+	"github.com/prometheus/client_golang/prometheus"
+	"github.com/prometheus/client_golang/prometheus/collectors"
+	"github.com/prometheus/client_golang/prometheus/promhttp"
+
+	"pippinterm/platform"
+)
+
+const prefix = "osb_platform_"
+
+// Metrics are a platform.Observer that counts events, for Prometheus:
+//
+//	osb_platform_requests_total{broker,kind,status}   answered requests; the status is lost if no answer was taken
+//	osb_platform_request_seconds{kind}                durations of requests, a histogram
+//	osb_platform_in_flight                            requests of this worker that aren't answered yet
+//	osb_platform_failures_total{event}                failures, by their event in the log
+//	osb_platform_leases_lost_total                    leases that another worker has taken over
+//	osb_platform_orphans_total{result}                answers to last deletions: found or unknown
+//	osb_platform_log_lines_dropped_total              dropped lines of the log
+//
+// and those of a storeCollector, of the process (process_*) and of Go's runtime (go_*).
+type metrics struct {
+	registry *prometheus.Registry
+	requests *prometheus.CounterVec
+	seconds  *prometheus.HistogramVec
+	inFlight prometheus.Gauge
+	failures *prometheus.CounterVec
+	lost     prometheus.Counter
+	orphans  *prometheus.CounterVec
+	names    names
+}
+
+func newMetrics(dropped func() uint64) *metrics {
+	vector := func(name, help string, labels ...string) *prometheus.CounterVec {
+		return prometheus.NewCounterVec(prometheus.CounterOpts{Name: prefix + name, Help: help}, labels)
+	}
+	m := &metrics{
+		registry: prometheus.NewRegistry(),
+		requests: vector("requests_total", "Answered requests.", "broker", "kind", "status"),
+		seconds: prometheus.NewHistogramVec(prometheus.HistogramOpts{
+			Name: prefix + "request_seconds", Help: "Durations of requests, in seconds.",
+			Buckets: []float64{.001, .0025, .005, .01, .025, .05, .1, .25, .5, 1, 2.5, 5, 10, 30, 60},
+		}, []string{"kind"}),
+		inFlight: prometheus.NewGauge(prometheus.GaugeOpts{
+			Name: prefix + "in_flight", Help: "Requests of this worker that aren't answered yet.",
+		}),
+		failures: vector("failures_total", "Failures, by their event in the log.", "event"),
+		lost: prometheus.NewCounter(prometheus.CounterOpts{
+			Name: prefix + "leases_lost_total", Help: "Leases that another worker has taken over.",
+		}),
+		orphans: vector("orphans_total", "Answers to last deletions.", "result"),
+	}
+	m.registry.MustRegister(m.requests, m.seconds, m.inFlight, m.failures, m.lost, m.orphans,
+		prometheus.NewCounterFunc(prometheus.CounterOpts{
+			Name: prefix + "log_lines_dropped_total", Help: "Dropped lines of the log.",
+		}, func() float64 { return float64(dropped()) }),
+		collectors.NewGoCollector(), collectors.NewProcessCollector(collectors.ProcessCollectorOpts{}))
+	return m
+}
+
+// addStore adds what a store counts. The store isn't asked after ctx is done.
+func (m *metrics) addStore(ctx context.Context, store platform.Store) {
+	m.registry.MustRegister(newStoreCollector(ctx, store))
+}
+
+func (m *metrics) handler() http.Handler {
+	return promhttp.HandlerFor(m.registry, promhttp.HandlerOpts{MaxRequestsInFlight: 10})
+}
+
+// Sent counts a request in flight.
+func (m *metrics) Sent(platform.Exchange) { m.inFlight.Inc() }
+
+// Answered counts a request. There are at most 99 brokers with a time series of their own.
+func (m *metrics) Answered(of platform.Exchange) {
+	m.inFlight.Dec()
+	status := "lost"
+	if of.Lost == nil && of.Status >= 100 && of.Status <= 599 {
+		status = strconv.Itoa(of.Status)
+	}
+	m.requests.WithLabelValues(m.names.name(of.Broker), of.Kind, status).Inc()
+	m.seconds.WithLabelValues(of.Kind).Observe(of.Duration.Seconds())
+}
+
+// Changed counts nothing: the collector counts states.
+func (m *metrics) Changed(platform.Key, platform.State, platform.State) {}
+
+// Failed counts a failure.
+func (m *metrics) Failed(of platform.Failure) {
+	m.failures.WithLabelValues(of.Event).Inc()
+	if of.Event == "lease_lost" {
+		m.lost.Inc()
+	}
+}
+
+// Orphan counts the answer to a last deletion.
+func (m *metrics) Orphan(_ platform.Key, _ int, isFound bool) {
+	result := "unknown"
+	if isFound {
+		result = "found"
+	}
+	m.orphans.WithLabelValues(result).Inc()
+}
+
+// Reached counts nothing.
+func (m *metrics) Reached(string) {}
+
+// Names are the values of a label, of which there may only be few.
+type names struct {
+	mutex sync.Mutex
+	known map[string]bool
+}
+
+const (
+	mostNames = 99
+	other     = "other"
+)
+
+// name returns the name, or other if it is new and there are mostNames already.
+func (n *names) name(name string) string {
+	n.mutex.Lock()
+	defer n.mutex.Unlock()
+	if n.known == nil {
+		n.known = map[string]bool{}
+	}
+	if !n.known[name] && len(n.known) >= mostNames {
+		return other
+	}
+	n.known[name] = true
+	return name
+}
+
+const (
+	keptFor  = 5 * time.Second // how long counts of a store are used
+	mostTime = 5 * time.Second // how long the store may take to count
+)
+
+// A storeCollector has the counts of a store. If the store fails, only store_up is sent.
+//
+//	osb_platform_records{broker,kind,state}   instances and bindings in each state
+//	osb_platform_unsettled                    those that are unsettled
+//	osb_platform_oldest_unsettled_seconds     for how long the oldest of them is, or 0
+//	osb_platform_oldest_due_seconds           for how long a row is due that nobody has begun, or 0
+//	osb_platform_store_up                     1, or 0 if the store fails
+type storeCollector struct {
+	ctx   context.Context // Collect has none
+	store platform.Store
+	now   func() time.Time
+
+	up, records, unsettled, oldest, due *prometheus.Desc
+
+	mutex  sync.Mutex // is held while the store is asked
+	at     time.Time
+	counts counts
+	err    error
+}
+
+// Counts are what a store was asked for.
+type counts struct {
+	rows []platform.Count
+	late time.Duration // for how long the longest due row is due
+	now  time.Time     // the store's time
+}
+
+func newStoreCollector(ctx context.Context, store platform.Store) *storeCollector {
+	describe := func(name, help string, labels ...string) *prometheus.Desc {
+		return prometheus.NewDesc(prefix+name, help, labels, nil)
+	}
+	return &storeCollector{
+		ctx: ctx, store: store, now: time.Now,
+		up:        describe("store_up", "Whether the store could count."),
+		records:   describe("records", "Instances and bindings in each state.", "broker", "kind", "state"),
+		unsettled: describe("unsettled", "Instances and bindings that are unsettled."),
+		oldest:    describe("oldest_unsettled_seconds", "For how long the oldest of them is, or 0."),
+		due:       describe("oldest_due_seconds", "For how long a row is due that nobody has begun, or 0."),
+	}
+}
+
+// Describe sends the descriptions.
+func (c *storeCollector) Describe(to chan<- *prometheus.Desc) {
+	for _, it := range []*prometheus.Desc{c.up, c.records, c.unsettled, c.oldest, c.due} {
+		to <- it
+	}
+}
+
+// Collect sends the counts.
+func (c *storeCollector) Collect(to chan<- prometheus.Metric) {
+	found, err := c.ask()
+	send := func(desc *prometheus.Desc, value float64, labels ...string) {
+		to <- prometheus.MustNewConstMetric(desc, prometheus.GaugeValue, value, labels...)
+	}
+	if err != nil {
+		send(c.up, 0)
+		return
+	}
+	send(c.up, 1)
+	unsettled, oldest := 0, time.Duration(0)
+	for _, it := range found.rows {
+		send(c.records, float64(it.Count), it.Broker, kindOf(it.IsBinding), string(it.State))
+		if it.State != platform.Unsettled {
+			continue
+		}
+		unsettled += it.Count
+		if age := found.now.Sub(it.Oldest); age > oldest {
+			oldest = age
+		}
+	}
+	send(c.unsettled, float64(unsettled))
+	send(c.oldest, oldest.Seconds())
+	send(c.due, found.late.Seconds())
+}
+
+func kindOf(isBinding bool) string {
+	if isBinding {
+		return "binding"
+	}
+	return "instance"
+}
+
+// ask returns counts that are at most keptFor old.
+func (c *storeCollector) ask() (counts, error) {
+	c.mutex.Lock()
+	defer c.mutex.Unlock()
+	if c.at.IsZero() || c.now().Sub(c.at) >= keptFor {
+		ctx, cancel := context.WithTimeout(c.ctx, mostTime)
+		defer cancel()
+		c.counts, c.err = countsOf(ctx, c.store)
+		c.at = c.now()
+	}
+	return c.counts, c.err
+}
+
+func countsOf(ctx context.Context, store platform.Store) (found counts, err error) {
+	if found.rows, err = store.Counts(ctx); err != nil {
+		return found, err
+	}
+	brokers, err := store.Brokers(ctx)
+	if err != nil {
+		return found, err
+	}
+	names := make([]string, len(brokers))
+	for at, it := range brokers {
+		names[at] = it.Name
+	}
+	due, now, err := store.NextDue(ctx, names)
+	found.now = now
+	if err == nil && !due.IsZero() && now.After(due) {
+		found.late = now.Sub(due)
+	}
+	return found, err
+}

@@ -1,0 +1,141 @@
+package main
+
+import (
+	"bytes"
+	"context"
+	"errors"
+	"fmt"
+	"net/http/httptest"
+	"strings"
+	"testing"
+	"time"
+
+	"pippinterm/osb"
+	"pippinterm/platform"
+	"pippinterm/program/logs"
+)
+
+// happened tells an observer of one event of each kind.
+func happened(o platform.Observer) {
+	key := platform.BindingKey(osb.MustParseID("00000000-0000-0000-0000-000000000001"),
+		osb.MustParseID("00000000-0000-0000-0000-000000000002"))
+	exchange := platform.Exchange{RequestID: "r", Broker: "shop", Key: key, Kind: "bind", Attempt: 3}
+	o.Sent(exchange)
+	exchange.Status, exchange.Error, exchange.Description = 503, "Busy", "no \x1b place"
+	exchange.Lost, exchange.RetryAfter = errors.New("it was late"), time.Minute
+	exchange.Duration = 1234567 * time.Nanosecond
+	o.Answered(exchange)
+	o.Changed(key, platform.Wanted, platform.Cleaning)
+	o.Failed(platform.Failure{Event: "lease_lost", Broker: "shop", Key: key, IsNamed: true, Err: errors.New("why")})
+	o.Orphan(key, 200, true)
+	o.Orphan(key, 403, false)
+	o.Reached("shop")
+}
+
+// Each event is a line with its members. Those below the level are left out.
+func TestLogObserver(t *testing.T) {
+	const key = `"instance":"00000000-0000-0000-0000-000000000001","binding":"00000000-0000-0000-0000-000000000002"`
+	lines := []string{
+		`"level":"info","event":"request_sent","request":"r","broker":"shop",` + key + `,"kind":"bind","attempt":3}`,
+		`"level":"warning","event":"request","request":"r","broker":"shop",` + key + `,"kind":"bind","attempt":3,` +
+			`"status":503,"error":"Busy","description":"no \u001b place","lost":"it was late",` +
+			`"retry_after_seconds":60,"milliseconds":1.2}`,
+		`"level":"info","event":"state_changed",` + key + `,"before":"wanted","after":"cleaning"}`,
+		`"level":"error","event":"lease_lost","broker":"shop",` + key + `,"error":"why"}`,
+		`"level":"warning","event":"orphan_found",` + key + `,"status":200}`,
+		`"level":"warning","event":"orphan_unknown",` + key + `,"status":403}`,
+		`"level":"info","event":"broker_reached","broker":"shop"}`,
+	}
+	for least, want := range map[level][]string{
+		debugLevel: lines, infoLevel: lines[1:], warningLevel: {lines[1], lines[3], lines[4], lines[5]},
+		errorLevel: {lines[3]},
+	} {
+		var written bytes.Buffer
+		happened(observers{logObserver{eventLog: eventLog{logger: logs.New(&written), least: least}}})
+		got := strings.Split(strings.TrimSpace(written.String()), "\n")
+		for at, line := range got {
+			_, got[at], _ = strings.Cut(line, `Z",`)
+		}
+		if strings.Join(got, "\n") != strings.Join(want, "\n") {
+			t.Errorf("%s: %s", levels[least], strings.Join(got, "\n"))
+		}
+	}
+}
+
+// A countStore has counts, and may fail.
+type countStore struct {
+	platform.Store
+	err error
+}
+
+func (s *countStore) Counts(context.Context) ([]platform.Count, error) {
+	return []platform.Count{
+		{Broker: "shop", State: platform.Unsettled, Count: 2, Oldest: time.Unix(40, 0)},
+		{Broker: "shop", IsBinding: true, State: platform.Ready, Count: 3, Oldest: time.Unix(1, 0)},
+	}, s.err
+}
+
+func (s *countStore) Brokers(context.Context) ([]platform.Broker, error) {
+	return []platform.Broker{{Name: "shop"}}, s.err
+}
+
+func (s *countStore) NextDue(_ context.Context, brokers []string) (due, now time.Time, err error) {
+	if fmt.Sprint(brokers) != "[shop]" {
+		return due, now, errors.New("no brokers")
+	}
+	return time.Unix(93, 0), time.Unix(100, 0), s.err
+}
+
+func TestMetrics(t *testing.T) {
+	m, store := newMetrics(func() uint64 { return 5 }), &countStore{}
+	m.addStore(context.Background(), store)
+	happened(m)
+	for n := 0; n < mostNames+10; n++ {
+		m.Answered(platform.Exchange{Broker: fmt.Sprint("b", n), Kind: "poll", Status: 200})
+	}
+	text := textOfMetrics(t, m)
+	for _, want := range []string{
+		`requests_total{broker="shop",kind="bind",status="lost"} 1`, `request_seconds_count{kind="bind"} 1`,
+		`requests_total{broker="other",kind="poll",status="200"} 11`, `failures_total{event="lease_lost"} 1`,
+		"leases_lost_total 1", `orphans_total{result="found"} 1`, `orphans_total{result="unknown"} 1`,
+		"log_lines_dropped_total 5", `records{broker="shop",kind="instance",state="unsettled"} 2`,
+		`records{broker="shop",kind="binding",state="ready"} 3`, "unsettled 2", "oldest_unsettled_seconds 60",
+		"oldest_due_seconds 7", "store_up 1",
+	} {
+		if !strings.Contains(text, "\n"+prefix+want+"\n") {
+			t.Errorf("%s isn't in %s", want, text)
+		}
+	}
+}
+
+// If the store fails, only that is reported of it.
+func TestMetricsWithoutStore(t *testing.T) {
+	m := newMetrics(func() uint64 { return 0 })
+	m.addStore(context.Background(), &countStore{err: platform.ErrAway})
+	text := textOfMetrics(t, m)
+	if !strings.Contains(text, "\n"+prefix+"store_up 0\n") || strings.Contains(text, prefix+"records") {
+		t.Error(text)
+	}
+}
+
+func textOfMetrics(t *testing.T, m *metrics) string {
+	t.Helper()
+	recorder := httptest.NewRecorder()
+	m.handler().ServeHTTP(recorder, httptest.NewRequest("GET", "/metrics", nil))
+	return recorder.Body.String()
+}
+
+// On a terminal, the counts of all brokers are shown in one line.
+func TestTextOfCounts(t *testing.T) {
+	for want, counts := range map[string][]platform.Count{
+		"nothing yet": nil,
+		"2 gone, 5 ready": {
+			{Broker: "a", State: platform.Ready, Count: 2}, {Broker: "b", State: platform.Ready, Count: 3},
+			{State: platform.Gone, Count: 2},
+		},
+	} {
+		if got := textOfCounts(counts); got != want {
+			t.Error(got, want)
+		}
+	}
+}

@@ -1,0 +1,200 @@
+package main
+
+import (
+	"context"
+	"errors"
+	"fmt"
+	"net"
+	"net/http"
+	"time"
+
+	"pippinterm/platform"
+	"pippinterm/platform/api"
+	"pippinterm/platform/page"
+	"pippinterm/program"
+	"pippinterm/program/health"
+	"pippinterm/program/limiter"
+	"pippinterm/program/secrets"
+	"pippinterm/program/server"
+)
+
+// How many connections may be open to each part at once.
+const (
+	healthConnections = 100
+	pageConnections   = 100
+	apiConnections    = 256
+)
+
+// slowest is how long a client may take to accept one write of an answer.
+const slowest = 10 * time.Second
+
+// A part is what answers at an address besides the work.
+type part struct {
+	option, address string // the option that names the address, which is empty if the part isn't wanted
+	connections     int
+	certificates    *server.Certificates // or nil for HTTP
+	make            func() (http.Handler, error)
+	url             *string // where it is, once it listens
+}
+
+// parts are what is served. whenStopping takes what a part calls once the program is being stopped.
+func (r *running) parts(work context.Context, whenStopping func(func())) []part {
+	healthPart := func() (http.Handler, error) {
+		handler := health.New(work, health.Options{
+			Ready: r.store.Ready, Metrics: r.metrics.handler(), Observer: serverObserver{to: r.observer},
+		})
+		whenStopping(handler.Stop)
+		return handler, nil
+	}
+	s := r.settings.sites
+	return []part{
+		{option: "--page", address: s.page, connections: pageConnections, make: r.page, url: &r.pageURL},
+		{
+			option: "--api", address: s.api, connections: apiConnections, certificates: r.apiTLS, make: r.api,
+			url: &r.apiURL,
+		},
+		{
+			option: "--health-listen", address: s.healthListen, connections: healthConnections, make: healthPart,
+			url: &r.healthURL,
+		}, // it is the last to be stopped
+	}
+}
+
+// files is how many files may be open at once.
+func (r *running) files() uint64 {
+	needed := r.settings.atOnce + 100
+	for _, it := range r.parts(context.Background(), nil) {
+		if it.address != "" {
+			needed += it.connections
+		}
+	}
+	return uint64(needed)
+}
+
+// page makes the page.
+func (r *running) page() (http.Handler, error) {
+	s := r.settings.sites
+	options := page.Options{Hosts: s.pageHosts, Failed: func(err error) {
+		r.observer.Failed(platform.Failure{Event: "page_failed", Err: err})
+	}}
+	var err error
+	if options.Host, _, err = net.SplitHostPort(s.page); err != nil {
+		return nil, err
+	}
+	if s.pageUsers != "" {
+		var warning string
+		if options.Users, warning, err = secrets.Users(s.pageUsers); err != nil {
+			return nil, fmt.Errorf("--page-users: %w", err)
+		}
+		if len(options.Users) == 0 { // the page would ask for no password
+			return nil, fmt.Errorf("--page-users: %s has no user", s.pageUsers)
+		}
+		if warning != "" {
+			r.log.warn(warning)
+		}
+		options.Limiter = limiter.New()
+	}
+	return page.NewHandler(r.store, options)
+}
+
+// api makes the API.
+func (r *running) api() (http.Handler, error) {
+	tokens, warning, err := api.ReadTokens(r.settings.sites.apiTokens)
+	if err != nil {
+		return nil, fmt.Errorf("--api-tokens: %w", err)
+	}
+	if warning != "" {
+		r.log.warn(warning)
+	}
+	orders := platform.NewOrders(r.store, r.vault)
+	return api.NewHandler(orders, r.store, api.Options{Tokens: tokens, Observe: r.log.apiRequest})
+}
+
+// warnOf warns of a part that others than this machine reach, and that isn't protected.
+func (r *running) warnOf(of part, listener *server.Listener) {
+	address, isTCP := listener.Addr().(*net.TCPAddr)
+	if of.url == &r.healthURL || isTCP && address.IP.IsLoopback() {
+		return
+	}
+	if of.certificates == nil {
+		r.log.at(warningLevel, "no_tls").Str("listen", of.address).Send()
+	}
+	if of.url == &r.pageURL && r.settings.sites.pageUsers == "" {
+		r.log.at(warningLevel, "no_page_users").Str("listen", of.address).Send()
+	}
+}
+
+// serveSites serves the parts, until the function that it returns is called.
+func (r *running) serveSites(work, stop context.Context) (end func(), err error) {
+	var stops []func()
+	var sites []server.Site
+	for _, it := range r.parts(work, func(call func()) { stops = append(stops, call) }) {
+		if it.address == "" {
+			continue
+		}
+		site, err := r.site(work, it)
+		if err != nil {
+			for _, open := range sites {
+				_ = open.Listener.Close()
+			}
+			return nil, program.Unusable(fmt.Errorf("%s %s: %w", it.option, it.address, err))
+		}
+		sites = append(sites, site)
+	}
+	if len(sites) == 0 {
+		return func() {}, nil
+	}
+	return r.serveAll(work, stop, sites, stops), nil
+}
+
+// site listens for a part.
+func (r *running) site(work context.Context, of part) (server.Site, error) {
+	handler, err := of.make()
+	if err != nil {
+		return server.Site{}, err
+	}
+	listener, err := server.Listen(work, of.address, server.Options{
+		Connections: of.connections, Write: slowest, Certificates: of.certificates,
+		Observer: serverObserver{to: r.observer},
+	})
+	if err != nil {
+		return server.Site{}, err
+	}
+	*of.url = listener.URL()
+	r.warnOf(of, listener)
+	return server.Site{Listener: listener, Handler: handler}, nil
+}
+
+// serveAll serves the sites until the function that it returns is called. After stop it calls the functions stops.
+func (r *running) serveAll(work, stop context.Context, sites []server.Site, stops []func()) (end func()) {
+	ctx, cancel := context.WithCancel(work)
+	served, noticed := make(chan struct{}), make(chan struct{})
+	go func() {
+		defer close(noticed)
+		select {
+		case <-stop.Done():
+			for _, it := range stops {
+				it()
+			}
+		case <-ctx.Done():
+		}
+	}()
+	go func() {
+		defer close(served)
+		err := server.Server{Sites: sites, Stop: r.lastAnswers()}.Serve(ctx)
+		if err != nil && !errors.Is(err, server.ErrCut) {
+			r.log.at(errorLevel, "serving_failed").Err(err).Send()
+			r.notServed <- err
+		}
+	}()
+	return func() { cancel(); <-served; <-noticed }
+}
+
+// lastAnswers is how long requests may go on once the sites are stopped. Those of a worker had the time for which the
+// work was awaited.
+func (r *running) lastAnswers() time.Duration {
+	if r.settings.servesOnly {
+		return r.settings.stop
+	}
+	return time.Second
+}

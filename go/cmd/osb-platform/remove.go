@@ -1,0 +1,132 @@
+package main
+
+import (
+	"context"
+	"errors"
+	"fmt"
+
+	"github.com/spf13/cobra"
+
+	"pippinterm/platform"
+	"pippinterm/program"
+)
+
+// removeCommand has an instance deleted.
+func removeCommand(a *app) *cobra.Command {
+	withBindings, wait := false, &waiting{}
+	made := &cobra.Command{
+		Use:   "remove ID",
+		Short: "Have an instance deleted",
+		Long: `Write down that an instance is to be deleted. 'run' sends the request. An order that wasn't sent yet is
+withdrawn: it never will be sent. If the instance is gone or withdrawn already, that is printed.
+
+An instance with bindings can't be removed, unless --bindings has them removed first.`,
+		Example: `  osb-platform remove 5f1b7c0e-2f0b-4d0a-9d3e-6a3f0e1f2a3b --bindings --wait`,
+		Args:    cobra.ExactArgs(1),
+		RunE: a.over(false, func(ctx context.Context, c *cobra.Command, s session, arguments []string) error {
+			return remove(ctx, c, s, arguments[0], withBindings, wait)
+		}),
+	}
+	made.Flags().SortFlags = false
+	made.Flags().BoolVar(&withBindings, "bindings", false, "remove its bindings first")
+	wait.add(made.Flags(), "gone")
+	return made
+}
+
+// unbindCommand has a binding deleted.
+func unbindCommand(a *app) *cobra.Command {
+	wait := &waiting{}
+	made := &cobra.Command{
+		Use:     "unbind INSTANCE/BINDING",
+		Short:   "Have a binding deleted",
+		Long:    "Write down that a binding is to be deleted. 'run' sends the request. Its credentials stop working.",
+		Example: `  osb-platform unbind my-database/5f1b7c0e-2f0b-4d0a-9d3e-6a3f0e1f2a3b --wait`,
+		Args:    cobra.ExactArgs(1),
+		RunE: a.over(false, func(ctx context.Context, c *cobra.Command, s session, arguments []string) error {
+			id := arguments[0]
+			key, err := keyOf(id)
+			if err == nil && !key.IsBinding {
+				err = program.Unusable(fmt.Errorf("%q is an instance: want INSTANCE/BINDING, or use remove", id))
+			}
+			if err != nil {
+				return err
+			}
+			return remove(ctx, c, s, id, false, wait)
+		}),
+	}
+	wait.add(made.Flags(), "gone")
+	return made
+}
+
+func remove(ctx context.Context, c *cobra.Command, s session, id string, withBindings bool, wait *waiting) error {
+	before, err := readEntry(ctx, s.store, id)
+	if err != nil {
+		return err
+	}
+	if _, err := s.orders.Remove(ctx, before.Key, withBindings); err != nil {
+		return hinted(err, before, withBindings)
+	}
+	if wait.isOn {
+		return wait.wait(ctx, c, s, before.Key, false, deleted)
+	}
+	if before.State == platform.Gone || before.State == platform.Withdrawn {
+		_, err = fmt.Fprintf(c.OutOrStdout(), "it is %s already\n", before.State)
+	}
+	return err
+}
+
+// hinted names the option with which an instance is removed that has bindings, if these are why it can't be removed.
+func hinted(err error, before platform.Entry, withBindings bool) error {
+	var fault *platform.Fault
+	isConflict := errors.As(err, &fault) && fault.Kind == platform.Conflict
+	isAbandoned := before.State == platform.Abandoned // the other reason for a conflict
+	if !isConflict || isAbandoned || withBindings || before.Key.IsBinding {
+		return named(err, before)
+	}
+	text := fmt.Sprintf("the instance %s has bindings: unbind them first, or remove them with it by --bindings",
+		printable(idOf(before)))
+	return &platform.Fault{Kind: fault.Kind, Text: text}
+}
+
+// retryCommand has what is due later sent at once.
+func retryCommand(a *app) *cobra.Command {
+	return &cobra.Command{
+		Use:   "retry ID",
+		Short: "Send at once what is due later, and a deletion again that is polled without an end",
+		Long: `Send the next request of an instance or a binding at once. If the broker has accepted a deletion,
+and polling it doesn't end, the deletion is sent again.`,
+		Example: `  osb-platform retry 5f1b7c0e-2f0b-4d0a-9d3e-6a3f0e1f2a3b`,
+		Args:    cobra.ExactArgs(1),
+		RunE: a.over(false, func(ctx context.Context, _ *cobra.Command, s session, arguments []string) error {
+			entry, err := readEntry(ctx, s.store, arguments[0])
+			if err != nil {
+				return err
+			}
+			_, err = s.orders.Retry(ctx, entry.Key)
+			return named(err, entry)
+		}),
+	}
+}
+
+// abandonCommand ends a record that nothing else ends.
+func abandonCommand(a *app) *cobra.Command {
+	text := ""
+	made := &cobra.Command{
+		Use:   "abandon ID --because TEXT",
+		Short: "End a record although nobody knows what exists, for example because its broker is no more",
+		Long: `End the record of an instance or a binding as abandoned. Nothing more is sent. Nobody knows whether the
+resource exists: first have the operator of the broker look. 'list' keeps it, with the reason.`,
+		Example: `  osb-platform abandon my-database --because 'the broker was shut down, ticket 4711'`,
+		Args:    cobra.ExactArgs(1),
+		RunE: a.over(false, func(ctx context.Context, _ *cobra.Command, s session, arguments []string) error {
+			entry, err := readEntry(ctx, s.store, arguments[0])
+			if err != nil {
+				return err
+			}
+			_, err = s.orders.Abandon(ctx, entry.Key, text)
+			return named(err, entry)
+		}),
+	}
+	made.Flags().StringVar(&text, "because", "", "the reason, a `text` for whoever reads it later")
+	return made
+}

@@ -1,0 +1,192 @@
+package main
+
+import (
+	"errors"
+	"fmt"
+	"os"
+	"regexp"
+	"time"
+
+	"github.com/spf13/cobra"
+	"github.com/spf13/pflag"
+
+	"pippinterm/platform"
+	"pippinterm/platform/client"
+	"pippinterm/program"
+)
+
+// defaultStop is the default of --stop-seconds.
+const defaultStop = 5 * time.Second
+
+// RunSettings are the options of `osb-platform run`.
+type runSettings struct {
+	login      // of the broker default
+	moved      bool
+	worker     worker
+	atOnce     int
+	seconds    time.Duration
+	look, stop time.Duration
+	once       bool
+	unsettled  policy
+	level      level
+	tls        client.Files
+	sites      siteSettings
+	servesOnly bool // whether it is the command serve, and sends nothing
+}
+
+func runCommand(a *app) *cobra.Command {
+	s := &runSettings{unsettled: policy(platform.RemoveUnsettled), level: infoLevel, worker: worker(hostName())}
+	made := &cobra.Command{
+		Use:   "run",
+		Short: "Send what is due, until SIGTERM",
+		Long: `Send what is due to all brokers, until SIGTERM or SIGINT. Nothing is sent to a broker before it
+has answered its catalogue. Any number of workers run over one store, each under a name of its own.
+
+--broker URL is a shortcut for a store of one broker: it adds the broker 'default', or changes it. Its password comes
+from OSB_PLATFORM_PASSWORD, which isn't stored, or from --password-file.
+
+The log is lines of JSON on standard error. On standard output there is a line for each instance or binding that has
+come to another state: time, id, state. On a terminal it shows how many are in each state. SIGTERM ends the program
+with status 0 within 10 seconds. A request that isn't answered by then is given up, and what it has done is found out
+at the next start. SIGHUP reads the files of --tls-.. and --api-tls-.. again. GET
+/healthz, /readyz and /metrics need no password. The page and the API are served too, if --page and --api name where.`,
+		Example: `  osb-platform run
+  OSB_PLATFORM_PASSWORD=secret osb-platform run --broker http://127.0.0.1:8080 --health-listen 127.0.0.1:8091
+  osb-platform run --page 127.0.0.1:8090 --api 127.0.0.1:8092 --api-tokens tokens
+  osb-platform run --store postgresql://platform@db/platform --worker one`,
+		RunE: func(c *cobra.Command, _ []string) error {
+			return a.judged(runWorker(c.Context(), s, a.places, c.OutOrStdout(), c.ErrOrStderr()))
+		},
+	}
+	flags := made.Flags()
+	flags.SortFlags = false
+	s.addWork(flags)
+	s.sites.add(flags)
+	s.addBroker(flags)
+	addOld(flags, s)
+	return made
+}
+
+func (s *runSettings) addWork(flags *pflag.FlagSet) {
+	flags.Var(&s.worker, "worker", "the `name` of this worker, that no other one over the store has")
+	flags.Var(program.Count(&s.atOnce, 16, 1, 1024), "at-once", "requests that are in flight at once")
+	flags.Var(program.Seconds(&s.seconds, time.Minute), "seconds", "for a request to be sent and answered")
+	flags.BoolVar(&s.once, "once", false,
+		"send what is due, wait for the answers, and end. The exit status is 1 if a broker isn't reached")
+	flags.Var(&s.unsettled, "unsettled", "what becomes of what is unsettled under an id that was made up here: "+
+		"remove deletes it, wait leaves it to you (`remove|wait`)")
+	flags.Var(&s.level, "log-level", "the least `level` that is logged: debug, info, warning, error")
+	flags.Var(program.Seconds(&s.look, time.Second), "look-seconds", "between two looks for what others have written")
+	flags.Var(program.Seconds(&s.stop, defaultStop), "stop-seconds",
+		"for requests in flight to be answered after SIGTERM")
+	flags.StringVar(&s.tls.Authorities, "tls-ca", "",
+		"a `file` with the authorities of brokers' certificates, in place of the system's")
+	flags.StringVar(&s.tls.Certificate, "tls-certificate", "", "a `file` with the platform's own certificates")
+	flags.StringVar(&s.tls.Key, "tls-key", "", "the `file` with the key of --tls-certificate")
+	flags.BoolVar(&s.allowHTTP, "allow-http", false,
+		"allow http:// for brokers that aren't on this machine: everybody on the way reads their passwords")
+}
+
+func (s *runSettings) addBroker(flags *pflag.FlagSet) {
+	flags.StringVar(&s.url, "broker", "", "add or change the broker 'default': its `URL` up to before /v2")
+	flags.BoolVar(&s.moved, "moved", false,
+		"with --broker: it is the same broker at another URL. Another one would answer that each instance is gone")
+	flags.StringVar(&s.user, "user", "platform", "with --broker: the `name` with which the platform logs in")
+	flags.StringVar(&s.passwordFile, "password-file", "", "with --broker: a `file` with the password")
+	s.addSettings(flags)
+}
+
+// addOld adds the options of version 0.2 that have another name now, and those that are no more.
+func addOld(flags *pflag.FlagSet, s *runSettings) {
+	for name, of := range map[string]string{"threads": "at-once", "late-for": "hold", "pace": "first-pace"} {
+		flags.Var(flags.Lookup(of).Value, name, "now --"+of)
+		flags.Lookup(name).Hidden = true
+	}
+	for name, says := range map[string]string{
+		"organization": "it belongs to an order now: osb-platform create --organization TEXT",
+		"space":        "it belongs to an order now: osb-platform create --space TEXT",
+		"catalog":      "the broker is always asked for its catalogue. Leave --catalog out",
+	} {
+		flags.Var(gone{errors.New(says)}, name, says)
+		flags.Lookup(name).Hidden = true
+	}
+}
+
+// A gone is the value of a flag that is no more.
+type gone struct{ says error }
+
+func (gone) String() string { return "" }
+
+func (gone) Type() string { return "text" }
+
+func (g gone) Set(string) error { return g.says }
+
+// A policy is the value of --unsettled.
+type policy platform.Policy
+
+func (p *policy) String() string { return string(*p) }
+
+func (p *policy) Type() string { return "remove|wait" }
+
+func (p *policy) Set(text string) error {
+	switch chosen := platform.Policy(text); chosen {
+	case platform.RemoveUnsettled, platform.KeepUnsettled:
+		*p = policy(chosen)
+		return nil
+	}
+	return errors.New("want remove or wait")
+}
+
+// A worker is the value of --worker.
+type worker string
+
+var (
+	workerName = regexp.MustCompile(`^[A-Za-z0-9_.-]{1,64}$`)
+	notInName  = regexp.MustCompile(`[^A-Za-z0-9_.-]`)
+)
+
+func (w *worker) String() string { return string(*w) }
+
+func (w *worker) Type() string { return "name" }
+
+func (w *worker) Set(text string) error {
+	if !workerName.MatchString(text) {
+		return fmt.Errorf("a worker's name has 1 to 64 characters: letters, digits and _.-")
+	}
+	*w = worker(text)
+	return nil
+}
+
+func hostName() string {
+	name, err := os.Hostname()
+	if name = notInName.ReplaceAllString(name, "-"); err != nil || name == "" {
+		return "worker"
+	}
+	if len(name) > 64 {
+		name = name[:64]
+	}
+	return name
+}
+
+// check returns an error for options that don't go together.
+func (s *runSettings) check() error {
+	if err := s.sites.check(); err != nil {
+		return err
+	}
+	if s.servesOnly {
+		return s.checkServe()
+	}
+	if s.url != "" {
+		return nil
+	}
+	for at, name := range []string{"hold", "first-pace", "longest-pace", "longest-poll"} {
+		if s.set[at].changed {
+			return program.Unusable(fmt.Errorf("--%s is of a broker: osb-platform broker set NAME --%s", name, name))
+		}
+	}
+	if s.passwordFile != "" || s.moved {
+		return program.Unusable(errors.New("--password-file and --moved go with --broker URL. " +
+			"For other brokers use: osb-platform broker set"))
+	}
+	return nil
+}

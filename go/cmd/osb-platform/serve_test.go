@@ -1,0 +1,374 @@
+package main
+
+import (
+	"bytes"
+	"crypto/ecdsa"
+	"crypto/elliptic"
+	"crypto/rand"
+	"crypto/sha256"
+	"crypto/tls"
+	"crypto/x509"
+	"encoding/json"
+	"encoding/pem"
+	"fmt"
+	"io"
+	"math/big"
+	"net"
+	"net/http"
+	"net/http/httptest"
+	"os"
+	"path/filepath"
+	"regexp"
+	"strings"
+	"syscall"
+	"testing"
+	"time"
+
+	"pippinterm/platform"
+	"pippinterm/program/logs"
+)
+
+const token = "0123456789abcdef0123456789abcdef" // of the API
+
+// newTokens makes a file with a token that may do all, and with one that may only read: the same, behind an x.
+func newTokens(t *testing.T) string {
+	t.Helper()
+	file := filepath.Join(t.TempDir(), "tokens")
+	write(t, file, fmt.Sprintf("portal read,write,credentials %x\nreader read %x\n",
+		sha256.Sum256([]byte(token)), sha256.Sum256([]byte("x"+token))))
+	return file
+}
+
+// A caller calls the API.
+type caller struct {
+	t      *testing.T
+	client *http.Client
+	url    string
+	token  string
+}
+
+// answered is an answer of the API.
+type answered map[string]any
+
+// call makes a request, whose answer must have this status.
+func (c caller) call(status int, method, path, body string) answered {
+	c.t.Helper()
+	given, text := c.try(method, path, body)
+	if given != status {
+		c.t.Fatalf("%s %s: %d %s", method, path, given, text)
+	}
+	var read answered
+	if err := json.Unmarshal(text, &read); err != nil && len(text) > 0 {
+		c.t.Fatal(err)
+	}
+	return read
+}
+
+func (c caller) try(method, path, body string) (status int, text []byte) {
+	c.t.Helper()
+	request, err := http.NewRequest(method, c.url+path, strings.NewReader(body))
+	if err != nil {
+		c.t.Fatal(err)
+	}
+	if body != "" {
+		request.Header.Set("Content-Type", "application/json")
+	}
+	request.Header.Set("Authorization", "Bearer "+c.token)
+	given, err := c.client.Do(request)
+	if err != nil {
+		c.t.Fatal(err)
+	}
+	defer given.Body.Close()
+	if text, err = io.ReadAll(given.Body); err != nil {
+		c.t.Fatal(err)
+	}
+	return given.StatusCode, text
+}
+
+// await waits until a row is in a state.
+func (c caller) await(path, state string) {
+	c.t.Helper()
+	for late := time.Now().Add(deadline); ; time.Sleep(10 * time.Millisecond) {
+		got := c.call(200, "GET", path, "")
+		if got["state"] == state {
+			return
+		}
+		if time.Now().After(late) {
+			c.t.Fatalf("%s is %v", path, got)
+		}
+	}
+}
+
+// The whole way over the API, beside a worker: a broker is added; an instance and a binding are created; the
+// credentials are read; all is removed. The page shows the instance.
+func TestWholeWayOverAPI(t *testing.T) {
+	s, store, key := newSite(t), filepath.Join(t.TempDir(), "store"), newKey(t)
+	t.Setenv("XDG_STATE_HOME", t.TempDir())
+	p := start(t, store, nil, "--key-file", key, "--api", "127.0.0.1:0", "--api-tokens", newTokens(t),
+		"--page", "127.0.0.1:0", "--page-host", "platform.example")
+	c := caller{t: t, client: http.DefaultClient, url: p.api, token: token}
+	c.call(201, "PUT", "/v1/brokers/local", fmt.Sprintf(
+		`{"url": %q, "user": "platform", "password": "secret", "settings": {"first_pace_seconds": 0.01}}`, s.url))
+	if reached := p.event("broker_reached"); reached["broker"] != "local" {
+		t.Error(reached)
+	}
+	c.call(201, "POST", "/v1/instances", `{"plan": "by-worker", "id": "one"}`)
+	c.await("/v1/instances/one", "ready")
+	c.call(201, "POST", "/v1/instances/one/bindings", `{"id": "two"}`)
+	c.await("/v1/instances/one/bindings/two", "ready")
+	given := c.call(200, "GET", "/v1/instances/one/bindings/two/credentials", "")
+	credentials, _ := given["credentials"].(map[string]any)
+	secret, _ := credentials["token"].(string)
+	if secret == "" {
+		t.Errorf("%v", given)
+	}
+	pageShows(t, p)
+	for _, it := range []struct {
+		token, method, path string
+		status              int
+	}{
+		{"y" + token, "GET", "/v1/instances", 401}, {"", "GET", "/v1/counts", 401},
+		{"x" + token, "GET", "/v1/instances", 200}, {"x" + token, "DELETE", "/v1/instances/one", 403},
+		{"x" + token, "GET", "/v1/instances/one/bindings/two/credentials", 403},
+		{token, "DELETE", "/v1/instances/one", 409},
+	} {
+		other := c
+		other.token = it.token
+		other.call(it.status, it.method, it.path, "")
+	}
+	c.call(202, "DELETE", "/v1/instances/one?bindings=true", "")
+	c.await("/v1/instances/one", "gone")
+	c.await("/v1/instances/one/bindings/two", "gone")
+	log := p.stop()
+	for _, it := range []string{
+		`"level":"info","event":"api_request","client":"127.0.0.1","token":"portal","method":"DELETE",` +
+			`"target":"/v1/instances/one","route":"/v1/instances/{id}","status":202,`,
+		`"level":"warning","event":"api_request","client":"127.0.0.1","method":"GET","target":"/v1/counts",` +
+			`"route":"/v1/counts","status":401,"code":"unauthorized",`,
+	} {
+		if !strings.Contains(log, it) {
+			t.Errorf("%s isn't in the log: %s", it, log)
+		}
+	}
+	if strings.Contains(log, token) || secret != "" && strings.Contains(log, secret) {
+		t.Errorf("the log has a secret: %s", log)
+	}
+}
+
+// pageShows checks that the page shows the instance one, at each of its names and at no other.
+func pageShows(t *testing.T, p *process) {
+	t.Helper()
+	for host, want := range map[string]int{"": 200, "platform.example": 200, "elsewhere.example": 421} {
+		request, err := http.NewRequest("GET", p.page+"/instance/one", nil)
+		if err != nil {
+			t.Fatal(err)
+		}
+		request.Host = host
+		given, err := http.DefaultClient.Do(request)
+		if err != nil {
+			t.Fatal(err)
+		}
+		text, err := io.ReadAll(given.Body)
+		_ = given.Body.Close()
+		if err != nil || given.StatusCode != want {
+			t.Errorf("%q: %d %v %s", host, given.StatusCode, err, text)
+		}
+		if isShown := strings.Contains(string(text), "Instance <code>one</code>"); isShown != (want == 200) {
+			t.Errorf("%q: %s", host, text)
+		}
+	}
+}
+
+// serve takes orders and shows them, and sends nothing. It is no worker: one that has its host's name runs beside it.
+func TestServe(t *testing.T) {
+	s, store := newSite(t), filepath.Join(t.TempDir(), "store")
+	t.Setenv("XDG_STATE_HOME", t.TempDir())
+	password := filepath.Join(t.TempDir(), "password")
+	users := filepath.Join(t.TempDir(), "users")
+	write(t, password, "secret\n")
+	write(t, users, "operator:hidden\n")
+	check(t, store, []line{{"broker add local " + s.url + " --password-file " + password, 0, ``, ``}})
+	p := launch(t, "serving", osbPlatform(nil, "serve", "--store", store, "--api", "127.0.0.1:0", "--api-tokens",
+		newTokens(t), "--page", "127.0.0.1:0", "--page-users", users, "--health-listen", "127.0.0.1:0"))
+	c := caller{t: t, client: http.DefaultClient, url: p.api, token: token}
+	c.call(201, "POST", "/v1/instances", `{"plan": "at-once", "id": "one"}`)
+	if status, _ := get(t, p.page+"/"); status != 401 {
+		t.Errorf("without a password: %d", status)
+	}
+	if status, text := get(t, strings.Replace(p.page, "//", "//operator:hidden@", 1)+"/instance/one"); status != 200 ||
+		!strings.Contains(text, "ordered") {
+		t.Errorf("the page: %d %s", status, text)
+	}
+	if status, _ := get(t, p.health+"/readyz"); status != 200 {
+		t.Errorf("/readyz: %d", status)
+	}
+	c.await("/v1/instances/one", "ordered")
+	check(t, store, []line{{"run --once", 0, "20.*\tone\tready", `.*"worker":".*`}})
+	c.await("/v1/instances/one", "ready")
+	s.mutex.Lock()
+	if s.asked != 1 {
+		t.Errorf("%d requests", s.asked)
+	}
+	s.mutex.Unlock()
+	if rest := p.stop(); strings.Contains(rest, `"event":"request"`) || p.out.Len() > 0 {
+		t.Errorf("the log: %s; %s", rest, p.out.String())
+	}
+}
+
+// The API is HTTPS, and its certificate is read again at SIGHUP.
+func TestAPIOverTLS(t *testing.T) {
+	t.Setenv("XDG_STATE_HOME", t.TempDir())
+	folder := t.TempDir()
+	certificate, key := filepath.Join(folder, "certificate"), filepath.Join(folder, "key")
+	first := newCertificate(t, certificate, key)
+	p := launch(t, "serving", osbPlatform(nil, "serve", "--store", filepath.Join(folder, "store"),
+		"--api", "127.0.0.1:0", "--api-tokens", newTokens(t),
+		"--api-tls-certificate", certificate, "--api-tls-key", key))
+	if !strings.HasPrefix(p.api, "https://") {
+		t.Errorf("the API is at %s", p.api)
+	}
+	secureCaller(t, p, first).call(200, "GET", "/v1/counts", "")
+	second := newCertificate(t, certificate, key)
+	if err := p.command.Process.Signal(syscall.SIGHUP); err != nil {
+		t.Fatal(err)
+	}
+	p.event("certificates_reloaded")
+	secureCaller(t, p, second).call(200, "GET", "/v1/counts", "")
+	p.stop()
+}
+
+// secureCaller calls the API of a process, which must have this certificate.
+func secureCaller(t *testing.T, p *process, trusted *x509.CertPool) caller {
+	t.Helper()
+	transport := &http.Transport{TLSClientConfig: &tls.Config{RootCAs: trusted, MinVersion: tls.VersionTLS12}}
+	t.Cleanup(transport.CloseIdleConnections)
+	return caller{t: t, client: &http.Client{Transport: transport}, url: p.api, token: token}
+}
+
+// newCertificate writes a new certificate with its key, and returns what trusts only that one.
+func newCertificate(t *testing.T, certificate, key string) *x509.CertPool {
+	t.Helper()
+	private, err := ecdsa.GenerateKey(elliptic.P256(), rand.Reader)
+	if err != nil {
+		t.Fatal(err)
+	}
+	of := &x509.Certificate{
+		SerialNumber: big.NewInt(time.Now().UnixNano()), NotAfter: time.Now().Add(time.Hour),
+		IPAddresses: []net.IP{net.IPv4(127, 0, 0, 1)}, IsCA: true, BasicConstraintsValid: true,
+	}
+	made, err := x509.CreateCertificate(rand.Reader, of, of, &private.PublicKey, private)
+	if err != nil {
+		t.Fatal(err)
+	}
+	encoded, err := x509.MarshalPKCS8PrivateKey(private)
+	if err != nil {
+		t.Fatal(err)
+	}
+	text := pem.EncodeToMemory(&pem.Block{Type: "CERTIFICATE", Bytes: made})
+	write(t, certificate, string(text))
+	write(t, key, string(pem.EncodeToMemory(&pem.Block{Type: "PRIVATE KEY", Bytes: encoded})))
+	trusted := x509.NewCertPool()
+	trusted.AppendCertsFromPEM(text)
+	return trusted
+}
+
+// What others than this machine reach without TLS or a password, and a file that others may read, are in the log.
+func TestServeWarns(t *testing.T) {
+	t.Setenv("XDG_STATE_HOME", t.TempDir())
+	tokens := newTokens(t)
+	if err := os.Chmod(tokens, 0o644); err != nil {
+		t.Fatal(err)
+	}
+	p := launch(t, "no_tls", osbPlatform(nil, "serve", "--store", filepath.Join(t.TempDir(), "store"),
+		"--page", "0.0.0.0:0", "--api", "127.0.0.1:0", "--api-tokens", tokens))
+	p.event("no_page_users")
+	if secret, _ := p.event("secret")["warning"].(string); !strings.Contains(secret, "chmod 600") {
+		t.Errorf("the warning: %q", secret)
+	}
+	p.event("serving")
+	if rest := p.stop(); strings.Contains(rest, "no_tls") {
+		t.Errorf("the log: %s", rest)
+	}
+}
+
+// Ids that are GUIDs aren't kept, and of the others no more than a number.
+func TestOrderedIDs(t *testing.T) {
+	ids := newOrderedIDs()
+	for n := 0; n < mostOrderedIDs+10; n++ {
+		learnID(t, ids, fmt.Sprint("id ", n))
+	}
+	learnID(t, ids, "00000000-0000-0000-0000-000000000001")
+	last := learnID(t, ids, "last")
+	if len(ids.of) != mostOrderedIDs {
+		t.Errorf("it knows %d", len(ids.of))
+	}
+	if instance, binding := ids.find(last); instance != "last" || binding != "" {
+		t.Errorf("it is %q, %q", instance, binding)
+	}
+	var none *orderedIDs
+	if instance, _ := none.find(last); instance != last.String() {
+		t.Errorf("it is %q", instance)
+	}
+}
+
+// learnID has ids learn of an instance, and returns its key.
+func learnID(t *testing.T, ids *orderedIDs, id string) platform.Key {
+	t.Helper()
+	key, err := platform.ParseKey(id)
+	if err != nil {
+		t.Fatal(err)
+	}
+	ids.learn(platform.Entry{Order: platform.Order{Key: key, Names: platform.Names{Instance: id}}})
+	return key
+}
+
+// The connections of what is served count among the files that may be open.
+func TestFiles(t *testing.T) {
+	for _, it := range []struct {
+		sites siteSettings
+		want  uint64
+	}{
+		{siteSettings{}, 116},
+		{siteSettings{healthListen: "127.0.0.1:0"}, 116 + healthConnections},
+		{siteSettings{page: "127.0.0.1:0", api: "127.0.0.1:0"}, 116 + pageConnections + apiConnections},
+	} {
+		r := &running{settings: &runSettings{atOnce: 16, sites: it.sites}}
+		if got := r.files(); got != it.want {
+			t.Errorf("%+v: %d", it.sites, got)
+		}
+	}
+}
+
+// If the store fails, the page and the API say only that, and the log has why.
+func TestServedStoreFails(t *testing.T) {
+	var written bytes.Buffer
+	r := &running{
+		settings: &runSettings{sites: siteSettings{
+			page: "127.0.0.1:0", pageHosts: []string{"platform.example"}, api: "127.0.0.1:0", apiTokens: newTokens(t),
+		}},
+		log: eventLog{logger: logs.New(&written)}, store: &countStore{err: platform.ErrAway},
+	}
+	r.observer = observers{logObserver{eventLog: r.log}}
+	for target, it := range map[string]struct {
+		make func() (http.Handler, error)
+		log  string
+	}{
+		"/?still=1":  {r.page, `"level":"error","event":"page_failed","error":".+"`},
+		"/v1/counts": {r.api, `"level":"error","event":"api_request",.*"status":503,.*"error":"the store is away"`},
+	} {
+		handler, err := it.make()
+		if err != nil {
+			t.Fatal(err)
+		}
+		request := httptest.NewRequest("GET", "http://platform.example"+target, nil)
+		request.Header.Set("Authorization", "Bearer "+token)
+		recorder := httptest.NewRecorder()
+		handler.ServeHTTP(recorder, request)
+		if recorder.Code != 503 || strings.Contains(recorder.Body.String(), "is away") {
+			t.Errorf("%s: %d %s", target, recorder.Code, recorder.Body)
+		}
+		if !regexp.MustCompile(it.log).MatchString(written.String()) {
+			t.Errorf("%s: the log: %s", target, written.String())
+		}
+	}
+}

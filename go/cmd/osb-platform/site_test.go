@@ -1,0 +1,151 @@
+package main
+
+import (
+	"context"
+	"net/http"
+	"net/http/httptest"
+	"os"
+	"path/filepath"
+	"sync"
+	"testing"
+	"time"
+
+	"pippinterm/backend/folders"
+	"pippinterm/broker"
+	"pippinterm/broker/filelock"
+	"pippinterm/broker/sqlite"
+	"pippinterm/osb"
+)
+
+// A site is a broker that sells folders, over HTTP, in this process.
+type site struct {
+	url string
+
+	mutex   sync.Mutex
+	instead []int         // statuses with which the next requests are answered, in place of the broker's answers
+	held    chan struct{} // if it isn't nil, answers about instances and bindings wait until it is closed
+	asked   int           // requests about instances and bindings
+}
+
+// newSite starts a broker with the standard catalogue of osb-broker.
+func newSite(t *testing.T) *site {
+	t.Helper()
+	document, err := os.ReadFile("../osb-broker/catalogue.json")
+	if err != nil {
+		t.Fatal(err)
+	}
+	catalogue, err := broker.NewCatalogue(document, true)
+	if err != nil {
+		t.Fatal(err)
+	}
+	folder, ctx := t.TempDir(), context.Background()
+	backend, err := folders.New(filepath.Join(folder, "instances"))
+	if err != nil {
+		t.Fatal(err)
+	}
+	store, err := sqlite.Open(ctx, filepath.Join(folder, "holdings"), broker.Silent{})
+	if err != nil {
+		t.Fatal(err)
+	}
+	locks, err := filelock.New(filepath.Join(folder, "locks"))
+	if err != nil {
+		t.Fatal(err)
+	}
+	service := broker.NewService(catalogue, store, backend, locks, broker.Rules{
+		FirstPoll: true, WaitForPoll: time.Minute,
+	}, broker.Silent{})
+	sweeper := broker.NewSweeper(service, broker.Silent{})
+	users, err := broker.NewUsers(map[string][]string{"platform": {"secret"}})
+	if err != nil {
+		t.Fatal(err)
+	}
+	handler, err := broker.NewHandler(ctx, service, broker.Config{
+		Users: users, LongestBody: 1 << 20, AtOnce: 8, Touch: sweeper.Touch, Observer: broker.Silent{},
+	})
+	if err != nil {
+		t.Fatal(err)
+	}
+	stop, cancel := context.WithCancel(ctx)
+	swept := make(chan struct{})
+	go func() {
+		defer close(swept)
+		sweeper.Run(ctx, stop, 2, 20*time.Millisecond)
+	}()
+	s := &site{}
+	server := httptest.NewServer(s.before(handler))
+	s.url = server.URL
+	t.Cleanup(func() {
+		server.Close()
+		cancel()
+		<-swept
+		_ = store.Close()
+	})
+	return s
+}
+
+// answer has the next requests about instances and bindings answered with these statuses, and not by the broker.
+func (s *site) answer(statuses ...int) {
+	s.mutex.Lock()
+	defer s.mutex.Unlock()
+	s.instead = statuses
+}
+
+// hold has answers wait, until the function that it returns is called.
+func (s *site) hold() (release func()) {
+	held := make(chan struct{})
+	s.mutex.Lock()
+	defer s.mutex.Unlock()
+	s.held = held
+	return func() {
+		s.mutex.Lock()
+		defer s.mutex.Unlock()
+		if s.held == held {
+			s.held = nil
+			close(held)
+		}
+	}
+}
+
+// await waits for so many requests about instances and bindings.
+func (s *site) await(t *testing.T, count int) {
+	t.Helper()
+	for late := time.Now().Add(deadline); ; time.Sleep(5 * time.Millisecond) {
+		s.mutex.Lock()
+		asked := s.asked
+		s.mutex.Unlock()
+		if asked >= count {
+			return
+		}
+		if time.Now().After(late) {
+			t.Fatalf("%d requests", asked)
+		}
+	}
+}
+
+// before counts requests, answers some of them, and holds answers.
+func (s *site) before(next http.Handler) http.Handler {
+	return http.HandlerFunc(func(w http.ResponseWriter, r *http.Request) {
+		if r.URL.Path == "/v2/catalog" {
+			next.ServeHTTP(w, r)
+			return
+		}
+		s.mutex.Lock()
+		s.asked++
+		held, status := s.held, 0
+		if len(s.instead) > 0 {
+			status, s.instead = s.instead[0], s.instead[1:]
+		}
+		s.mutex.Unlock()
+		if held != nil {
+			<-held
+		}
+		if status == 0 {
+			next.ServeHTTP(w, r)
+			return
+		}
+		w.Header().Set("Content-Type", "application/json")
+		w.Header().Set(osb.RequestIdentityHeader, r.Header.Get(osb.RequestIdentityHeader))
+		w.WriteHeader(status)
+		_, _ = w.Write([]byte(`{"error": "Odd", "description": "no \u001b[2J place"}`))
+	})
+}

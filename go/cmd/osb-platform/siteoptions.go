@@ -1,0 +1,50 @@
+package main
+
+import (
+	"errors"
+
+	"github.com/spf13/pflag"
+
+	"pippinterm/program"
+	"pippinterm/program/server"
+)
+
+// SiteSettings are the options of what is served besides the work.
+type siteSettings struct {
+	healthListen    string
+	page, pageUsers string
+	pageHosts       []string
+	api, apiTokens  string
+	apiTLS          server.CertificateFiles
+}
+
+func (s *siteSettings) add(flags *pflag.FlagSet) {
+	flags.StringVar(&s.healthListen, "health-listen", "", "a `host:port` for /healthz, /readyz and /metrics")
+	flags.StringVar(&s.page, "page", "", "a `host:port` for the page that shows all to a browser")
+	flags.StringArrayVar(&s.pageHosts, "page-host", nil, "a further `name` at which the page answers, such as that of "+
+		"a proxy, with its port if it isn't the usual one. May be given several times")
+	flags.StringVar(&s.pageUsers, "page-users", "",
+		"a `file` with the page's users, a user:password on each line (default: it asks for no password)")
+	flags.StringVar(&s.api, "api", "", "a `host:port` for the API. GET /v1/openapi.json describes it")
+	flags.StringVar(&s.apiTokens, "api-tokens", "",
+		"the `file` with the API's tokens: a name, permissions, and the SHA-256 of a token on each line")
+	flags.StringVar(&s.apiTLS.Certificate, "api-tls-certificate", "",
+		"a `file` with the certificates of the API, which is HTTPS then")
+	flags.StringVar(&s.apiTLS.Key, "api-tls-key", "", "the `file` with the key of --api-tls-certificate")
+}
+
+// check returns an error for options that don't go together.
+func (s *siteSettings) check() error {
+	switch {
+	case s.page == "" && (len(s.pageHosts) > 0 || s.pageUsers != ""):
+		return program.Unusable(errors.New("--page-host and --page-users go with --page HOST:PORT"))
+	case s.api == "" && (s.apiTokens != "" || s.isTLS()):
+		return program.Unusable(errors.New("--api-tokens and --api-tls-.. go with --api HOST:PORT"))
+	case s.api != "" && s.apiTokens == "":
+		return program.Unusable(errors.New("--api wants a file with tokens: --api-tokens FILE"))
+	}
+	return nil
+}
+
+// isTLS is whether the API is HTTPS.
+func (s *siteSettings) isTLS() bool { return s.apiTLS != (server.CertificateFiles{}) }

@@ -1,0 +1,192 @@
+package main
+
+import (
+	"context"
+	"fmt"
+	"io"
+	"time"
+
+	"github.com/spf13/cobra"
+	"github.com/spf13/pflag"
+
+	"pippinterm/platform"
+)
+
+// A waiting is the value of the flag --wait[=SECONDS].
+type waiting struct {
+	isOn  bool
+	limit time.Duration // 0 for none
+}
+
+const withoutLimit = "forever"
+
+func (w *waiting) String() string {
+	if !w.isOn {
+		return ""
+	}
+	return w.limit.String()
+}
+
+func (w *waiting) Type() string { return "seconds" }
+
+func (w *waiting) Set(text string) error {
+	if text == withoutLimit {
+		w.isOn, w.limit = true, 0
+		return nil
+	}
+	limit, err := secondsOf(text, time.Millisecond)
+	if err != nil {
+		return err
+	}
+	w.isOn, w.limit = true, limit
+	return nil
+}
+
+func (w *waiting) add(flags *pflag.FlagSet, end string) {
+	flags.Var(w, "wait", "wait until it is "+end+", for so many seconds at most, and print its id and state. "+
+		"The exit status is 0 then, 3 if it has ended otherwise, and 4 if it goes on")
+	flags.Lookup("wait").NoOptDefVal = withoutLimit
+}
+
+// The times between two looks at a row that is waited for.
+const (
+	firstLook   = 50 * time.Millisecond
+	longestLook = time.Second
+)
+
+// An end is whether a row has ended, and whether as it was asked for.
+type end func(platform.Entry) (hasEnded, isGood bool)
+
+// created is the end of a creation.
+func created(e platform.Entry) (hasEnded, isGood bool) {
+	switch e.State {
+	case platform.Ready:
+		return true, true
+	case platform.Gone, platform.Withdrawn, platform.Abandoned:
+		return true, false
+	case platform.Unsettled:
+		return e.Rests(), false
+	}
+	return false, false
+}
+
+// deleted is the end of a removal.
+func deleted(e platform.Entry) (hasEnded, isGood bool) {
+	switch e.State {
+	case platform.Gone, platform.Withdrawn:
+		return true, true
+	case platform.Abandoned:
+		return true, false
+	}
+	return false, false
+}
+
+// wait waits for the end of a row, and prints its id and its state. If isChain, it goes on with the next try of an
+// order that has failed.
+//
+// Errors: an endError; those of the store.
+func (w *waiting) wait(ctx context.Context, c *cobra.Command, s session, key platform.Key, isChain bool, is end) error {
+	if !w.isOn {
+		return nil
+	}
+	shown := newProgress(c.ErrOrStderr())
+	defer shown.end()
+	started := time.Now()
+	for rest := firstLook; ; rest = twice(rest, longestLook) {
+		entry, err := s.store.Read(ctx, key)
+		if err == nil && isChain {
+			entry, err = lastTry(ctx, s.store, entry)
+		}
+		if err != nil {
+			return err
+		}
+		hasEnded, isGood := is(entry)
+		passed := time.Since(started)
+		isOver := w.limit > 0 && passed >= w.limit
+		if hasEnded || isOver {
+			shown.end()
+			return ended(ctx, c.OutOrStdout(), s.store, entry, hasEnded, isGood)
+		}
+		shown.show(fmt.Sprintf("%s: %s, %d s%s", printable(idOf(entry)), entry.State, int(passed.Seconds()),
+			hint(entry, 5*time.Second)))
+		if w.limit > 0 && rest > w.limit-passed {
+			rest = w.limit - passed
+		}
+		if err := sleep(ctx, rest); err != nil {
+			return err
+		}
+	}
+}
+
+func sleep(ctx context.Context, rest time.Duration) error {
+	timer := time.NewTimer(rest)
+	defer timer.Stop()
+	select {
+	case <-ctx.Done():
+		return ctx.Err()
+	case <-timer.C:
+		return nil
+	}
+}
+
+func twice(rest, longest time.Duration) time.Duration {
+	if rest *= 2; rest < longest {
+		return rest
+	}
+	return longest
+}
+
+// lastTry is the latest try of an order.
+func lastTry(ctx context.Context, store platform.Store, entry platform.Entry) (platform.Entry, error) {
+	all, err := triesOf(ctx, store, entry)
+	if err != nil {
+		return entry, err
+	}
+	for _, it := range all {
+		if it.Try > entry.Try {
+			entry = it
+		}
+	}
+	return entry, nil
+}
+
+// ended prints the end of a wait.
+func ended(
+	ctx context.Context, to io.Writer, store platform.Store, e platform.Entry, hasEnded, isGood bool,
+) error {
+	if _, err := fmt.Fprintf(to, "%s\t%s\n", printable(idOf(e)), e.State); err != nil {
+		return err
+	}
+	switch {
+	case isGood:
+		return nil
+	case !hasEnded:
+		text := fmt.Sprintf("%s is still %s%s", printable(idOf(e)), e.State, because(ctx, store, e))
+		return &endError{status: statusGoesOn, text: text}
+	}
+	text := fmt.Sprintf("%s is %s%s", printable(idOf(e)), e.State, because(ctx, store, e))
+	return &endError{status: statusOtherwise, text: text}
+}
+
+// because is why a row is as it is, behind a colon, or empty. Of an order that isn't sent, it is why its broker isn't
+// reached.
+func because(ctx context.Context, store platform.Store, e platform.Entry) string {
+	text := reasonOf(e)
+	if e.State == platform.Ordered {
+		if broker, err := brokerOf(ctx, store, e.Broker); err == nil && text == "" {
+			text = textOf(broker.Reason)
+		}
+	}
+	if text == "" {
+		return hint(e, 0)
+	}
+	return ": " + text
+}
+
+// hint is what may be wrong with an order that isn't sent though it has been due for so long.
+func hint(e platform.Entry, since time.Duration) string {
+	if e.State != platform.Ordered || e.Rests() || time.Since(e.Due) < since {
+		return ""
+	}
+	return " (not sent yet: check that 'osb-platform run' runs, and reaches the broker)"
+}
