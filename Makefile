@@ -36,14 +36,14 @@ format: generate ## generate, format all Python, bash and Go, and embed files in
 	scripts/files python | xargs black -q
 	scripts/files python | xargs isort -q
 	scripts/files bash | xargs shfmt -w -i 4 -ci
-	gofmt -w go examples/go
+	gofmt -w go
 	scripts/embed.py
 
 quick-format:
 	scripts/files python | xargs black -q --check
 	scripts/files python | xargs isort -q --check
 	scripts/files bash | xargs shfmt -d -i 4 -ci
-	[ -z "$$(gofmt -l go examples/go | tee /dev/stderr)" ]
+	[ -z "$$(gofmt -l go | tee /dev/stderr)" ]
 
 quick-lint:
 	scripts/files python | xargs flake8
@@ -53,9 +53,9 @@ quick-shell:
 
 quick-go: $(if $(wildcard /usr/share/gocode/src/honnef.co/go/tools/cmd/staticcheck),$(STATICCHECK))
 	export PKG_CONFIG_PATH="$(LIBRARY)" LD_LIBRARY_PATH="$(LIBRARY)" GOFLAGS='-mod=readonly -buildvcs=false' GOPROXY=off
-	for module in go/osb examples/go; do
-	    (cd $$module && go vet ./... && if [ -x $(STATICCHECK) ]; then $(STATICCHECK) ./...; fi)
-	done
+	cd go/osb
+	go vet ./...
+	if [ -x $(STATICCHECK) ]; then $(STATICCHECK) ./...; fi
 
 quick-types:
 	scripts/files python | xargs mypy --scripts-are-modules

@@ -1,32 +1,26 @@
-"""The Go package and its examples: gofmt, go vet, staticcheck, and the tests with the race detector."""
+"""The package osb of Go as a module: gofmt, go vet, staticcheck, and the tests with the race detector."""
 from __future__ import annotations
 
-from pathlib import Path
-
 import pytest
-from go.toolchain import EXAMPLES, TOP, Go
+from go.toolchain import TOP, Go
 
 pytestmark = pytest.mark.slow
 
-modules = pytest.mark.parametrize("module", [TOP / "go" / "osb", EXAMPLES], ids=["osb", "examples"])
+MODULE = TOP / "go" / "osb"
 
 
-@modules
-def test_format(go: Go, module: Path) -> None:
-    assert go(module, "gofmt", "-l", ".") == ""
+def test_format(go: Go) -> None:
+    assert go(MODULE, "gofmt", "-l", ".") == ""
 
 
-@modules
-def test_vet(go: Go, module: Path) -> None:
-    go(module, "go", "vet", "./...")
+def test_vet(go: Go) -> None:
+    go(MODULE, "go", "vet", "./...")
 
 
-@modules
-def test_staticcheck(go: Go, staticcheck: str, module: Path) -> None:
-    assert go(module, staticcheck, "./...") == ""
+def test_staticcheck(go: Go, staticcheck: str) -> None:
+    assert go(MODULE, staticcheck, "./...") == ""
 
 
-@modules
-def test_tests(go: Go, module: Path) -> None:
-    """The tests of each package, and the examples of the package's page."""
-    go(module, "go", "test", "-race", "-count=1", "-timeout", "5m", "./...")
+def test_tests(go: Go) -> None:
+    """The tests, and the examples of the package's page."""
+    go(MODULE, "go", "test", "-race", "-count=1", "-timeout", "5m", "./...")

@@ -11,7 +11,6 @@ from pathlib import Path
 import pytest
 
 TOP = Path(__file__).resolve().parents[2]
-EXAMPLES = TOP / "examples" / "go"
 SOURCES = Path("/usr/share/gocode")
 """Where Debian installs the sources of Go packages."""
 

@@ -1,269 +1,132 @@
 package osb_test
 
 import (
-	"context"
-	"encoding/json"
-	"errors"
-	"fmt"
-	"io"
 	"net/http"
-	"net/http/httptest"
-	"sync"
 	"testing"
-	"time"
 
 	"pippinterm/osb"
 )
 
-// The life of an instance of an asynchronous plan.
-func TestAsynchronous(t *testing.T) {
-	p, ctx := newPair(t), context.Background()
-	standing, err := p.client.Create(ctx, instance, service, async)
-	p.stands(standing, err, osb.StatePolling, asyncRow("making"), 1)
-	standing, err = p.client.Step(ctx, instance)
-	p.stands(standing, err, osb.StatePolling, asyncRow("making"), 1)
-	p.finish(true)
-	standing, err = p.client.Step(ctx, instance)
-	p.stands(standing, err, osb.StateReady, asyncRow("ready"), 1)
-	standing, err = p.client.Step(ctx, instance)
-	if !errors.Is(err, osb.ErrNothingDue) || standing.State != osb.StateReady {
-		t.Fatal(standing, err)
-	}
-	standing, err = p.client.Remove(ctx, instance)
-	p.stands(standing, err, osb.StateCleaning, asyncRow("ready"), 1)
-	standing, err = p.client.Step(ctx, instance)
-	p.stands(standing, err, osb.StateCleaningPolling, asyncRow("deleting"), 0)
-	standing, err = p.client.Step(ctx, instance)
-	p.stands(standing, err, osb.StateCleaningPolling, asyncRow("deleting"), 0)
-	p.finish(true)
-	standing, err = p.client.Step(ctx, instance)
-	p.stands(standing, err, osb.StateGone, tombstone, 0)
+// Both sides of one instance of an asynchronous plan, with all that HTTP carries between them. What is kept of it goes
+// through its text after each step, as through a database.
+type both struct {
+	t       *testing.T
+	record  osb.Record
+	holding osb.Holding
 }
 
-// Polling takes too long, and is given up.
-func TestExpire(t *testing.T) {
-	p, ctx := newPair(t), context.Background()
-	standing, err := p.client.Create(ctx, instance, service, async)
-	p.stands(standing, err, osb.StatePolling, asyncRow("making"), 1)
-	standing, err = p.client.Expire(ctx, instance)
-	p.stands(standing, err, osb.StateCleaning, asyncRow("making"), 1)
-	if standing, err = p.client.Expire(ctx, instance); !errors.Is(err, osb.ErrNotPolling) {
-		t.Error(standing, err)
+// arrive has a request written, read by the broker, and answered. It returns the answer as it is sent.
+func (b *both) arrive(request osb.Request) (status int, body []byte) {
+	b.t.Helper()
+	method, err := osb.WriteMethod(request.Kind)
+	check(b.t, err)
+	target, err := osb.WriteTarget("/postgres", request, nil)
+	check(b.t, err)
+	sent, err := osb.WriteBody(request, "org", "space", []byte("{}"))
+	check(b.t, err)
+	asked, err := osb.ReadRequest("/postgres", 1000, method, target, sent)
+	check(b.t, err)
+	read, err := asked.Request(b.holding.Row())
+	check(b.t, err)
+	holding, begun, err := b.holding.Begin(osb.ModeAsync, read, osb.Rules{})
+	check(b.t, err)
+	answer := begun.Answer
+	if begun.Work != osb.WorkNone {
+		holding = b.kept(holding) // pending, as after a crash
+		holding, answer, err = holding.End(osb.ModeAsync, osb.OutcomeDone)
+		check(b.t, err)
 	}
-	standing, err = p.client.Step(ctx, instance) // 422: it is being made
-	p.stands(standing, err, osb.StateCleaning, asyncRow("making"), 1)
-	p.finish(false)
-	standing, err = p.client.Step(ctx, instance)
-	p.stands(standing, err, osb.StateCleaningPolling, asyncRow("deleting"), 0)
-	p.finish(true)
-	standing, err = p.client.Step(ctx, instance)
-	p.stands(standing, err, osb.StateGone, tombstone, 0)
+	b.holding = b.kept(holding)
+	body, err = osb.WriteAnswer(answer, nil)
+	check(b.t, err)
+	return int(answer.Status), body
 }
 
-// The answer to a Provision is lost, the platform cleans up, and then a copy of the Provision arrives: it is refused
-// with 409, and nothing is made.
-func TestLostAnswerAndLateProvision(t *testing.T) {
-	p, ctx := newPair(t), context.Background()
-	late := make(chan *http.Request, 1)
-	p.become(func(_ http.ResponseWriter, r *http.Request, broker http.Handler) {
-		late <- copyOf(t, r)
-		broker.ServeHTTP(httptest.NewRecorder(), r)
-		panic(http.ErrAbortHandler) // the connection ends without an answer
-	})
-	standing, err := p.client.Create(ctx, instance, service, plan)
-	if standing.Lost == nil {
-		t.Error("the answer wasn't lost")
-	}
-	p.stands(standing, err, osb.StateCleaning, ready, 1)
-	p.become(nil)
-	standing, err = p.client.Step(ctx, instance)
-	p.stands(standing, err, osb.StateGone, tombstone, 0)
-	again := httptest.NewRecorder()
-	p.broker.ServeHTTP(again, <-late)
-	p.stands(standing, err, osb.StateGone, tombstone, 0)
-	if again.Code != http.StatusConflict {
-		t.Errorf("%d %s", again.Code, again.Body)
+// kept is the holding that is read from the text of a holding.
+func (b *both) kept(holding osb.Holding) osb.Holding { return holdingOf(b.t, textOf(b.t, holding)) }
+
+// take has the platform take an answer to a request, and fails unless it comes to this state.
+func (b *both) take(sent osb.Sent, status int, body []byte, state osb.State) {
+	b.t.Helper()
+	answer, err := osb.ReadAnswer(sent.Request.Kind, uint16(status), body)
+	check(b.t, err)
+	record, err := b.record.Answer(sent.Attempt, answer)
+	check(b.t, err)
+	text, err := record.MarshalJSON()
+	check(b.t, err)
+	check(b.t, b.record.UnmarshalJSON(text))
+	if b.record.State() != state {
+		b.t.Fatalf("%d %s: %v, and not %v", status, body, b.record.State(), state)
 	}
 }
 
-// The Provision never arrives, the deletion is answered with 410, and then the Provision arrives.
-func TestProvisionAfterThe410(t *testing.T) {
-	p, ctx := newPair(t), context.Background()
-	late := make(chan *http.Request, 1)
-	p.become(func(_ http.ResponseWriter, r *http.Request, _ http.Handler) {
-		late <- copyOf(t, r)
-		panic(http.ErrAbortHandler)
-	})
-	standing, err := p.client.Create(ctx, instance, service, plan)
-	p.stands(standing, err, osb.StateCleaning, none, 0)
-	p.become(nil)
-	standing, err = p.client.Step(ctx, instance)
-	p.stands(standing, err, osb.StateGone, tombstone, 0)
-	again := httptest.NewRecorder()
-	p.broker.ServeHTTP(again, <-late)
-	p.stands(standing, err, osb.StateGone, tombstone, 0)
-	if again.Code != http.StatusConflict {
-		t.Errorf("%d %s", again.Code, again.Body)
+// step sends what is due, and takes the answer.
+func (b *both) step(state osb.State, holding string) {
+	b.t.Helper()
+	record, sent, err := b.record.Send(instance)
+	check(b.t, err)
+	b.record = record
+	status, body := b.arrive(sent.Request)
+	b.take(sent, status, body, state)
+	b.holds(holding)
+}
+
+func (b *both) holds(holding string) {
+	b.t.Helper()
+	if held := textOf(b.t, b.holding); held != holding {
+		b.t.Fatalf("held is %s, and not %s", held, holding)
 	}
 }
 
-// The platform gives up while the broker works: the deletion that overtakes is answered as busy.
-func TestGivenUpWhileMade(t *testing.T) {
-	p, ctx := newPair(t), context.Background()
-	released, ended := make(chan struct{}), make(chan struct{})
-	var once sync.Once
-	release := func() { once.Do(func() { close(released) }) }
-	t.Cleanup(release) // if the test fails before: the server waits for its requests
-	p.broker.become(func(work osb.Work, id osb.ID) (osb.Outcome, error) {
-		if work == osb.WorkMake {
-			<-released
-		}
-		p.broker.set(id, work == osb.WorkMake)
-		return osb.OutcomeDone, nil
-	})
-	p.become(func(w http.ResponseWriter, r *http.Request, broker http.Handler) {
-		broker.ServeHTTP(w, r)
-		close(ended)
-	})
-	standing, err := p.newClient(&http.Client{Timeout: 100 * time.Millisecond}).Create(ctx, instance, service, plan)
-	busy := working("null", provisionWork+syncIDs+`}`)
-	p.stands(standing, err, osb.StateCleaning, busy, 0)
-	p.become(nil)
-	standing, err = p.client.Step(ctx, instance)
-	p.stands(standing, err, osb.StateCleaning, busy, 0)
-	if standing.Answer != (osb.Answer{Status: 422, Body: osb.BodyConcurrencyError}) {
-		t.Error(standing.Answer)
-	}
-	release()
-	<-ended
-	p.stands(standing, nil, osb.StateCleaning, ready, 1)
-	standing, err = p.client.Step(ctx, instance)
-	p.stands(standing, err, osb.StateGone, tombstone, 0)
+// finish ends the operation of the broker.
+func (b *both) finish() {
+	b.t.Helper()
+	holding, err := b.holding.Finish(true)
+	check(b.t, err)
+	b.holding = holding
 }
 
-// A platform that was killed left a request in flight.
-func TestGiveUp(t *testing.T) {
-	p, ctx := newPair(t), context.Background()
-	record, _ := osb.Create(instance, service, plan, true)
-	if err := p.records.Create(ctx, instance, osb.Stored{Record: record}); err != nil {
+func check(t *testing.T, err error) {
+	t.Helper()
+	if err != nil {
 		t.Fatal(err)
 	}
-	if standing, err := p.client.Step(ctx, instance); !errors.Is(err, osb.ErrBusy) || standing.State != osb.StateWanted {
-		t.Fatal(standing, err)
-	}
-	standing, err := p.client.GiveUp(ctx, instance)
-	p.stands(standing, err, osb.StateCleaning, none, 0)
-	if _, err := p.client.GiveUp(ctx, instance); !errors.Is(err, osb.ErrNotInFlight) {
-		t.Error(err)
-	}
-	standing, err = p.client.Step(ctx, instance)
-	p.stands(standing, err, osb.StateGone, tombstone, 0)
 }
 
-// An answer that arrives after its request was given up isn't taken, and isn't reported.
-func TestLateAnswer(t *testing.T) {
-	p, ctx := newPair(t), context.Background()
-	p.become(func(w http.ResponseWriter, r *http.Request, broker http.Handler) {
-		if _, err := p.client.GiveUp(ctx, instance); err != nil {
-			t.Error(err)
-		}
-		broker.ServeHTTP(w, r)
-	})
-	standing, err := p.client.Create(ctx, instance, service, plan)
-	if !errors.Is(err, osb.ErrNotInFlight) || standing.Answer != (osb.Answer{}) {
-		t.Error(standing, err)
+// What one side writes, the other reads, over a whole life: it is created, polled, deleted and polled. A copy of the
+// Provision that arrives then is rejected, and nothing is held.
+func TestBothSides(t *testing.T) {
+	record, created := osb.Create(instance, service, async, true)
+	b := &both{t: t, record: record}
+	status, body := b.arrive(created.Request)
+	b.take(created, status, body, osb.StatePolling)
+	b.holds(asyncRow("making"))
+	b.step(osb.StatePolling, asyncRow("making"))
+	b.finish()
+	b.step(osb.StateReady, asyncRow("ready"))
+	record, err := b.record.Remove()
+	check(t, err)
+	b.record = record
+	b.step(osb.StateCleaningPolling, asyncRow("deleting"))
+	b.step(osb.StateCleaningPolling, asyncRow("deleting"))
+	b.finish()
+	b.step(osb.StateGone, tombstone)
+	if status, body = b.arrive(created.Request); status != http.StatusConflict {
+		t.Errorf("%d %s", status, body)
 	}
-	p.stands(standing, nil, osb.StateCleaning, ready, 1)
+	b.holds(tombstone)
 }
 
-// An id is used once.
-func TestIDUsed(t *testing.T) {
-	p, ctx := newPair(t), context.Background()
-	standing, err := p.client.Create(ctx, instance, service, plan)
-	p.stands(standing, err, osb.StateReady, ready, 1)
-	if _, err := p.client.Create(ctx, instance, service, plan); !errors.Is(err, osb.ErrIDUsed) {
-		t.Error(err)
+// The Provision arrives only after its deletion was answered with 410: it is rejected, and nothing is held.
+func TestProvisionAfterThe410(t *testing.T) {
+	record, created := osb.Create(instance, service, async, true)
+	b := &both{t: t}
+	var err error
+	b.record, err = record.Timeout(created.Attempt)
+	check(t, err)
+	b.step(osb.StateGone, tombstone)
+	if status, body := b.arrive(created.Request); status != http.StatusConflict {
+		t.Errorf("%d %s", status, body)
 	}
-	other := osb.MustParseID("00000000-0000-0000-0000-000000000002")
-	if _, err := p.client.Step(ctx, other); !errors.Is(err, osb.ErrUnknown) {
-		t.Error(err)
-	}
-}
-
-// A plan that isn't sold is rejected with 400, and nothing is held.
-func TestNotSold(t *testing.T) {
-	p := newPair(t)
-	standing, err := p.client.Create(context.Background(), instance, service, service)
-	p.stands(standing, err, osb.StateGone, none, 0)
-	if standing.Answer != (osb.Answer{Status: 400, Body: osb.BodyOtherError}) {
-		t.Error(standing.Answer)
-	}
-}
-
-// Nobody at the broker knows how the work went. The 500 is an answer, and the platform cleans up once the work ended.
-func TestUnknownOutcome(t *testing.T) {
-	p, ctx := newPair(t), context.Background()
-	work := p.broker.work
-	p.broker.become(func(osb.Work, osb.ID) (osb.Outcome, error) { return 0, errors.New("nobody knows") })
-	busy := working("null", provisionWork+syncIDs+`}`)
-	standing, err := p.client.Create(ctx, instance, service, plan)
-	p.stands(standing, err, osb.StateCleaning, busy, 0)
-	if standing.Lost != nil || standing.Answer.Status != http.StatusInternalServerError {
-		t.Error(standing)
-	}
-	standing, err = p.client.Step(ctx, instance) // 422
-	p.stands(standing, err, osb.StateCleaning, busy, 0)
-	p.broker.become(work)
-	p.broker.resume(instance)
-	p.stands(standing, nil, osb.StateCleaning, ready, 1)
-	standing, err = p.client.Step(ctx, instance)
-	p.stands(standing, err, osb.StateGone, tombstone, 0)
-}
-
-// Further members of the body reach the broker, beside those that the client writes.
-func TestCreateWith(t *testing.T) {
-	p := newPair(t)
-	var body struct {
-		Organization string `json:"organization_guid"`
-		Parameters   struct{ Size int }
-	}
-	p.become(func(w http.ResponseWriter, r *http.Request, broker http.Handler) {
-		text, err := io.ReadAll(copyOf(t, r).Body)
-		if err != nil || json.Unmarshal(text, &body) != nil {
-			t.Errorf("%s, %v", text, err)
-		}
-		broker.ServeHTTP(w, r)
-	})
-	further := []byte(`{"parameters":{"size":1}}`)
-	standing, err := p.client.CreateWith(context.Background(), instance, service, plan, further)
-	p.stands(standing, err, osb.StateReady, ready, 1)
-	if body.Organization != "org" || body.Parameters.Size != 1 {
-		t.Errorf("%+v", body)
-	}
-}
-
-// Many calls at once: of several that create an id, one does.
-func TestAtOnce(t *testing.T) {
-	p, ctx := newPair(t), context.Background()
-	var all sync.WaitGroup
-	for at := 0; at < 20; at++ {
-		id := osb.MustParseID(fmt.Sprintf("00000000-0000-0000-0000-0000000001%02d", at))
-		for copies := 0; copies < 3; copies++ {
-			all.Add(1)
-			go func() {
-				defer all.Done()
-				standing, err := p.client.Create(ctx, id, service, plan)
-				if errors.Is(err, osb.ErrIDUsed) {
-					return
-				}
-				if err != nil || standing.State != osb.StateReady || standing.Answer.Status != http.StatusCreated {
-					t.Error(standing, err)
-				}
-			}()
-		}
-	}
-	all.Wait()
-	if things := p.broker.count(); things != 20 {
-		t.Errorf("%d resources exist", things)
-	}
+	b.holds(tombstone)
 }

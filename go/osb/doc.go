@@ -9,9 +9,9 @@
 //   - [ReceiveRequest], [WriteAnswer], [WriteNamedTarget], [ReadAnswer] and others read and write requests and answers.
 //     [CheckCatalogue] and others read a catalogue.
 //   - [Mitigates], [DecideProvision] and others are the platform's tables.
-//   - [Client] is a platform over net/http. Its user brings a [RecordStore], which keeps a Record for each instance.
 //
-// Package pippinterm/broker is a broker over these values, as an http.Handler.
+// Package pippinterm/broker is a broker over these values, as an http.Handler, and package pippinterm/platform a
+// platform.
 //
 // The promises hold if the program around the values satisfies what docs/instance.md and docs/binding.md ask for under
 // "What to write when", and the assumptions of docs/premises.md. docs/go.md has programs, and says how to build them.

@@ -1,10 +1,8 @@
 package osb_test
 
 import (
-	"context"
 	"errors"
 	"fmt"
-	"net/http/httptest"
 
 	"pippinterm/osb"
 )
@@ -67,31 +65,4 @@ func ExampleReceiveRequest() {
 	// {"size":3}
 	// {"organization_guid":"an organization","space_guid":"a space"}
 	// true
-}
-
-// A platform that creates an instance and deletes it again. Here a small broker of the tests answers.
-func ExampleClient() {
-	ctx := context.Background()
-	broker := httptest.NewServer(newSeller(""))
-	defer broker.Close()
-
-	client, err := osb.NewClient(osb.ClientConfig{
-		URL: broker.URL, User: "platform", Password: "secret",
-		Organization: "an organization", Space: "a space",
-		Store: osb.NewMemoryRecords(), // forgets everything: a platform's records belong in a database
-	})
-	if err != nil {
-		fmt.Println(err)
-		return
-	}
-	standing, err := client.Create(ctx, instance, service, plan)
-	fmt.Println(standing.State, err)
-	standing, err = client.Remove(ctx, instance)
-	fmt.Println(standing.State, err)
-	standing, err = client.Step(ctx, instance)
-	fmt.Println(standing.State, err)
-	// Output:
-	// ready <nil>
-	// cleaning <nil>
-	// gone <nil>
 }

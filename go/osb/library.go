@@ -9,9 +9,8 @@ import "C"
 // Version is the version of the library that is linked, as OSB_VERSION of osb.h has it: 300 for 0.3.0.
 func Version() uint32 { return uint32(C.osb_version()) }
 
-// HeaderVersion is the version of the osb.h over which this package was compiled. NewClient compares it with Version,
-// and rejects a library of another 0.x. A program that is linked to a shared library and doesn't call NewClient has to
-// compare them itself.
+// HeaderVersion is the version of the osb.h over which this package was compiled. A program that is linked to a shared
+// library has to compare it with Version: below 1.0, a library of another 0.x has another interface.
 const HeaderVersion uint32 = C.OSB_VERSION
 
 // done is nil where the call was done, and else its status.
