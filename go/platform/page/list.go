@@ -82,8 +82,7 @@ func present(of map[platform.State]int) (found []platform.State) {
 // behind reads the rows of these states behind the place that is asked for, by time and key, and one more than a page
 // has. A Store lists by state first, so each state is read by itself, and the rows are merged.
 //
-// lead: a Store lists the longest first alone. The page had the latest change first, and links to the previous and the
-// last page. The smallest change is a member Latest of platform.Filter, which turns the order of Since and Key round.
+// A Store lists the longest first, so the page does too, and has no link to the last page.
 func (l look) behind(a asked, of []platform.State) (merged []platform.Entry, err error) {
 	for _, state := range of {
 		filter := platform.Filter{States: []platform.State{state}, Bindings: &a.bindings, Most: size + 1}
