@@ -18,6 +18,17 @@ type calls struct {
 	binding    json.RawMessage // the object of the binding, once its credentials are known
 }
 
+// requestID is the id of the request that began the work, or empty if it isn't known.
+func (c *calls) requestID() string {
+	switch {
+	case c.isCreation:
+		return c.request.RequestID
+	case c.request.Deletion != nil:
+		return c.request.Deletion.RequestID
+	}
+	return ""
+}
+
 // bindings is the backend, if it sells bindings.
 func (c *calls) bindings() (BindingBackend, error) {
 	if backend, ok := c.backend.(BindingBackend); ok {
@@ -26,23 +37,43 @@ func (c *calls) bindings() (BindingBackend, error) {
 	return nil, errors.New("the backend sells no bindings")
 }
 
+// call does a call of the backend. The observer is told if it fails.
+func (c *calls) call(name string, do func() error) error {
+	err := safely(do)
+	var rejected *Rejected
+	if err != nil && !errors.As(err, &rejected) {
+		c.observer.CallFailed(name)
+	}
+	return err
+}
+
 // look returns what exists. To a creation, a binding whose credentials nobody knows is a part.
 func (c *calls) look(ctx context.Context) (there There, err error) {
-	err = safely(func() (err error) {
-		if !c.request.Key.IsBinding {
+	if c.request.Key.IsBinding {
+		there, err = c.lookBinding(ctx)
+	} else {
+		err = c.call("look", func() (err error) {
 			there, err = c.backend.Look(ctx, c.request)
 			return err
-		}
-		backend, err := c.bindings()
-		if err == nil {
-			there, err = backend.LookBinding(ctx, c.request)
-		}
-		return err
-	})
+		})
+	}
 	if err != nil || there != Whole || !c.request.Key.IsBinding || !c.isCreation {
 		return there, err
 	}
 	return c.withCredentials(ctx)
+}
+
+// lookBinding returns what exists of the binding, whoever knows its credentials.
+func (c *calls) lookBinding(ctx context.Context) (there There, err error) {
+	backend, err := c.bindings()
+	if err != nil {
+		return None, err
+	}
+	err = c.call("look-binding", func() (err error) {
+		there, err = backend.LookBinding(ctx, c.request)
+		return err
+	})
+	return there, err
 }
 
 // withCredentials is what exists of a binding of which all exists: a part, if nobody knows its credentials.
@@ -55,7 +86,7 @@ func (c *calls) withCredentials(ctx context.Context) (There, error) {
 		return Part, nil
 	}
 	var credentials json.RawMessage
-	err := safely(func() (err error) {
+	err := c.call("credentials", func() (err error) {
 		credentials, err = backend.Credentials(ctx, c.request)
 		return err
 	})
@@ -63,7 +94,9 @@ func (c *calls) withCredentials(ctx context.Context) (There, error) {
 		return Whole, err
 	}
 	if err := c.keep(credentials); err != nil { // what can't be sent is of no use to anybody
-		c.observer.Failed(Failure{Event: "credentials_useless", Key: c.request.Key, IsNamed: true, Err: err})
+		c.observer.Failed(Failure{
+			Event: "credentials_useless", RequestID: c.request.RequestID, Key: c.request.Key, IsNamed: true, Err: err,
+		})
 		return Part, nil
 	}
 	return Whole, nil
@@ -86,16 +119,17 @@ func (c *calls) keep(credentials json.RawMessage) error {
 
 // settled returns what exists once that would outlive a power cut.
 func (c *calls) settled(ctx context.Context) (There, error) {
-	if err := c.synced(ctx, c.request); err != nil {
+	if err := c.call("sync", func() error { return c.synced(ctx, c.request) }); err != nil {
 		return None, err
 	}
 	return c.look(ctx)
 }
 
-// try calls, and returns what exists then, and how the call failed. What a call that failed has done may not be on disk.
+// try calls, and returns what exists then, and how the call failed. What a call that failed has done may not be on
+// disk.
 func (c *calls) try(ctx context.Context, call func(context.Context) error) (there There, failed, err error) {
 	crash.Soon("work-running")
-	if failed = safely(func() error { return call(ctx) }); failed == nil {
+	if failed = call(ctx); failed == nil {
 		there, err = c.look(ctx)
 		return there, nil, err
 	}
@@ -106,34 +140,40 @@ func (c *calls) try(ctx context.Context, call func(context.Context) error) (ther
 // create creates it. A binding that exists and whose credentials nobody knows is deleted first.
 func (c *calls) create(ctx context.Context) error {
 	if !c.request.Key.IsBinding {
-		return c.backend.Create(ctx, c.request)
+		return c.call("create", func() error { return c.backend.Create(ctx, c.request) })
 	}
 	backend, err := c.bindings()
 	if err != nil {
 		return err
 	}
-	there, err := backend.LookBinding(ctx, c.request)
+	there, err := c.lookBinding(ctx)
 	if err == nil && there == Whole {
-		err = backend.DeleteBinding(ctx, c.request)
+		err = c.deleteBinding(ctx, backend)
 	}
 	if err != nil {
 		return err
 	}
-	credentials, err := backend.CreateBinding(ctx, c.request)
-	if err != nil {
-		return err
-	}
-	return c.keep(credentials)
+	return c.call("create-binding", func() error {
+		credentials, err := backend.CreateBinding(ctx, c.request)
+		if err != nil {
+			return err
+		}
+		return c.keep(credentials)
+	})
 }
 
 func (c *calls) delete(ctx context.Context) error {
 	c.binding = nil
 	if !c.request.Key.IsBinding {
-		return c.backend.Delete(ctx, c.request)
+		return c.call("delete", func() error { return c.backend.Delete(ctx, c.request) })
 	}
 	backend, err := c.bindings()
 	if err != nil {
 		return err
 	}
-	return backend.DeleteBinding(ctx, c.request)
+	return c.deleteBinding(ctx, backend)
+}
+
+func (c *calls) deleteBinding(ctx context.Context, backend BindingBackend) error {
+	return c.call("delete-binding", func() error { return backend.DeleteBinding(ctx, c.request) })
 }

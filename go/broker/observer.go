@@ -9,10 +9,14 @@ type Observer interface {
 	Answered(Exchange)
 	// Failed is called if something went wrong that an operator has to know.
 	Failed(Failure)
+	// CallFailed is called after each call of the backend that fails, also if the same call is repeated. The name is
+	// look, create, delete, look-binding, create-binding, delete-binding or credentials, as for a command, or sync. A
+	// creation that the backend rejects hasn't failed.
+	CallFailed(call string)
 	// Committed is called after each commit of a store that writes several changes together, with their number.
 	Committed(changes int)
-	// Finished is called when an operation that went on after its answer has ended, well (ok) or badly. It is called too
-	// when pending work has ended that a dead worker had left.
+	// Finished is called when an operation that went on after its answer has ended, well (ok) or badly. It is called
+	// too when pending work has ended that a dead worker had left.
 	Finished(key Key, ok bool)
 }
 
@@ -51,6 +55,9 @@ func (Silent) Answered(Exchange) {}
 
 // Failed does nothing.
 func (Silent) Failed(Failure) {}
+
+// CallFailed does nothing.
+func (Silent) CallFailed(string) {}
 
 // Committed does nothing.
 func (Silent) Committed(int) {}

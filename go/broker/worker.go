@@ -114,7 +114,10 @@ func (w worker) told(request Request, what string, isDone bool, failed error, ca
 		failed = errors.New("the backend returned no error, and it isn't so")
 	}
 	if failed != nil {
-		w.observer.Failed(Failure{Event: "backend_failed_to_" + what, Key: request.Key, IsNamed: true, Err: failed})
+		w.observer.Failed(Failure{
+			Event: "backend_failed_to_" + what, RequestID: calls.requestID(),
+			Key: request.Key, IsNamed: true, Err: failed,
+		})
 	}
 	if isDone {
 		return result{outcome: osb.OutcomeDone, binding: calls.binding}, nil

@@ -21,6 +21,12 @@ func (j joined) Failed(failure broker.Failure) {
 	}
 }
 
+func (j joined) CallFailed(call string) {
+	for _, observer := range j {
+		observer.CallFailed(call)
+	}
+}
+
 func (j joined) Committed(changes int) {
 	for _, observer := range j {
 		observer.Committed(changes)

@@ -15,8 +15,14 @@ import (
 	"pippinterm/osb"
 )
 
+// A lockingBackend is a backend with its own locks.
+type lockingBackend interface {
+	broker.Backend
+	broker.LockBackend
+}
+
 // serviceOf returns a service over a backend, and its store.
-func serviceOf(t *testing.T, backend bindingsWithCredentials) (*broker.Service, broker.Store) {
+func serviceOf(t *testing.T, backend lockingBackend, observer broker.Observer) (*broker.Service, broker.Store) {
 	t.Helper()
 	document, err := os.ReadFile(examples + "own-catalogue.json")
 	ok(t, err)
@@ -26,7 +32,7 @@ func serviceOf(t *testing.T, backend bindingsWithCredentials) (*broker.Service, 
 	ok(t, err)
 	t.Cleanup(func() { _ = store.Close() })
 	rules := broker.Rules{WaitForPoll: time.Minute}
-	return broker.NewService(catalogue, store, backend, backend.Locks(), rules, broker.Silent{}), store
+	return broker.NewService(catalogue, store, backend, backend.Locks(), rules, observer), store
 }
 
 // provision is the Provision of the instance.
@@ -56,7 +62,7 @@ func TestNobodyIsToldWhatAProcessStillChanges(t *testing.T) {
 	backend.grace = 200 * time.Millisecond
 	fifo(t, backend.state+"/left")
 	goOn := fifo(t, backend.state+"/go")
-	service, store := serviceOf(t, backend)
+	service, store := serviceOf(t, backend, broker.Silent{})
 	answered, err := service.Handle(ctx, provision(t))
 	if !errors.Is(err, broker.ErrNobodyKnows) || !strings.Contains(err.Error(), filelock.ErrLent.Error()) {
 		t.Errorf("the Provision was answered %v, %v", answered, err)

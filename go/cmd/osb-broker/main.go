@@ -14,8 +14,9 @@ func main() { os.Exit(program.Run(context.Background(), rootCommand())) }
 
 func rootCommand() *cobra.Command {
 	root := &cobra.Command{
-		Use:   "osb-broker",
-		Short: "A broker under the Open Service Broker API 2.17",
+		Use:     "osb-broker",
+		Short:   "A broker under the Open Service Broker API 2.17",
+		Version: program.Version(),
 		Long: `A broker under the Open Service Broker API 2.17, for instances and their bindings.
 
 Only a password is needed: 'osb-broker serve' then sells folders below the state folder, and keeps its

@@ -125,5 +125,5 @@ func (s *settings) addLimits(flags *pflag.FlagSet) {
 	flags.Var(program.Seconds(&s.stopTime, 30*time.Second), "stop-seconds", "for running work to end after SIGTERM")
 	flags.Var(program.Seconds(&s.commandTime, 5*time.Minute), "command-seconds", "for one run of --backend command:..")
 	flags.Var(program.Count(&s.perInstance, 20, 1, most), "connections-per-instance",
-		"connections to each database that is sold")
+		"connections of each role; a database that is sold has a role, and each of its bindings has one")
 }

@@ -22,6 +22,7 @@ import (
 	"pippinterm/program"
 	"pippinterm/program/logs"
 	"pippinterm/program/secrets"
+	"pippinterm/program/sqlite"
 )
 
 // parts are what a broker is made of.
@@ -35,7 +36,8 @@ type parts struct {
 
 // partsOf opens what the settings name. If it fails, nothing stays open.
 //
-// Errors: program.Unusable for what an operator has to change, and program.Unavailable for a server that is away.
+// Errors: program.Unusable for what an operator has to change; program.Unavailable for a server that is away, a full
+// disk, and a file of SQLite that another process has kept.
 func partsOf(ctx context.Context, s *settings, log *logs.Logger, observer broker.Observer) (p *parts, err error) {
 	p = &parts{}
 	defer func() {
@@ -44,7 +46,7 @@ func partsOf(ctx context.Context, s *settings, log *logs.Logger, observer broker
 		}
 	}()
 	if err := os.MkdirAll(s.state, 0o700); err != nil {
-		return p, program.Unusable(fmt.Errorf("the state folder can't be created: %w", err))
+		return p, ofFiles("the state folder can't be created", err)
 	}
 	if err := p.openBackend(ctx, s, log); err != nil {
 		return p, err
@@ -72,13 +74,19 @@ func (p *parts) closeAll() {
 	p.close = nil
 }
 
+// command is the program of a command backend, and whether the backend is one.
+func (s *settings) command() (string, bool) {
+	name := strings.TrimPrefix(s.backend, "command:")
+	return name, name != s.backend
+}
+
 // openBackend opens what is sold.
 func (p *parts) openBackend(ctx context.Context, s *settings, log *logs.Logger) (err error) {
-	if name := strings.TrimPrefix(s.backend, "command:"); name != s.backend {
+	if name, isCommand := s.command(); isCommand {
 		p.sells = "resource"
 		options := command.Options{State: filepath.Join(s.state, "command"), Limit: s.commandTime, Existing: s.existing}
 		p.backend, err = command.New(ctx, name, options)
-		return program.Unusable(wrapped("the backend can't be used", err))
+		return ofFiles("the backend can't be used", err)
 	}
 	if session.IsAddress(s.backend) {
 		p.sells = "database"
@@ -90,7 +98,7 @@ func (p *parts) openBackend(ctx context.Context, s *settings, log *logs.Logger) 
 		top = filepath.Join(s.state, "instances")
 	}
 	p.backend, err = folders.New(top)
-	return program.Unusable(wrapped("the backend can't be used", err))
+	return ofFiles("the backend can't be used", err)
 }
 
 func (p *parts) openDatabases(ctx context.Context, s *settings, log *logs.Logger) error {
@@ -154,7 +162,7 @@ func (p *parts) openStore(ctx context.Context, s *settings, observer broker.Obse
 	} else {
 		store, err := openFile(ctx, s, observer)
 		if err != nil {
-			return program.Unusable(wrapped("the store can't be used", err))
+			return ofFiles("the store can't be used", err)
 		}
 		p.store = store
 	}
@@ -183,7 +191,7 @@ func (p *parts) openLocks(s *settings) (err error) {
 		return nil
 	}
 	p.locks, err = filelock.New(filepath.Join(s.state, ".locks"))
-	return program.Unusable(wrapped("the locks can't be used", err))
+	return ofFiles("the locks can't be used", err)
 }
 
 // keyOf is the key of the databases' passwords.
@@ -220,6 +228,15 @@ func withoutPassword(url string) error {
 			"a URL must not have a password: put it into PGPASSWORD, or into a file that PGPASSFILE names"))
 	}
 	return nil
+}
+
+// ofFiles is the error of files of this machine: an operator has to change something, unless it may be over later.
+func ofFiles(what string, err error) error {
+	err = wrapped(what, err)
+	if sqlitefile.MayPass(err) {
+		return program.Unavailable(err)
+	}
+	return program.Unusable(err)
 }
 
 // away is the error of a server: it may be back later, unless an operator has to change something.

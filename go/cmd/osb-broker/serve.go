@@ -182,7 +182,7 @@ func (r *running) sites(ctx context.Context) ([]server.Site, error) {
 	if certificates == nil && !isLoopback(r.main.Addr()) {
 		r.log.Warning("no_tls").Str("listen", s.listen).Send()
 	}
-	if err := server.CheckFiles(uint64(s.connections) + 100); err != nil {
+	if err := server.CheckFiles(s.files()); err != nil {
 		return nil, program.Unusable(err)
 	}
 	options := health.Options{Ready: r.parts.store.Ready, Metrics: r.metrics.Handler(), Observer: r.observer}
@@ -197,6 +197,22 @@ func (r *running) sites(ctx context.Context) ([]server.Site, error) {
 	options.Next = r.handler
 	r.health = health.New(ctx, options)
 	return []server.Site{{Listener: r.main, Handler: r.health}}, nil
+}
+
+// Of the files that may be open at once:
+const (
+	filesOfWork = 1   // of each request and each worker: a lock or a session
+	filesOfRun  = 5   // of each of them with a command: its lock twice, since the program has it too, and three pipes
+	otherFiles  = 100 // all else
+)
+
+// files is how many files may be open at once.
+func (s *settings) files() uint64 {
+	each := uint64(filesOfWork)
+	if _, isCommand := s.command(); isCommand {
+		each = filesOfRun
+	}
+	return uint64(s.connections) + (uint64(s.threads)+uint64(s.workers))*each + otherFiles
 }
 
 // isLoopback is whether only this machine reaches an address.

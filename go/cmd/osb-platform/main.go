@@ -34,8 +34,9 @@ that doesn't allow it; 2 change something first: an argument, a file, a password
 
 func rootCommand(a *app) *cobra.Command {
 	root := &cobra.Command{
-		Use:   "osb-platform",
-		Short: "A platform under the Open Service Broker API 2.17",
+		Use:     "osb-platform",
+		Short:   "A platform under the Open Service Broker API 2.17",
+		Version: program.Version(),
 		Long: `A platform under the Open Service Broker API 2.17. It creates instances and bindings of any number of
 brokers, goes on with each until it is ready or gone, and loses none.
 

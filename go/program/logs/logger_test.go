@@ -81,8 +81,9 @@ func TestObserverLogsARequest(t *testing.T) {
 	instance, binding := osb.MustParseID(one), osb.MustParseID(two)
 	whole := broker.Exchange{
 		RequestID: "an-id", Key: broker.BindingKey(instance, binding), IsNamed: true, Route: "bind", Method: "PUT",
-		Target: "/v2/service_instances/1/service_bindings/2", Status: 201, Reason: "why", Duration: 12345 * time.Microsecond,
-		User: "platform", Address: "192.0.2.1", Traceparent: "00-1-2-01", VcapRequest: "3", Identity: "cloudfoundry",
+		Target: "/v2/service_instances/1/service_bindings/2", Status: 201, Reason: "why",
+		Duration: 12345 * time.Microsecond, User: "platform", Address: "192.0.2.1", Traceparent: "00-1-2-01",
+		VcapRequest: "3", Identity: "cloudfoundry",
 	}
 	for name, test := range map[string]struct {
 		exchange broker.Exchange
@@ -134,6 +135,7 @@ func TestObserverLogsOtherEvents(t *testing.T) {
 	why := errors.New("why")
 	observer.Failed(broker.Failure{Event: "store_failed", RequestID: "an-id", Key: key, IsNamed: true, Err: why})
 	observer.Failed(broker.Failure{Event: "sweep_failed"})
+	observer.CallFailed("look")
 	observer.Committed(3)
 	observer.Finished(key, true)
 	observer.Finished(key, false)

@@ -51,6 +51,9 @@ func (o observer) Failed(failure broker.Failure) {
 	event.Send()
 }
 
+// CallFailed logs nothing: what the call was for is logged once it has failed, and not again with each retry.
+func (o observer) CallFailed(string) {}
+
 // Committed logs nothing.
 func (o observer) Committed(int) {}
 

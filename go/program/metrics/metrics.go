@@ -27,7 +27,10 @@ type Options struct {
 //
 //	osb_broker_requests_total{route,status}   answered requests
 //	osb_broker_request_seconds{route}         durations of requests, a histogram
-//	osb_broker_failures_total{event}          failures, such as those of the store and the backend
+//	osb_broker_failures_total{event}          failures, as the log has them. A retry of unfinished work that fails for the
+//	                                          same reason isn't counted again
+//	osb_broker_backend_errors_total{call}     failed calls of the backend, also of retries: look, create, delete,
+//	                                          look-binding, create-binding, delete-binding, credentials or sync
 //	osb_broker_commit_changes                 changes that were committed together, a histogram
 //	osb_broker_operations_total{result}       ended asynchronous operations, and ended pending work that a dead worker
 //	                                          had left: succeeded or failed
@@ -44,6 +47,7 @@ type Metrics struct {
 	requests   *prometheus.CounterVec
 	durations  *prometheus.HistogramVec
 	failures   *prometheus.CounterVec
+	calls      *prometheus.CounterVec
 	operations *prometheus.CounterVec
 	commits    prometheus.Histogram
 	events     names
@@ -57,6 +61,7 @@ func New(options Options) *Metrics {
 		registry:   prometheus.NewRegistry(),
 		requests:   counter("requests_total", "Answered requests.", "route", "status"),
 		failures:   counter("failures_total", "Failures, by their event in the log.", "event"),
+		calls:      counter("backend_errors_total", "Failed calls of the backend.", "call"),
 		operations: counter("operations_total", "Ended asynchronous operations, and work that was taken up.", "result"),
 		durations: prometheus.NewHistogramVec(prometheus.HistogramOpts{
 			Name: prefix + "request_seconds", Help: "Durations of requests, in seconds.",
@@ -67,8 +72,8 @@ func New(options Options) *Metrics {
 			Buckets: []float64{1, 2, 4, 8, 16, 32, 64, 128, 256},
 		}),
 	}
-	m.registry.MustRegister(m.requests, m.durations, m.failures, m.operations, m.commits, collectors.NewGoCollector(),
-		collectors.NewProcessCollector(collectors.ProcessCollectorOpts{}))
+	m.registry.MustRegister(m.requests, m.durations, m.failures, m.calls, m.operations, m.commits,
+		collectors.NewGoCollector(), collectors.NewProcessCollector(collectors.ProcessCollectorOpts{}))
 	m.addOptions(options)
 	return m
 }
@@ -114,6 +119,9 @@ func (m *Metrics) Failed(failure broker.Failure) {
 	m.failures.WithLabelValues(m.events.name(failure.Event)).Inc()
 }
 
+// CallFailed counts a call of the backend that has failed. A call that broker.Observer doesn't name counts as other.
+func (m *Metrics) CallFailed(call string) { m.calls.WithLabelValues(callOf(call)).Inc() }
+
 // Committed counts a commit.
 func (m *Metrics) Committed(changes int) { m.commits.Observe(float64(changes)) }
 
@@ -132,6 +140,14 @@ func routeOf(route string) string {
 	switch route {
 	case "catalog", "provision", "deprovision", "poll", "bind", "unbind", "poll-binding", "fetch-binding":
 		return route
+	}
+	return other
+}
+
+func callOf(call string) string {
+	switch call {
+	case "look", "create", "delete", "look-binding", "create-binding", "delete-binding", "credentials", "sync":
+		return call
 	}
 	return other
 }

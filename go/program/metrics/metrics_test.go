@@ -57,6 +57,9 @@ func TestEventsAreCounted(t *testing.T) {
 	}
 	metrics.Failed(broker.Failure{Event: "store_failed", Err: errors.New("why")})
 	metrics.Failed(broker.Failure{Event: "store_failed"})
+	for _, call := range []string{"look", "sync", "look", "made-up"} {
+		metrics.CallFailed(call)
+	}
 	metrics.Committed(1)
 	metrics.Committed(5)
 	metrics.Finished(broker.Key{}, true)
@@ -71,6 +74,9 @@ func TestEventsAreCounted(t *testing.T) {
 		`osb_broker_request_seconds_sum{route="provision"}`:            "2.003",
 		`osb_broker_request_seconds_bucket{route="provision",le="1"}`:  "1",
 		`osb_broker_failures_total{event="store_failed"}`:              "2",
+		`osb_broker_backend_errors_total{call="look"}`:                 "2",
+		`osb_broker_backend_errors_total{call="sync"}`:                 "1",
+		`osb_broker_backend_errors_total{call="other"}`:                "1",
 		`osb_broker_commit_changes_count`:                              "2",
 		`osb_broker_commit_changes_bucket{le="4"}`:                     "1",
 		`osb_broker_operations_total{result="succeeded"}`:              "1",

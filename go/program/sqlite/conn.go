@@ -8,6 +8,7 @@ import (
 	"io"
 	"net/url"
 	"runtime/debug"
+	"syscall"
 	"time"
 
 	"github.com/mattn/go-sqlite3"
@@ -22,6 +23,18 @@ var ErrBusy = errors.New("another process has the file")
 // ErrBroken reports that SQLite has rolled back, or can't: a write would be committed alone, or half. Nothing of the
 // transaction was written.
 var ErrBroken = errors.New("the transaction was broken off")
+
+// MayPass returns whether an error may be over later, without a change by an operator: another process has kept the
+// file, or the disk is full.
+func MayPass(err error) bool {
+	var failed sqlite3.Error
+	if errors.As(err, &failed) && (failed.Code == sqlite3.ErrFull || isFull(failed.SystemErrno)) {
+		return true
+	}
+	return errors.Is(err, ErrBusy) || isFull(err)
+}
+
+func isFull(err error) bool { return errors.Is(err, syscall.ENOSPC) || errors.Is(err, syscall.EDQUOT) }
 
 // A Conn is a connection. One goroutine at a time uses it.
 type Conn struct {
