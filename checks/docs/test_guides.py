@@ -26,10 +26,10 @@ def curl() -> None:
     needs("curl")
 
 
-@covers(BROKER, "apt-get install golang-go ")
+@covers(BROKER, "apt-get install curl ")
 def test_packages(texts: list[str]) -> None:
-    """They are those that the launcher asks for."""
-    assert packages(texts[0]) == packages(read("osb-broker"))
+    """They are those that the launcher asks for, and curl."""
+    assert packages(texts[0]) == packages(read("osb-broker")) | {"curl"}
 
 
 def test_first_start(workdir: Workdir) -> None:
@@ -155,3 +155,10 @@ def test_options_of_the_broker() -> None:
     named = set(re.findall(r"(?<![\w-])--[a-z][a-z-]*", read(BROKER)))
     assert len(named) > 20
     assert named - options == set()
+
+
+def test_metrics_of_the_broker() -> None:
+    """The guide names each metric of the program with its labels, and no other."""
+    program = re.findall(r"^//\t(osb_broker_\S+)", read("go/program/metrics/metrics.go"), re.MULTILINE)
+    assert len(program) > 10
+    assert sorted(re.findall(r"^\| `(osb_broker_\S+)` \|", read(BROKER), re.MULTILINE)) == sorted(program)
