@@ -14,6 +14,7 @@ import (
 	"path/filepath"
 	"strings"
 	"sync"
+	"sync/atomic"
 	"testing"
 	"testing/iotest"
 	"time"
@@ -29,6 +30,8 @@ type site struct {
 	shelf    *shelf
 	store    *sqlite.Store
 	observed *observed
+	expected *expected // of the shelf
+	sent     atomic.Int64
 }
 
 // A setting changes how a site is made.
@@ -43,7 +46,8 @@ type setting struct {
 func newSite(t *testing.T, s setting) *site {
 	t.Helper()
 	ctx := context.Background()
-	it := &site{shelf: newShelf(func() int { return 9 }), observed: &observed{}}
+	it := &site{shelf: newShelf(func() int { return 9 }), observed: &observed{}, expected: newExpected()}
+	it.shelf.asked = func(r broker.Request) { it.asked(t, r) }
 	var err error
 	if it.store, err = sqlite.Open(ctx, filepath.Join(t.TempDir(), "store"), it.observed); err != nil {
 		t.Fatal(err)
@@ -77,6 +81,17 @@ func newSite(t *testing.T, s setting) *site {
 		t.Fatal(err)
 	}
 	return it
+}
+
+// asked checks that what the backend is given was sent.
+func (s *site) asked(t *testing.T, r broker.Request) {
+	held, err := s.store.Read(context.Background(), r.Key)
+	if err == nil {
+		err = s.expected.check(r, isDeletion(held.Entry))
+	}
+	if err != nil {
+		t.Error(err)
+	}
 }
 
 // observed keeps what an Observer is told.
@@ -139,9 +154,14 @@ func (s *site) ask(method, target, body string, change ...func(*http.Request)) (
 	r := httptest.NewRequest(method, target, strings.NewReader(body))
 	r.SetBasicAuth("u", "p")
 	r.Header.Set("X-Broker-API-Version", "2.17")
+	number := s.sent.Add(1)
+	for name, values := range signedBy(fmt.Sprintf("user %d", number), fmt.Sprintf("request-%d", number)) {
+		r.Header[name] = values
+	}
 	for _, it := range change {
 		it(r)
 	}
+	s.expected.add(message{method: method, target: target, body: []byte(body), header: r.Header})
 	given := httptest.NewRecorder()
 	s.ServeHTTP(given, r)
 	return given.Result(), given.Body.String()
@@ -171,6 +191,20 @@ func (s *site) until(t *testing.T, text, method, target string) string {
 		}
 		if time.Now().After(end) {
 			t.Fatalf("%s %s: %s, and %s is wanted", method, target, body, text)
+		}
+	}
+}
+
+// untilGone asks for the last operation until it is gone.
+func (s *site) untilGone(t *testing.T, target string) {
+	t.Helper()
+	for end := time.Now().Add(20 * time.Second); ; time.Sleep(time.Millisecond) {
+		given, body := s.ask("GET", target+"/last_operation", "")
+		if given.StatusCode == 410 {
+			return
+		}
+		if time.Now().After(end) {
+			t.Fatalf("%s isn't gone: %d %s", target, given.StatusCode, body)
 		}
 	}
 }
@@ -283,16 +317,10 @@ func TestLives(t *testing.T) {
 			}
 			s.ask("DELETE", bound+names(plan)+"&accepts_incomplete=true", "")
 			s.until(t, "{", "GET", bound+"/last_operation")
-			for status := 0; status != 410; {
-				given, _ := s.ask("GET", bound+"/last_operation", "")
-				status = given.StatusCode
-			}
+			s.untilGone(t, bound)
 			s.expect(t, 409, "PUT", bound+query, bodyOf(plan, ""))
 			s.ask("DELETE", one+names(plan)+"&accepts_incomplete=true", "")
-			for status := 0; status != 410; {
-				given, _ := s.ask("GET", one+"/last_operation", "")
-				status = given.StatusCode
-			}
+			s.untilGone(t, one)
 			if len(s.shelf.things) > 0 {
 				t.Errorf("left: %v", s.shelf.things)
 			}
@@ -468,6 +496,7 @@ func TestFailedBindings(t *testing.T) {
 	s.expect(t, 201, "PUT", one, bodyOf(bindLater, ""))
 	s.expect(t, 202, "PUT", one+"/service_bindings/b?accepts_incomplete=true", bodyOf(bindLater, ""))
 	s.until(t, "failed", "GET", one+"/service_bindings/b/last_operation")
+	s.expected.beginsItself(broker.BindingKey(keyOf("i").Instance, keyOf("b").Instance))
 	s.expect(t, 422, "DELETE", one+names(bindLater), "")
 	for end := time.Now().Add(20 * time.Second); ; time.Sleep(time.Millisecond) {
 		if given, _ := s.ask("DELETE", one+names(bindLater), ""); given.StatusCode == 200 {
@@ -538,7 +567,8 @@ func TestObserved(t *testing.T) {
 	got.Duration = 0
 	want := broker.Exchange{
 		RequestID: "r-2", Key: keyOf("i"), IsNamed: true, Route: "provision", Method: "PUT",
-		Target: instances + "i?x=1", Status: 201, User: "u", Address: "192.0.2.1", Traceparent: "00-1", VcapRequest: "v-1",
+		Target: instances + "i?x=1", Status: 201, User: "u", Identity: "cloudfoundry",
+		Address: "192.0.2.1", Traceparent: "00-1", VcapRequest: "v-1",
 	}
 	if got != want {
 		t.Errorf("%+v, and %+v is wanted", got, want)

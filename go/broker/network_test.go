@@ -40,6 +40,7 @@ type world struct {
 	calm      bool
 	rules     broker.Rules
 	shelf     *shelf
+	expected  *expected // of the shelf
 	backend   broker.Backend
 	catalogue *broker.Catalogue
 	open      opener
@@ -66,7 +67,8 @@ func newWorld(t *testing.T, seed int64, open opener, seen *seen, walks *bufio.Wr
 	if seed%6 == 1 {
 		w.rules.WaitForPoll = 0
 	}
-	w.shelf = newShelf(w.mood)
+	w.shelf, w.expected = newShelf(w.mood), newExpected()
+	w.shelf.asked = w.asked
 	w.backend = w.shelf
 	if seed%2 == 0 {
 		w.backend = knowing{w.shelf}
@@ -117,6 +119,13 @@ func (w *world) mood() int {
 		return 9
 	}
 	return w.chance.Intn(16)
+}
+
+// asked checks that what the backend is given was sent, by the request that has begun the work.
+func (w *world) asked(r broker.Request) {
+	if err := w.expected.check(r, isDeletion(w.look(r.Key).Entry)); err != nil {
+		w.t.Fatalf("seed %d: %v", w.seed, err)
+	}
 }
 
 // arrive is a request at a process. If that is killed meanwhile, nobody is answered.
@@ -244,6 +253,9 @@ func (w *world) agree() {
 
 func (w *world) agrees(it *life, found found) {
 	w.t.Helper()
+	if (found.Request != nil) != found.Holding.IsHeld() {
+		w.t.Fatalf("seed %d: stored of the request for %v is %q: %v", w.seed, it.key, found.Request, found)
+	}
 	switch it.state() {
 	case osb.StateReady:
 		if found.there != broker.Whole || !found.isReady() {

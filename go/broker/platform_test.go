@@ -207,13 +207,15 @@ func (p *platform) send(it outgoing) *answer {
 func (p *platform) message(it *life, sent osb.Sent, isFetch bool) outgoing {
 	request := sent.Request
 	made := outgoing{of: it.key, attempt: sent.Attempt, isFetch: isFetch}
+	number := fmt.Sprintf("%v-%v-%d", it.key, request.Kind, sent.Attempt)
+	made.header = signedBy(fmt.Sprintf("the user of %v", it.key), number)
 	var err error
 	made.method, err = osb.WriteMethod(request.Kind)
 	must(err)
 	if !it.key.IsBinding {
 		made.target, err = osb.WriteTarget("", request, nil)
 		must(err)
-		made.body, err = osb.WriteBody(request, "org", "space", []byte(`{"parameters":{"size":1}}`))
+		made.body, err = osb.WriteBody(request, "org", "space", it.further())
 		must(err)
 		return made
 	}
@@ -227,9 +229,14 @@ func (p *platform) message(it *life, sent osb.Sent, isFetch bool) outgoing {
 		made.target, err = osb.WriteBindingTarget("", request, it.key.Instance, names, nil)
 	}
 	must(err)
-	made.body, err = osb.WriteBindingBody(request.Kind, names, []byte(`{"parameters":{"role":"reader"}}`))
+	made.body, err = osb.WriteBindingBody(request.Kind, names, it.further())
 	must(err)
 	return made
+}
+
+// further are the members of a creation's body, which depend on the key.
+func (l *life) further() []byte {
+	return []byte(fmt.Sprintf(`{"parameters":{"of":"%v"},"context":{"platform":"test","of":"%v"}}`, l.key, l.key))
 }
 
 // remove has it removed, as an operator asks. An instance is removed only once all of its bindings are gone.
@@ -270,13 +277,6 @@ var sold = []osb.Plan{
 	{Service: id("a0"), Plan: id("c3")}, {Service: id("a0"), Plan: id("c4")},
 }
 
-// credentials are those of a binding that exists, or empty.
-func (s *shelf) credentials(key broker.Key) string {
-	s.turn.Lock()
-	defer s.turn.Unlock()
-	return s.things[key].credentials
-}
-
 // isCredentials is whether the object of a binding has the credentials that work.
 func (s *shelf) isCredentials(key broker.Key, object []byte) bool {
 	s.turn.Lock()
@@ -289,6 +289,7 @@ func (s *shelf) isCredentials(key broker.Key, object []byte) bool {
 type knowing struct{ *shelf }
 
 func (k knowing) Credentials(_ context.Context, r broker.Request) (json.RawMessage, error) {
+	k.asked(r)
 	k.turn.Lock()
 	defer k.turn.Unlock()
 	return json.Marshal(k.things[r.Key].credentials)

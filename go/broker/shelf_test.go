@@ -56,6 +56,7 @@ func handlerFor(t *testing.T, service *broker.Service) *broker.Handler {
 // A shelf is a backend in memory, which outlives its broker. Each call may fail before or after it was done.
 type shelf struct {
 	mood   func() int
+	asked  func(broker.Request)                   // is told of each call, before it does anything
 	worked func(broker.Key, broker.There, string) // is told of each change, with the credentials
 	turn   sync.Mutex
 	things map[broker.Key]thing
@@ -69,13 +70,21 @@ type thing struct {
 
 func newShelf(mood func() int) *shelf {
 	worked := func(broker.Key, broker.There, string) {}
-	return &shelf{mood: mood, worked: worked, things: map[broker.Key]thing{}}
+	asked := func(broker.Request) {}
+	return &shelf{mood: mood, asked: asked, worked: worked, things: map[broker.Key]thing{}}
 }
 
 func (s *shelf) there(key broker.Key) broker.There {
 	s.turn.Lock()
 	defer s.turn.Unlock()
 	return s.things[key].there
+}
+
+// credentials are those of a binding that exists, or empty.
+func (s *shelf) credentials(key broker.Key) string {
+	s.turn.Lock()
+	defer s.turn.Unlock()
+	return s.things[key].credentials
 }
 
 func (s *shelf) set(key broker.Key, to thing) {
@@ -104,12 +113,17 @@ func (s *shelf) maybe(do func() error, mayReject bool) error {
 }
 
 func (s *shelf) Look(_ context.Context, r broker.Request) (broker.There, error) {
+	s.asked(r)
 	return s.there(r.Key), nil
 }
 
-func (s *shelf) Sync(context.Context, broker.Request) error { return nil }
+func (s *shelf) Sync(_ context.Context, r broker.Request) error {
+	s.asked(r)
+	return nil
+}
 
 func (s *shelf) Create(_ context.Context, r broker.Request) error {
+	s.asked(r)
 	return s.maybe(func() error {
 		s.set(r.Key, thing{there: broker.Part})
 		crash.At("work-half")
@@ -119,6 +133,7 @@ func (s *shelf) Create(_ context.Context, r broker.Request) error {
 }
 
 func (s *shelf) Delete(_ context.Context, r broker.Request) error {
+	s.asked(r)
 	return s.maybe(func() error {
 		s.set(r.Key, thing{there: broker.Part})
 		crash.At("work-half")
@@ -128,10 +143,12 @@ func (s *shelf) Delete(_ context.Context, r broker.Request) error {
 }
 
 func (s *shelf) LookBinding(_ context.Context, r broker.Request) (broker.There, error) {
+	s.asked(r)
 	return s.there(r.Key), nil
 }
 
 func (s *shelf) CreateBinding(_ context.Context, r broker.Request) (credentials json.RawMessage, err error) {
+	s.asked(r)
 	err = s.maybe(func() error {
 		s.set(r.Key, thing{there: broker.Part})
 		crash.At("binding-half")
@@ -145,6 +162,7 @@ func (s *shelf) CreateBinding(_ context.Context, r broker.Request) (credentials 
 }
 
 func (s *shelf) DeleteBinding(_ context.Context, r broker.Request) error {
+	s.asked(r)
 	return s.maybe(func() error {
 		s.set(r.Key, thing{there: broker.Part})
 		crash.At("binding-half")
@@ -221,6 +239,7 @@ func must(err error) {
 type message struct {
 	method, target string
 	body           []byte
+	header         http.Header // besides those of each request, or nil
 }
 
 // A reply is an answer over HTTP.
@@ -237,6 +256,9 @@ func (m message) as(handler http.Handler, user, password string) *reply {
 	request := httptest.NewRequest(m.method, m.target, bytes.NewReader(m.body))
 	request.SetBasicAuth(user, password)
 	request.Header.Set(osb.VersionHeader, osb.VersionSent)
+	for name, values := range m.header {
+		request.Header[name] = values
+	}
 	given := httptest.NewRecorder()
 	handler.ServeHTTP(given, request)
 	return &reply{status: given.Code, header: given.Header(), body: given.Body.Bytes()}

@@ -201,6 +201,9 @@ func (w *walk) changed(visit *visit, key broker.Key, before, after osb.Holding) 
 	row, isHeld := after.Row()
 	_, wasPending := before.Work()
 	_, isPending := after.Work()
+	if visit != nil && !wasPending {
+		w.begun(visit, key)
+	}
 	switch {
 	case !wasPending && isPending:
 		course.waits = visit
@@ -216,6 +219,16 @@ func (w *walk) changed(visit *visit, key broker.Key, before, after osb.Holding) 
 	default: // it was answered at once: a tombstone, a row that waits, or the first Poll
 		w.gives(visit)
 		w.event(key, fmt.Sprintf("arrive %d", visit.attempt))
+	}
+}
+
+// begun is called after a request has begun something. A binding that another's request deletes is one whose creation
+// has failed.
+func (w *walk) begun(visit *visit, key broker.Key) {
+	if visit.of == key {
+		w.world.expected.begins(visit.message)
+	} else {
+		w.world.expected.beginsItself(key)
 	}
 }
 
