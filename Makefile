@@ -4,7 +4,6 @@ SHELL := /usr/bin/bash
 MAKEFLAGS += --no-builtin-rules --output-sync=target --jobs=$(shell nproc)
 PYTHON = $(or $(shell . scripts/python.sh && python_with pytest,xdist),/usr/bin/python3)
 FAST = not slow and not postgres and not browser and not alone
-LIBRARY = $${LIBOSB_FOLDER:-$$(scripts/where library)}
 # Debian has staticcheck as sources only (golang-honnef-go-tools-dev). The first `make quick` builds it, in half a minute.
 STATICCHECK = $(CURDIR)/build/staticcheck
 
@@ -52,10 +51,8 @@ quick-shell:
 	scripts/files bash | xargs shellcheck
 
 quick-go: $(if $(wildcard /usr/share/gocode/src/honnef.co/go/tools/cmd/staticcheck),$(STATICCHECK))
-	export PKG_CONFIG_PATH="$(LIBRARY)" LD_LIBRARY_PATH="$(LIBRARY)" GOFLAGS='-mod=readonly -buildvcs=false' GOPROXY=off
-	cd go/osb
-	go vet ./...
-	if [ -x $(STATICCHECK) ]; then $(STATICCHECK) ./...; fi
+	scripts/go vet ./...
+	if [ -x $(STATICCHECK) ]; then scripts/go $(STATICCHECK) ./...; fi
 
 quick-types:
 	scripts/files python | xargs mypy --scripts-are-modules

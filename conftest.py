@@ -64,16 +64,27 @@ def replay() -> Path:
 
 @pytest.fixture(scope="session")
 def broker() -> Path:
-    """The program that ./osb-broker runs: the one that OSB_BROKER names. If it names none, the launcher builds the
-    program, and OSB_BROKER names that one from then on.
+    """The program that ./osb-broker runs (_program)."""
+    return _program("osb-broker", "OSB_BROKER")
+
+
+@pytest.fixture(scope="session")
+def platform() -> Path:
+    """The program that ./osb-platform runs (_program)."""
+    return _program("osb-platform", "OSB_PLATFORM")
+
+
+def _program(name: str, variable: str) -> Path:
+    """The program that the launcher runs: the one that the environment variable names. If it names none, the launcher
+    builds the program, and the variable names that one from then on.
     """
-    if not os.environ.get("OSB_BROKER"):
-        ran = subprocess.run([TOP / "osb-broker", "--help"], stdin=subprocess.DEVNULL, capture_output=True, text=True)
+    if not os.environ.get(variable):
+        ran = subprocess.run([TOP / name, "--help"], stdin=subprocess.DEVNULL, capture_output=True, text=True)
         if "apt-get install" in ran.stderr:
             pytest.skip(ran.stderr.strip())
         assert ran.returncode == 0, ran.stderr
-        os.environ["OSB_BROKER"] = str(TOP / "out" / "go" / "osb-broker")
-    return Path(os.environ["OSB_BROKER"]).resolve()
+        os.environ[variable] = str(TOP / "out" / "go" / name)
+    return Path(os.environ[variable]).resolve()
 
 
 # ---- PostgreSQL. Each process of pytest chooses an address, and its first test that needs the server starts it.

@@ -1,1 +1,1 @@
-"""A program, not a test: what a broker and a platform do in a second, and what memory they take."""
+"""A program, not a test: how many requests a broker answers in a second, and how much memory it takes."""

@@ -1,8 +1,7 @@
-"""What a broker and a platform do in a second, and what memory they take: `bench/run`.
+"""How many requests a broker answers in a second, and how much memory it takes: `bench/run`.
 
-wrk (Debian: apt-get install wrk) has some processes of osb-broker, over SQLite and folders, create instances, in runs
-of some seconds until there are enough, and then asks for their last operations. After that the calls of the platform's
-store are timed that a step of an instance makes.
+wrk (Debian: apt-get install wrk) lets some processes of osb-broker, over SQLite and folders, create instances, in runs
+of some seconds until there are enough. Then it asks for their last operations.
 """
 from __future__ import annotations
 
@@ -21,14 +20,17 @@ import urllib.request
 from pathlib import Path
 from typing import Iterator, NamedTuple
 
-from storm.operator import PLANS, SERVICE, python_environment
-
-from bench.records import steps_a_second
-
 _TOP = str(Path(__file__).resolve().parents[1])
 _ASK = str(Path(__file__).with_name("ask.lua"))
 _LOGIN = "Basic " + base64.b64encode(b"platform:secret").decode()
-_NAMED = json.dumps({"service_id": str(SERVICE), "plan_id": str(PLANS[0]), "organization_guid": "o", "space_guid": "s"})
+_NAMED = json.dumps(
+    {
+        "service_id": "00000000-0000-0000-0000-0000000000a0",
+        "plan_id": "00000000-0000-0000-0000-0000000000b1",
+        "organization_guid": "o",
+        "space_guid": "s",
+    }
+)
 
 
 class Ran(NamedTuple):
@@ -94,7 +96,7 @@ def brokers(asked: argparse.Namespace) -> Iterator[Brokers]:
         log = stack.enter_context(open(Path(folder) / "log", "ab"))
         running = []
         for _ in range(asked.brokers):
-            running.append(subprocess.Popen(line, env=python_environment(_TOP), stderr=log))
+            running.append(subprocess.Popen(line, env={**os.environ, "OSB_BROKER_PASSWORD": "secret"}, stderr=log))
             stack.callback(_end, running[-1])
             _wait_for(port)
         yield Brokers(running, port, asked)
@@ -153,19 +155,13 @@ def _load(asked: argparse.Namespace) -> None:
 
 
 def main() -> None:
-    """Loads both sides, and prints what came of it."""
+    """Loads the brokers, and prints what came of it."""
     parser = argparse.ArgumentParser("bench/run", description=__doc__, allow_abbrev=False)
     parser.add_argument("--brokers", type=int, default=4, help="processes (4)")
     parser.add_argument("--connections", type=int, default=64, help="at once (64)")
     parser.add_argument("--seconds", type=int, default=10, help="of a run (10)")
-    parser.add_argument("--creations", type=int, default=100000, help="how many instances are made (100000)")
-    parser.add_argument("--steps", type=int, default=2000, help="how many steps of the platform are timed (2000)")
-    asked = parser.parse_args()
-    if asked.creations > 0:
-        _load(asked)
-    for records in (1000, 100000):
-        rate = steps_a_second(records, asked.steps)
-        print(f"{rate:.0f} steps a second of a platform with {records} records", flush=True)
+    parser.add_argument("--creations", type=int, default=100000, help="how many instances are created (100000)")
+    _load(parser.parse_args())
 
 
 if __name__ == "__main__":

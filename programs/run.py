@@ -1,4 +1,4 @@
-"""Runs a program of this folder: `run.py osb_platform ARGUMENT ..`. So no module is taken from the current folder."""
+"""Runs a package of this folder: `run.py osb_replay_log ARGUMENT ..`. So no module is taken from the current folder."""
 import runpy
 import sys
 

@@ -1,5 +1,5 @@
 # shellcheck shell=bash
-# Python for the programs of programs/: sourced by their launchers and by their checks.
+# Finds Python. Sourced by ./osb-replay-log, ./check and the launchers of what is in checks/ and bench/.
 
 # python_with MODULE[,MODULE ..]: prints the first Python, 3.9 or later, that has the modules; its status is 0 where
 # there is one. What Debian installs is there for /usr/bin/python3 alone.
@@ -24,28 +24,7 @@ python_where() (
     exit 1
 )
 
-# run_program NAME PYTHON TOP ARGUMENT ..: runs the program of this name in place of this shell, over the proved
-# library: the one that $LIBOSB names, else the one for this checkout's sources (scripts/artifacts.sh). If the program
-# can't be run, the status is 70.
-run_program() {
-    local who=$1 python=$2 top=$3 folder
-    shift 3
-    if [ -z "${LIBOSB:-}" ]; then
-        . "$top/scripts/artifacts.sh" || exit 70
-        find_current library
-        export LIBOSB=$folder/libosb.so
-    fi
-    [ -r "$LIBOSB" ] || refuse_program "$who" "the library $LIBOSB, which LIBOSB names, can't be read"
-    export PYTHONPATH=$top/programs:$top/python/src${PYTHONPATH:+:$PYTHONPATH}
-    exec "$python" "$top/programs/run.py" "${who//-/_}" "$@"
-}
-
-# wants_postgresql WORD ..: whether one of the words names a server of PostgreSQL.
-wants_postgresql() {
-    [[ " $* " == *[\ =]postgres*://* ]]
-}
-
-# refuse_program NAME TEXT: ends with status 70, and tells why on standard error.
+# refuse_program NAME TEXT: ends with status 70, and reports why on standard error.
 refuse_program() {
     echo "$1: $2" >&2
     exit 70

@@ -21,4 +21,4 @@ def port() -> int:
         return int(free.getsockname()[1])
 
 
-other_port = port
+other_port = third_port = port

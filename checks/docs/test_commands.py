@@ -33,10 +33,10 @@ def test_embedded_blocks_are_current(replay: Path) -> None:
 
 @covers("README.md", "sudo apt-get install ")
 def test_packages_of_the_programs(texts: list[str]) -> None:
-    """They are those that the programs ask for, and curl; the gate installs them."""
+    """They are those that the launchers ask for, and curl; the gate installs them."""
     named = packages(texts[0])
-    assert named == packages(read("osb-broker")) | packages(read("osb-platform")) | {"curl"}
-    assert named - installed_by_ci() <= {"python3"}
+    assert named == packages(read("scripts/go_program.sh")) | {"curl"}
+    assert named - installed_by_ci() == set()
 
 
 @covers("CONTRIBUTING.md", "sudo apt-get install make ", "sudo apt-get install chromium ")
@@ -44,20 +44,19 @@ def test_packages_of_the_tests(texts: list[str]) -> None:
     assert packages("".join(texts)) - installed_by_ci() == set()
 
 
-@pytest.mark.usefixtures("broker")
+@pytest.mark.usefixtures("broker", "platform")
 @covers("README.md", "OSB_BROKER_PASSWORD=secret ./osb-broker serve &\n")
 def test_programs(texts: list[str], workdir: Workdir, port: int) -> None:
-    """An instance is created, seen at the broker, and removed."""
+    """An instance is created, seen at the broker, and deleted."""
     needs("curl")
     moved = texts[0].replace("serve &", f"serve --listen 127.0.0.1:{port} &").replace(":8080", f":{port}")
-    end = "echo; ls -A $XDG_STATE_HOME/osb-broker/instances\n./osb-platform list\nkill %1; wait $!"
-    made, seen, *left = workdir.run(moved + end).split("\n")
-    assert (made.split("\t")[2:], re.sub("}.*", "}", seen)) == (["ready"], '{"state":"succeeded"}')
-    assert [line for line in left if line.endswith("locks")] == [".locks"]
-    assert [line.split("\t")[1] for line in left if line.count("\t") >= 4] == ["gone"]
+    apart = moved.replace("platform run &", "platform run >printed 2>log &").replace("operation\n", "operation; echo\n")
+    out = workdir.run(f"{apart}ls $XDG_STATE_HOME/osb-broker/instances\nkill %2 %1; wait\n")
+    assert out.splitlines() == ["my-db", '{"state":"succeeded"}']
+    assert "my-db is gone" in workdir.errors().splitlines()
 
 
-@covers("CONTRIBUTING.md", "LIBOSB=$(scripts/where library)")
+@covers("CONTRIBUTING.md", "PYTHONPATH=programs /usr/bin/python3 -m pdb ")
 def test_program_under_the_debugger(texts: list[str], workdir: Workdir) -> None:
     """The command runs the program; here without the debugger."""
     assert "-m pdb " in texts[0]
@@ -255,22 +254,6 @@ def test_go_module_of_a_reader(texts: list[str], workdir: Workdir) -> None:
 @covers("docs/python.md", "./libosb build build\n")
 def test_first_program_in_python(texts: list[str], workdir: Workdir) -> None:
     assert workdir.run(texts[0]) == read("examples/c/story.out")
-
-
-@pytest.mark.usefixtures("broker")
-@covers(
-    "docs/python.md", "OSB_BROKER_PASSWORD=secret ./osb-broker serve ", "export LIBOSB=$PWD/build/libosb.so PYTHONPATH="
-)
-def test_platform_in_python(texts: list[str], workdir: Workdir, port: int) -> None:
-    """It prints what the page says, at a broker that serves."""
-    needs("curl")
-    served, ordered = texts
-    serve = served.rstrip().replace("osb-broker serve", f"osb-broker serve --listen 127.0.0.1:{port}")
-    printed = workdir.run(
-        f"./libosb build build\n{serve} &\n{wait_for(port)}{ordered.replace('8080', str(port))}kill %1; wait $!\n"
-    )
-    sentence = re.search(r"\nIt prints (`[^.]*)\. The number ", read("docs/python.md"))
-    assert sentence is not None and printed.splitlines() == re.findall("`([^`]*)`", sentence[1])
 
 
 # What pip needs without a network: setuptools makes wheels itself from 70.1 on. It prints where that is.

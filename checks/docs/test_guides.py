@@ -1,17 +1,18 @@
-"""The commands of the two guides, run as they stand there, but for ports and for databases."""
+"""The commands of the broker's guide, run as they stand there, but for ports; and the arguments in all documents."""
 from __future__ import annotations
 
 import json
 import re
 import shlex
 import subprocess
+from functools import partial
 from typing import Callable
 
-import osb_platform.words
 import pytest
 import storm.arguments
-from docs.guides import BROKER, CREATE, PLATFORM, healthy, moved, statuses
-from docs.pages import TOP, block, blocks, covers, packages, pages, read
+from docs.guides import BROKER, CREATE, healthy, moved, statuses
+from docs.pages import block, blocks, covers, packages, pages, read
+from docs.programs import help_of, is_read_by, options_of
 from docs.workdir import Workdir, needs
 from osb import Id
 
@@ -29,7 +30,7 @@ def curl() -> None:
 @covers(BROKER, "apt-get install curl ")
 def test_packages(texts: list[str]) -> None:
     """They are those that the launcher asks for, and curl."""
-    assert packages(texts[0]) == packages(read("osb-broker")) | {"curl"}
+    assert packages(texts[0]) == packages(read("scripts/go_program.sh")) | {"curl"}
 
 
 def test_first_start(workdir: Workdir) -> None:
@@ -64,10 +65,10 @@ def test_broker(texts: list[str], workdir: Workdir, port: int) -> None:
 def test_backend_of_a_reader(texts: list[str], workdir: Workdir, port: int) -> None:
     """It sells a database, with a binding."""
     own = re.sub(r"\b0{8}(-0000-0000-0000-0000000000[ab]\d)", r"11111111\1", moved(block(BROKER, CREATE), port))
-    listed = own.replace("ls build/broker/instances", f"ls build/databases/command/{FIRST}*")
+    listed = own.replace("ls build/broker/instances", "ls build/databases/command")
     out = workdir.run(f"{moved(texts[0], port).strip()} &\n{healthy(port)}{listed}kill %1; wait $!\n")
     assert statuses(out) == ["201", "201", "200", "200"]
-    assert "data.sqlite\n" in out and '"token"' in out
+    assert out.count(f"{FIRST}\n") == 1 and '"token"' in out
 
 
 # A Bind of an instance that doesn't exist, and one whose body lacks the ids.
@@ -92,66 +93,37 @@ def test_log(texts: list[str], workdir: Workdir, port: int) -> None:
     assert set.union(*found) - {"time", "level", "event"} == set(re.findall("`([a-z_]+)`", row[1]))
 
 
-@covers(PLATFORM, "export OSB_BROKER_PASSWORD=secret ", "curl -u platform:secret ")
-def test_platform(texts: list[str], workdir: Workdir, port: int) -> None:
-    """An instance is ordered, seen at the broker, and removed."""
-    life, look = (moved(it, port) for it in texts)
-    before, remove, after = life.partition("./osb-platform remove")
-    out = workdir.run(f"{before}{look.strip()}; echo\n{remove}{after}\nwait\n")
-    lines = [line.split("\t") for line in out.splitlines()]
-    assert ['{"state":"succeeded"}'] in lines
-    assert [line[1] for line in lines if len(line) > 3] == ["ready", "gone"]
-
-
-@covers(PLATFORM, "./osb-platform run --broker http://127.0.0.1:8080 --page ")
-def test_page(texts: list[str], workdir: Workdir, port: int, other_port: int) -> None:
-    ask = f"until curl -sf http://127.0.0.1:{other_port}/ | grep -o '<title>.*</title>'; do sleep 0.1; done"
-    run = moved(texts[0], port, other_port).strip()
-    out = workdir.run(f"{run} &\n{ask}\nkill %1; wait $!\n", OSB_PLATFORM_PASSWORD="x")
-    assert out.count("<title>") == 1
-
-
 # ---- arguments of all commands, also of those that aren't run here
 
 
-def help_of(*arguments: str) -> str:
-    """What osb-broker prints for these arguments and --help. It judges the options before it prints."""
-    ran = subprocess.run([TOP / "osb-broker", *arguments, "--help"], capture_output=True, text=True)
-    assert ran.returncode == 0, ran.stderr
-    return ran.stdout
-
-
-def read_by_broker(arguments: list[str]) -> None:
-    """Fails if the first argument isn't a command of osb-broker, or the others aren't options of this command."""
-    assert f"\n  osb-broker {arguments[0]}" in help_of(*arguments).partition("\nUsage:")[2].partition("\n\n")[0]
-
-
 READERS: dict[str, Callable[[list[str]], object]] = {
-    "./osb-broker": read_by_broker,
-    "./osb-platform": osb_platform.words.read,
+    "./osb-broker": partial(is_read_by, "osb-broker"),
+    "./osb-platform": partial(is_read_by, "osb-platform"),
     "checks/storm/run": storm.arguments.read,
 }
 COMMAND = re.compile(rf"(?:^|[\s(])({'|'.join(map(re.escape, READERS))})((?: +[^\s&|;#)>]+)+)", re.MULTILINE)
 
 
+@pytest.mark.usefixtures("platform")
 @pytest.mark.parametrize("page", pages())
 def test_arguments(page: str) -> None:
-    """The programs take the arguments of every command in the documents. Two points at its end stand for a broker."""
+    """The programs take the arguments of every command in the documents."""
     for text in blocks(page):
         for program, words in COMMAND.findall(text.replace("\\\n", " ")):
-            whole = re.sub(r"\$\w+", FIRST, re.sub(r" \.\.$", " --broker http://127.0.0.1:8080", words))
-            READERS[program](shlex.split(whole))
+            READERS[program](shlex.split(re.sub(r"\$\w+", FIRST, words)))
 
 
 @pytest.mark.parametrize("arguments", ["serve --pass x", "serve --threads 0", "sell", "serve --listen"])
 def test_wrong_arguments_are_found(arguments: str) -> None:
     with pytest.raises(AssertionError):
-        read_by_broker(arguments.split())
+        is_read_by("osb-broker", arguments.split())
 
 
+@pytest.mark.usefixtures("platform")
 def test_options_of_the_broker() -> None:
-    """Each option that the guide names is one of the program's."""
-    options = set(re.findall(r"^ +(?:-\w, )?(--[\w-]+)", "".join(map(help_of, ("serve", "rekey"))), re.MULTILINE))
+    """Each option that the guide names is the broker's, or that of a platform which changes its password."""
+    options = set(options_of("".join(help_of("osb-broker", it) for it in ("serve", "rekey"))))
+    options |= set(options_of(help_of("osb-platform", "broker", "set")))
     named = set(re.findall(r"(?<![\w-])--[a-z][a-z-]*", read(BROKER)))
     assert len(named) > 20
     assert named - options == set()

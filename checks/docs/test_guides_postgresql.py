@@ -1,24 +1,19 @@
-"""The commands of the two guides with PostgreSQL, run as they stand there, but for hosts and ports. In the guide of the
-platform, roles and databases have other names too.
-"""
+"""The commands of the two guides with PostgreSQL, run as they stand there, but for hosts and ports."""
 from __future__ import annotations
 
 import contextlib
 import os
 import re
-import shlex
 import socket
 import subprocess
 from pathlib import Path
 from typing import Callable, Iterator
-from urllib.parse import quote, urlencode
 
 import pytest
 from docs.guides import BROKER, CREATE, PLATFORM, healthy, moved, statuses
 from docs.pages import block, covers
 from docs.workdir import Workdir, needs
 from osb import Id
-from osb_program.pg import Sessions
 
 pytestmark = [pytest.mark.slow, pytest.mark.postgres, pytest.mark.usefixtures("broker")]
 
@@ -27,52 +22,6 @@ pytestmark = [pytest.mark.slow, pytest.mark.postgres, pytest.mark.usefixtures("b
 def tools() -> None:
     """All of them need these."""
     needs("curl", "psql")
-
-
-class Server:
-    """A server of PostgreSQL that other tests use too. Each role and each database of a guide stands for one of the
-    test's own.
-    """
-
-    def __init__(self, url: str) -> None:
-        self._url, self._prefix = url, f"osbguide{os.getpid()}"
-        self._sessions = Sessions(url, 1)
-
-    def prepare(self, statements: str) -> None:
-        """Run the guide's statements."""
-        for statement in re.sub("--.*", "", statements).replace("'..'", "'secret'").split(";"):
-            own = re.sub(r"\b(ROLE|OWNER|DATABASE) (\w+)", rf"\1 {self._prefix}\2", statement).strip()
-            if own:
-                self._execute(own)
-
-    def url(self, role: str, database: str) -> str:
-        """The URL of a database of the guide, quoted for a shell."""
-        from psycopg2.extensions import parse_dsn  # it is installed if there is a server
-
-        parts: dict[str, str] = parse_dsn(self._url)
-        asked = urlencode({name: parts[name] for name in ("host", "port") if name in parts}, quote_via=quote)
-        return shlex.quote(f"postgresql://{self._prefix}{role}@/{self._prefix}{database}?{asked}")
-
-    def clear(self) -> None:
-        """Drop what the test has created."""
-        for name in self._execute("SELECT datname FROM pg_database WHERE starts_with(datname, %s)", self._prefix):
-            self._execute(f'DROP DATABASE "{name}" WITH (FORCE)')
-        for name in self._execute("SELECT rolname FROM pg_roles WHERE starts_with(rolname, %s)", self._prefix):
-            self._execute(f'DROP ROLE "{name}"')
-
-    def _execute(self, statement: str, *values: str) -> list[str]:
-        """Run a statement, and return the first column of what it finds."""
-        with self._sessions.session() as session, session.cursor() as cursor:
-            cursor.execute(statement, values or None)
-            return [str(row[0]) for row in cursor.fetchall()] if cursor.description else []
-
-
-@pytest.fixture
-def server(postgresql: str) -> Iterator[Server]:
-    """A server, until the end of the test."""
-    made = Server(postgresql)
-    yield made
-    made.clear()
 
 
 # What pg_virtualenv runs beside a server. Its standard input also ends if pytest is killed.
@@ -195,21 +144,28 @@ def test_broker(texts: list[str], workdir: Workdir, port: int, machines: dict[st
     assert "PUBLIC" not in workdir.errors() and limits == ("temp_file_limit" not in workdir.errors())
 
 
-@covers(PLATFORM, "./osb-platform run --store postgresql:", "CREATE ROLE platform ")
-def test_platform(texts: list[str], workdir: Workdir, port: int, server: Server) -> None:
-    """It orders an instance of a broker, which becomes ready."""
-    run, statements = texts
-    server.prepare(statements)
-    store = f"--store {server.url('platform', 'platform')}"
-    assert "--store postgresql://platform@db/platform --broker https://broker.example" in run
-    command = run.replace("--store postgresql://platform@db/platform", store).strip()
-    command = command.replace("https://broker.example", f"http://127.0.0.1:{port}")
-    order = (
-        f"one=$(./osb-platform create {store} --service 00000000-0000-0000-0000-0000000000a0 "
-        "--plan 00000000-0000-0000-0000-0000000000b1)"
-    )
-    serve = f"OSB_BROKER_PASSWORD=x ./osb-broker serve --listen 127.0.0.1:{port} &\n{healthy(port)}"
-    out = workdir.run(
-        f"{serve}{order}\n{command} --once\nkill %1; wait $!\n", OSB_PLATFORM_PASSWORD="x", PGPASSWORD="secret"
-    )
-    assert re.search(r"\tready\n", out)
+@covers(
+    PLATFORM,
+    "CREATE ROLE platform ",
+    "hostssl  platform ",
+    "umask 077\necho 'db:5432:platform:",
+    "export PGPASSFILE=$PWD/pgpass OSB_PLATFORM_STORE=",
+)
+@pytest.mark.usefixtures("platform")
+def test_platform(texts: list[str], workdir: Workdir, port: int) -> None:
+    """A worker creates an instance, under the role and in the database of the page. No other role gets in."""
+    needs("pg_virtualenv")
+    with started() as db:
+        statements, rule, secrets, run = (placed(it, {"db": db}) for it in texts)
+        db.run(statements)
+        db.admit(rule)
+        run = run.replace("https://broker.example", f"http://127.0.0.1:{port}")
+        create = "./osb-platform create --service folder --plan at-once --wait"
+        out = workdir.run(
+            f"{secrets}OSB_BROKER_PASSWORD=secret ./osb-broker serve --listen 127.0.0.1:{port} &\n{healthy(port)}"
+            f"{run.strip()} >printed 2>log &\none=$({create})\n./osb-platform show $one\nkill $!; wait $!\n"
+        )
+        assert re.search(r"^state\tready$", out, re.MULTILINE)
+        db.run("CREATE ROLE other LOGIN;")
+        may = "SELECT has_database_privilege('other', 'platform', 'CONNECT');"
+        assert db.run(may) == ["f"]

@@ -15,8 +15,10 @@ from docs.pages import TOP
 _SECONDS = 240.0
 
 # What this shell has of Python, Go, pkg-config, PostgreSQL and the library, and a reader's hasn't.
-# OSB_BROKER stays: all tests that use the fixture `broker` share one build.
-_OWN = re.compile("LIBOSB|OSB_(?!BROKER$)|PYTHON|PKG_CONFIG|LD_|CGO_|GO[A-Z]|PG|PIP_|CC$|XDG_|DESTDIR|BROKER_|PORT$")
+# OSB_BROKER and OSB_PLATFORM stay: all tests that use the fixtures `broker` and `platform` share one build.
+_OWN = re.compile(
+    "LIBOSB|OSB_(?!BROKER$|PLATFORM$)|PYTHON|PKG_CONFIG|LD_|CGO_|GO[A-Z]|PG|PIP_|CC$|XDG_|DESTDIR|BROKER_|PORT$"
+)
 
 # What Debian calls the package of a command, if the two names differ.
 _PACKAGES = {"go": "golang-go", "cc": "gcc"}

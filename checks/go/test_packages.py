@@ -19,6 +19,9 @@ SEEDS = 500
 FEW_SEEDS = 16
 """So many runs with a store in PostgreSQL."""
 
+RACE_SEEDS = 60
+"""So many runs with the race detector."""
+
 FURTHER: dict[str, list[str]] = {
     "plain": [],
     "crashpoints": ["crashpoints"],
@@ -54,13 +57,13 @@ def test_format() -> None:
 
 @pytest.mark.postgres
 def test_tests(packages: Packages) -> None:
-    """The tests of each package but osb, which has its own, with the race detector.
-
-    Those of platform/postgres are run by hand: one of them hung once while the machine was busy, and it isn't known
-    which one. `test_crashes` runs those of them that need no server.
+    """The tests of each package but osb, which has its own, with the race detector. Those of backend/postgres come
+    last: they fill the server's table of locks.
     """
-    tested = [it for it in but_osb(packages) if it != "pippinterm/platform/postgres"]
-    packages("test", "-race", "-count=1", "-timeout", "10m", "-tags", "libsqlite3", *tested)
+    alone = "pippinterm/backend/postgres"
+    others = [it for it in but_osb(packages) if it != alone]
+    for these in (others, [alone]):
+        packages("test", "-race", "-count=1", "-timeout", "10m", "-tags", "libsqlite3", *these)
 
 
 def but_osb(packages: Packages) -> list[str]:
@@ -76,6 +79,22 @@ def test_crashes(packages: Packages, tmp_path: Path) -> None:
     line = ["-count=1", "-timeout", "10m", "-tags", "libsqlite3 crashpoints", *but_osb(packages)]
     packages("test", *line, WALKS=str(walks), SEEDS=str(SEEDS), OSB_TEST_POSTGRESQL="")
     assert compared(walks) > 20 * SEEDS
+
+
+def test_crashes_with_the_race_detector(packages: Packages) -> None:
+    """The broker is killed over the network, with the race detector."""
+    line = [
+        "-race",
+        "-count=1",
+        "-timeout",
+        "5m",
+        "-tags",
+        "libsqlite3 crashpoints",
+        "-run",
+        "^TestAnyNetwork$",
+        "./broker",
+    ]
+    packages("test", *line, SEEDS=str(RACE_SEEDS), OSB_TEST_POSTGRESQL="")
 
 
 @pytest.mark.postgres

@@ -1,4 +1,4 @@
-"""The small repository with the launcher of the broker, and scripts that stand for Go and the C compiler."""
+"""The small repository with the launcher of a program in Go, and scripts that stand for Go and the C compiler."""
 
 from __future__ import annotations
 
@@ -8,8 +8,6 @@ import subprocess
 from pathlib import Path
 
 from launcher.small_repository import TOP, Repository
-
-MAIN = "go/cmd/osb-broker/main.go"
 
 # Stands for go. It writes a line with its arguments to `go-builds`, takes as many seconds as the file `seconds` says,
 # and builds a program that prints main.go, its arguments and its standard input.
@@ -22,24 +20,22 @@ sleep "$(cat "$home/seconds")"
 echo "a warning" >&2
 while [ "$1" != -o ]; do shift; done
 grep -rq fault . && { echo "main.go:1: a fault" >&2; exit 1; }
-printf '#!/bin/sh\\necho "%s: $*"\\ncat\\nexit 9\\n' "$(cat cmd/osb-broker/main.go)" >"$2"
+printf '#!/bin/sh\\necho "%s: $*"\\ncat\\nexit 9\\n' "$(cat "${@: -1}/main.go")" >"$2"
 chmod +x "$2"
 """
 
 
 class GoRepository(Repository):
-    """It has an archive of the library, and the sources of a broker."""
+    """It has an archive of the library, and the sources of a program."""
 
-    def __init__(self, folder: Path) -> None:
+    def __init__(self, folder: Path, name: str) -> None:
+        """`name`: the program's, as osb-broker."""
         super().__init__(folder)
-        shutil.copy2(TOP / "osb-broker", self.top / "osb-broker")
-        for name, text in (
-            (MAIN, "first"),
-            ("go/cmd/osb-broker/catalogue.json", "{}"),
-            ("go/cmd/osb-broker/main_test.go", "a test"),
-        ):
-            self.write(name, text)
-        self.main, self.program = self.top / MAIN, self.top / "out" / "go" / "osb-broker"
+        self.name, self.variable = name, name.upper().replace("-", "_")
+        shutil.copy2(TOP / name, self.top / name)
+        for file, text in (("main.go", "first"), ("catalogue.json", "{}"), ("main_test.go", "a test")):
+            self.write(f"go/cmd/{name}/{file}", text)
+        self.main, self.program = self.top / "go" / "cmd" / name / "main.go", self.top / "out" / "go" / name
         self.tool("go", GO)
         self.tool("pkg-config", "#!/bin/sh\n")
         self.tool("gcc", "#!/bin/sh\ncat >/dev/null\n")
@@ -51,13 +47,13 @@ class GoRepository(Repository):
 
     def environment(self, has_rt: bool = True) -> dict[str, str]:
         """Without what this run of the tests uses."""
-        left_out = ("OSB_BROKER", "LIBOSB_FOLDER", "GOFLAGS", "CC")
+        left_out = (self.variable, "LIBOSB_FOLDER", "GOFLAGS", "CC")
         return {name: it for name, it in super().environment(has_rt).items() if name not in left_out}
 
     def start(self, *arguments: str) -> subprocess.Popen[str]:
         """The launcher as a process."""
         return subprocess.Popen(
-            [self.top / "osb-broker", *arguments],
+            [self.top / self.name, *arguments],
             env=self.environment(),
             stdin=subprocess.DEVNULL,
             stdout=subprocess.PIPE,

@@ -6,6 +6,7 @@ from pathlib import Path
 from typing import Callable, Iterator, NamedTuple
 
 import pytest
+from page import program
 from page.browser import Browser, browser, found
 
 
@@ -19,10 +20,7 @@ class Shown(NamedTuple):
 @contextlib.contextmanager
 def shown(store: Path) -> Iterator[Shown]:
     """The page of a store, until the end of the block."""
-    from osb_platform.page import Page, serving  # the root's conftest.py has found the library by now
-    from osb_platform.sqlite_database import SqliteReader
-
-    with serving(Page(SqliteReader(store), "http://a-broker.example"), "127.0.0.1", 0) as url:
+    with program.serving(store) as url:
         yield Shown(url, store)
 
 
@@ -30,8 +28,8 @@ def fixture_of(kind: str) -> Callable[..., Iterator[Shown]]:
     """A store of this kind, and its page."""
 
     @pytest.fixture(scope="module")
-    def made(tmp_path_factory: pytest.TempPathFactory, library: Path) -> Iterator[Shown]:
-        from page import stores
+    def made(tmp_path_factory: pytest.TempPathFactory, library: Path, platform: Path) -> Iterator[Shown]:
+        from page import stores  # the fixture has found the library by now
 
         store = tmp_path_factory.mktemp(kind) / "instances.sqlite"
         getattr(stores, kind)(store)

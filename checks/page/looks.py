@@ -6,13 +6,10 @@ import time
 from pathlib import Path
 from typing import Any, Callable
 
-from osb import Id
-from osb_platform.instances import Instances
-from osb_platform.sqlite_database import SqliteDatabase
+from page import stores
 from page.browser import Browser
-from page.stores import PLAN, SERVICE
 
-SIZES = ((1280, 900), (360, 740))
+SIZES = ((1400, 900), (360, 740))
 SCHEMES = ("light", "dark")
 
 _MEASURE = Path(__file__).with_name("measure.js").read_text(encoding="utf-8")
@@ -49,6 +46,22 @@ def pictures(tab: Browser, url: str, folder: Path, name: str) -> list[str]:
     wrong += tab.complaints
     tab.complaints.clear()
     return wrong
+
+
+def rejected(is_so: bool) -> list[str]:
+    """What the browser says of a page that isn't there, each time that it is opened."""
+    said = "Failed to load resource: the server responded with a status of 404 (Not Found)"
+    return [said] * (len(SIZES) * len(SCHEMES)) if is_so else []
+
+
+def texts(tab: Browser, text: str) -> int:
+    """How often a text is shown."""
+    return str(tab.value("document.getElementById('main').innerText")).count(text)
+
+
+def elements(tab: Browser, selector: str) -> int:
+    """How many elements there are of a selector."""
+    return int(tab.value(f"document.querySelectorAll({selector!r}).length"))
 
 
 def first_paint(tab: Browser, url: str, times: int = 3) -> float:
@@ -98,7 +111,7 @@ def refreshed(tab: Browser, url: str, store: Path) -> list[str]:
     })()"""
     )
     before = tab.value("document.getElementById('go-ordered').textContent")
-    Instances(SqliteDatabase(store)).order(Id.new(), SERVICE, PLAN, "{}")
+    stores.order(store)
     _once(lambda: tab.value("document.getElementById('go-ordered').textContent") != before)
     after = tab.value(
         """(() => {

@@ -6,34 +6,38 @@ import time
 from pathlib import Path
 
 import pytest
-from osb_platform.sqlite_database import SqliteDatabase
-from page import looks
+from page import looks, stores
 from page.browser import Browser
 from page.conftest import Shown
-from program_tests.platform_support import get
+from page.program import get
 
 pytestmark = [pytest.mark.alone, pytest.mark.slow]
 
 
 def test_counts(large: Shown) -> None:
-    with SqliteDatabase(large.store).transaction() as execute:
-        rows = execute("SELECT state, count(*) FROM osb_instances GROUP BY state", [])
-    told = re.findall(r'<strong>([0-9,]+)</strong> <span class="state [a-z-]+">([a-z-]+)<', get(large.url).text)
-    assert {state: int(count.replace(",", "")) for count, state in told} == {
+    text = get(large.url).text
+    instances, _, _ = text.partition('aria-label="Bindings by state"')
+    told = re.findall(r'<strong>([0-9,]+)</strong> <span\s+class="state [a-z-]+">([a-z-]+)<', instances)
+    assert {state: int(count.replace(",", "")) for count, state in told if count != "0"} == {
         "all": 100_000,
-        **{state: count for state, count in rows},
+        **stores.counts(large.store),
     }
 
 
 def test_both_ends(large: Shown) -> None:
-    """The first twenty pages and the last twenty have no instance twice."""
+    """The first twenty pages and the last twenty, in both orders: each instance is on two of them."""
     ids: list[str] = []
-    for target in ("/?", "/?order=longest"):
+    for target, link in (
+        ("/", "page-next"),
+        ("/?order=oldest", "page-next"),
+        ("/?page=last", "page-previous"),
+        ("/?order=oldest&page=last", "page-previous"),
+    ):
         for _ in range(20):
             got = get(large.url, target)
             ids += got.ids()
-            target = got.link("page-next") or ""
-    assert len(ids) == len(set(ids)) == 2000
+            target = got.link(link) or ""
+    assert len(ids) == 2 * len(set(ids)) == 4000
 
 
 @pytest.mark.parametrize("target", ["/", "/?page=last", "/?state=gone", "/?find=a"])

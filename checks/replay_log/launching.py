@@ -2,16 +2,24 @@
 
 from __future__ import annotations
 
+import importlib.util
 import os
 import signal
 import subprocess
 from pathlib import Path
+from typing import NamedTuple
 
+import pytest
 from replay.running import TOP, Ran
 from waiting import until
 
 LAUNCHER = TOP / "osb-replay-log"
 SECONDS = 120
+SMALL = ["--part-lines", "600", "--chunk-bytes", "50000"]
+needs_dask = pytest.mark.skipif(
+    not all(map(importlib.util.find_spec, ["distributed", "cryptography"])),
+    reason="Dask isn't installed with TLS (Debian: python3-distributed python3-cryptography)",
+)
 # In the place of osb-replay. Each run makes the next of the folders calls/1, calls/2 and so on. The first run is for
 # the plans alone.
 NUMBERED = """#!/usr/bin/env bash
@@ -20,6 +28,20 @@ until mkdir "{calls}/$n" 2>/dev/null; do n=$((n + 1)); done
 """
 SLOW = NUMBERED + '[ $n -ne {killed} ] || kill -9 $PPID\n[ $n -eq 1 ] || sleep {seconds}\nexec "{program}" "$@"\n'
 ENDLESS = NUMBERED + '[ $n -ne 1 ] || exec "{program}" "$@"\necho $$ >"{calls}/$n/pid"\necho written\nexec sleep 30\n'
+
+
+class Logs(NamedTuple):
+    """A log in two files, and in one, and its settled report with the saved record."""
+
+    first: str
+    second: str
+    whole: str
+    report: str
+
+    @property
+    def paths(self) -> list[str]:
+        """Those of the two files."""
+        return [self.first, self.second]
 
 
 class Launcher:

@@ -83,7 +83,7 @@ def came(program: Path, paths: list[str], options: list[str], portions: Portions
             done = work.do(its, engine, True)
             out = io.BytesIO()
             found = [reports.report_in(file) for file in done.files]
-            reports.write(found, done.restarts, "--saved" in options, Path(folder), out)
+            reports.write(found, done.restarts, "--saved" in options, its.room, out)
         except Unreplayed as error:
             return Came(error.status, "", error.said)
     portions.parts = len(done.files)

@@ -5,75 +5,35 @@ A worker that is killed, a signal, files that can't be read or written, and the 
 
 from __future__ import annotations
 
-import gzip
-import importlib.util
 import os
-import random
 import signal
 import subprocess
-import sys
 import time
-from collections.abc import Callable, Iterator
+from collections.abc import Callable
 from pathlib import Path
-from typing import NamedTuple
 
 import pytest
 from replay.running import EXAMPLES, Ran, run
-from replay.schedules import HEAD, instance, lines
 from replay.worked import ONE, SERVICE
-from replay_log.launching import ENDLESS, LAUNCHER, SLOW, Launcher, fails, is_running, parent, terminate
+from replay_log.launching import (
+    ENDLESS,
+    LAUNCHER,
+    SLOW,
+    SMALL,
+    Launcher,
+    Logs,
+    fails,
+    is_running,
+    needs_dask,
+    parent,
+    terminate,
+)
 from waiting import until
 
 pytestmark = pytest.mark.slow
 
-needs_dask = pytest.mark.skipif(
-    importlib.util.find_spec("distributed") is None, reason="Dask isn't installed (Debian: python3-distributed)"
-)
 engines = pytest.mark.parametrize("engine", ["processes", pytest.param("dask", marks=[needs_dask, pytest.mark.alone])])
-SMALL = ["--part-lines", "600", "--chunk-bytes", "50000"]
 WRITE_FAILED = "osb-replay-log: write failed\n"
-
-
-class Logs(NamedTuple):
-    """A log in two files, and in one, and its settled report with the saved record."""
-
-    first: str
-    second: str
-    whole: str
-    report: str
-
-    @property
-    def paths(self) -> list[str]:
-        return [self.first, self.second]
-
-
-def log() -> bytes:
-    """Of 300 instances, of which one is named in capitals too."""
-    chance = random.Random(7)
-    names = [*map(instance, range(1, 300)), "00000000-0000-0000-0000-00000000ABCD"]
-    its = lines(names)
-    events = [chance.choice(its) for _ in range(9000)]
-    events = [line for at, line in enumerate(events) if line != "restart" or at % 20 == 0]
-    events.insert(5000, "send 00000000-0000-0000-0000-00000000abcd")
-    return "".join(f"{line}\n" for line in HEAD + events).encode()
-
-
-@pytest.fixture(scope="module")
-def logs(replay: Path, tmp_path_factory: pytest.TempPathFactory) -> Logs:
-    folder, text = tmp_path_factory.mktemp("logs"), log()
-    half = text.index(b"\n", len(text) // 3) + 1
-    first, second, whole = folder / "first.log", folder / "second.log.gz", folder / "whole"
-    first.write_bytes(text[:half])
-    second.write_bytes(gzip.compress(text[half:]))
-    whole.write_bytes(text)
-    report = run(replay, "replay", "--settle", "--saved", given=text)
-    assert (report.status, report.err) == (0, "")
-    return Logs(str(first), str(second), str(whole), report.out)
-
-
-@pytest.fixture
-def launcher(tmp_path: Path, replay: Path) -> Launcher:
-    return Launcher(tmp_path, replay)
 
 
 # ---- the workers of an engine
@@ -125,48 +85,6 @@ class TestEngine:
         bad.write_text(text)
         told = launcher.run(*self.arguments(engine, launcher, str(bad), logs.second))
         fails(told, 1, f"osb-replay-log: {bad}: line {text.count(chr(10))}: BadId\n")
-
-
-ELSEWHERE = """
-import asyncio, distributed, os
-async def main():
-    async with distributed.Scheduler(host="127.0.0.1", port=0, dashboard=False) as scheduler:
-        async with distributed.Worker(scheduler.address, nthreads=1, local_directory="."):
-            open("address.new", "w").write(scheduler.address)
-            os.rename("address.new", "address")
-            await asyncio.sleep(100)
-asyncio.run(main())
-"""
-
-
-@pytest.fixture
-def scheduler(tmp_path: Path) -> Iterator[str]:
-    """The address of a scheduler and a worker that run already, and don't know the package."""
-    environment = {name: value for name, value in os.environ.items() if name != "PYTHONPATH"}
-    with subprocess.Popen(
-        [sys.executable, "-c", ELSEWHERE],
-        cwd=tmp_path,
-        env=environment,
-        stdout=subprocess.DEVNULL,
-        stderr=subprocess.DEVNULL,
-    ) as process:
-        try:
-            until((tmp_path / "address").exists)
-            yield (tmp_path / "address").read_text()
-        finally:
-            process.terminate()
-
-
-@needs_dask
-def test_a_scheduler_elsewhere(launcher: Launcher, logs: Logs, scheduler: str) -> None:
-    where = ["--scheduler", scheduler, "--room", str(launcher.room)]
-    assert launcher.run("replay", "--settle", "--saved", *where, *SMALL, *logs.paths) == Ran(0, logs.report, "")
-
-
-def test_without_dask(launcher: Launcher, logs: Logs, tmp_path: Path) -> None:
-    (tmp_path / "distributed.py").write_text('raise ImportError("not here")\n')
-    told = launcher.run("replay", "--room", str(launcher.room), *logs.paths, environment={"PYTHONPATH": str(tmp_path)})
-    assert told.status == 0 and "osb-replay-log: Dask isn't installed" in told.err
 
 
 # ---- faults, which the program reports in its own words
@@ -334,7 +252,7 @@ def test_an_instance_twice(launcher: Launcher, logs: Logs, split: Split) -> None
     counts = {"applied": len(events), "skipped": 0}
     told = [f"{line.split()[0]} {counts.get(line.split()[0])}" if line.split()[0] in counts else line for line in other]
     first.write_text("".join(f"{line}\n" for line in told))
-    fails(launcher.run("merge", str(first.parent)), 3, "stands there twice")
+    fails(launcher.run("merge", str(first.parent)), 3, "is there twice")
 
 
 @pytest.mark.parametrize(
@@ -354,7 +272,7 @@ def test_a_report_that_is_missing(launcher: Launcher, logs: Logs, split: Split) 
 
 def test_parts_where_something_is(launcher: Launcher, logs: Logs, tmp_path: Path) -> None:
     told = launcher.run("split", "--parts", str(tmp_path), *logs.paths)
-    fails(told, 2, "there is something in it")
+    fails(told, 2, "the folder isn't empty")
 
 
 def test_a_fault_that_another_engine_met(launcher: Launcher, logs: Logs, split: Split, tmp_path: Path) -> None:

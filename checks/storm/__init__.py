@@ -1,6 +1,6 @@
-"""The storm: broker and platform run over a network that loses, delays, repeats and garbles, and both are killed.
+"""The storm: both programs run over a network that loses, delays, repeats and garbles, and they are killed and paused.
 
-A client of the storm's own creates and removes bindings of the platform's instances over the same network. Each record
-that is `ready` or `gone` is compared with the broker's row and with what exists all the while. At the end records,
-rows, resources and credentials are counted.
+Instances and bindings are ordered and removed by the commands of osb-platform, which are killed too. Each record that
+is `ready` or `gone` is compared with the row of the broker and with what exists, and the credentials of each binding
+are tried. At the end records, rows, resources and credentials are counted.
 """

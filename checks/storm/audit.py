@@ -4,18 +4,17 @@ from __future__ import annotations
 from collections import Counter
 from typing import Callable
 
-from osb_platform.instances import Instance
 from storm import binding_audit, instance_audit
-from storm.bindings import Binding
+from storm.records import Row
 from storm.sight import Place
 
 
 class Audit:
     """Looks at all three. What it finds wrong stays."""
 
-    def __init__(self, place: Place, is_usable: Callable[[Instance], bool], works: Callable[[Binding], bool]) -> None:
-        """`is_usable` and `works` try what exists at the end."""
-        self._place, self._is_usable, self._works = place, is_usable, works
+    def __init__(self, place: Place, is_usable: Callable[[Row], bool]) -> None:
+        """`is_usable` tries the resource of an instance at the end."""
+        self._place, self._is_usable = place, is_usable
         self.looks: Counter[str] = Counter()
         """How often records in a state were compared."""
         self.wrong: dict[str, str] = {}
@@ -35,7 +34,7 @@ class Audit:
         none.
         """
         sight = self._place.look()
-        found = [*instance_audit.left(sight, self._is_usable), *binding_audit.left(sight, self._works)]
+        found = [*instance_audit.left(sight, self._is_usable), *binding_audit.left(sight)]
         return [f"{len(ids)} {what}: {' '.join(sorted(ids)[:3])}" for what, ids in found if ids]
 
     def orphans(self) -> tuple[int, int]:

@@ -3,7 +3,10 @@ from __future__ import annotations
 
 import json
 
-from storm.operator import PLANS, SERVICE
+from osb import Id
+
+SERVICE = Id.of("00000000-0000-0000-0000-0000000000a0")
+PLANS = tuple(Id.of(f"00000000-0000-0000-0000-0000000000b{digit}") for digit in range(1, 5))
 
 # The name of each plan, and whether its instances and its bindings are created after the answer.
 _PLANS = (
@@ -15,7 +18,7 @@ _PLANS = (
 
 
 def document() -> bytes:
-    """The catalogue. Both programs get it: so a platform that is killed after some seconds has sent something."""
+    """The catalogue of the broker, which the platform asks for."""
     plans = [
         {
             "id": str(id),

@@ -1,4 +1,4 @@
-"""A PostgreSQL server of a storm's own, which is killed and started again."""
+"""A PostgreSQL server of a storm's own, which is killed and started again, and paused."""
 from __future__ import annotations
 
 import contextlib
@@ -13,7 +13,7 @@ import time
 from pathlib import Path
 from typing import Any, Iterator
 
-from storm.resources import execute
+from storm.tables import execute
 
 INSTALL = "apt-get install postgresql"
 
@@ -42,6 +42,8 @@ class Cluster:
         self._back = float("inf")  # when it answered again
         self.kills = 0
         """How often it was killed."""
+        self.pauses = 0
+        """How often it was paused."""
 
     def url(self, database: str) -> str:
         """The URL of a database, as a superuser. The password is in PGPASSWORD."""
@@ -85,6 +87,26 @@ class Cluster:
         self._process.send_signal((signal.SIGKILL, signal.SIGQUIT)[self.kills % 2])
         self._process.wait()
         self.kills += 1
+
+    def pause(self, seconds: float) -> None:
+        """Stops all processes of the server for so long. Its sessions go on after that."""
+        assert self._process is not None
+        self._back = float("inf")
+        stopped = []
+        try:
+            os.kill(self._process.pid, signal.SIGSTOP)  # from now on it starts no others
+            stopped.append(self._process.pid)
+            for pid in _children(self._process.pid):
+                with contextlib.suppress(ProcessLookupError):
+                    os.kill(pid, signal.SIGSTOP)
+                    stopped.append(pid)
+            time.sleep(seconds)
+        finally:
+            for pid in stopped:  # one that was killed while it was stopped ends once others go on
+                with contextlib.suppress(ProcessLookupError):
+                    os.kill(pid, signal.SIGCONT)
+        self._back = time.monotonic()
+        self.pauses += 1
 
     def is_down(self) -> bool:
         """Whether it doesn't run."""
@@ -131,6 +153,11 @@ def cluster(log: Path) -> Iterator[Cluster]:
             yield server
         finally:
             server.end()
+
+
+def _children(parent: int) -> list[int]:
+    """The processes that a process has started."""
+    return [int(it) for it in Path(f"/proc/{parent}/task/{parent}/children").read_text(encoding="ascii").split()]
 
 
 def _free_port() -> int:

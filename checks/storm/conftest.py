@@ -1,4 +1,4 @@
-"""Go, which builds the broker that a storm runs."""
+"""Go, which builds the programs that a storm runs."""
 from __future__ import annotations
 
 from pathlib import Path
@@ -9,7 +9,7 @@ from go.toolchain import NEEDS, SOURCES, TOOLS, Packages, needs
 
 @pytest.fixture(scope="session")
 def packages(library: Path, tmp_path_factory: pytest.TempPathFactory) -> Packages:
-    """Commands of Go over the packages in go/. What the broker is built with has to be installed."""
+    """Commands of Go over the packages in go/. What the programs are built with has to be installed."""
     needs(TOOLS)
     for name, package in NEEDS.items():
         if not (SOURCES / "src" / name).is_dir():

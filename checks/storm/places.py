@@ -7,24 +7,19 @@ from argparse import Namespace
 from pathlib import Path
 from typing import Callable, Iterator, NamedTuple
 
-from osb_platform.instances import Instances
-from osb_platform.pg_database import PgDatabase
-from osb_platform.sqlite_database import SqliteDatabase
-from storm.bindings import Bindings
+from storm import held, records
 from storm.cluster import Cluster, cluster
-from storm.held import Held, in_postgresql, in_sqlite
-from storm.operator import KEY
-from storm.resources import Databases, Folders, Resources, execute
+from storm.resources import Databases, Folders, Resources
+from storm.surroundings import KEY
+from storm.tables import execute
 
 
 class Places(NamedTuple):
     """Where everything is, as the check sees it and as the programs are started."""
 
-    instances: Instances
-    """The platform's records."""
-    bindings: Bindings
-    """The records of the storm's own client of bindings."""
-    held: Callable[[], Held]
+    records: Callable[[], records.Records]
+    """All rows of osb-platform's store."""
+    held: Callable[[], held.Held]
     """All rows of the broker's store."""
     resources: Resources
     together: Callable[[], list[str]]
@@ -34,26 +29,31 @@ class Places(NamedTuple):
     server: Cluster | None
     """PostgreSQL, if it is to be killed."""
     broker_words: list[str]
-    platform_words: list[str]
+    store: str
+    """What --store says to osb-platform."""
 
 
 @contextlib.contextmanager
 def places(folder: Path, asked: Namespace) -> Iterator[Places]:
     """New ones, with nothing in them, as the arguments say."""
-    store, backend = asked.store, asked.backend
     with contextlib.ExitStack() as stack:
         server = stack.enter_context(cluster(folder / "postgresql.log")) if asked.kill_database else None
-        url = stack.enter_context(_database(server)) if "postgresql" in (store, backend) else ""
+        url = stack.enter_context(_database(server)) if "postgresql" in (asked.store, asked.backend) else ""
         state = folder / "broker"
         state.mkdir()
-        instances, words, platform = _records(folder, url if store == "postgresql" else "")
-        bindings = stack.enter_context(contextlib.closing(Bindings(folder / "bindings.sqlite")))
+        words = ["--state", str(state)]
         resources: Resources = Folders(state / "instances")
-        if backend == "postgresql":
+        if asked.backend == "postgresql":
             resources, words = Databases(url, KEY), [*words, "--backend", _named(url)]
+        store = str(folder / "instances.sqlite")
+        if asked.store == "postgresql":
+            words, store = [*words, "--store", _named(url)], _named(url)
 
-        def held() -> Held:
-            return in_postgresql(url) if store == "postgresql" else in_sqlite(state / "holdings.sqlite")
+        def recorded() -> records.Records:
+            return records.in_postgresql(url) if asked.store == "postgresql" else records.in_sqlite(Path(store))
+
+        def holds() -> held.Held:
+            return held.in_postgresql(url) if asked.store == "postgresql" else held.in_sqlite(state / "holdings.sqlite")
 
         def together() -> list[str]:
             file = state / "together"
@@ -63,17 +63,11 @@ def places(folder: Path, asked: Namespace) -> Iterator[Places]:
             if url:
                 execute(url, _DISTURB)
 
-        words = ["--state", str(state), *words]
-        try:
-            yield Places(instances, bindings, held, resources, together, disturb, server, words, platform)
-        finally:
-            resources.clear({id for id, _ in instances.states()})
+        yield Places(recorded, holds, resources, together, disturb, server, words, store)
 
 
 def _named(url: str) -> str:
-    """The URL for the broker, whose sessions then have the name by which `_DISTURB` finds them. Those of the platform
-    have it by PGAPPNAME.
-    """
+    """The URL for the programs, whose sessions then have the name by which `_DISTURB` finds them."""
     return f"{url}{'&' if '?' in url else '?'}application_name=storm"
 
 
@@ -81,14 +75,6 @@ _DISTURB = (
     "SELECT pg_terminate_backend(pid) FROM pg_stat_activity WHERE application_name = 'storm' "
     "AND datname = current_database() ORDER BY state = 'idle', random() LIMIT 1"  # a busy one, if there is one
 )
-
-
-def _records(folder: Path, url: str) -> tuple[Instances, list[str], list[str]]:
-    """The platform's records, and the arguments by which the broker and the platform find where they keep theirs."""
-    if url:
-        return Instances(PgDatabase(url, 2)), ["--store", _named(url)], ["--store", url]
-    file = folder / "instances.sqlite"
-    return Instances(SqliteDatabase(file)), [], ["--store", str(file)]
 
 
 @contextlib.contextmanager

@@ -1,4 +1,4 @@
-"""The broker's crash points. `test_points.py` compares them with the sources of `go/broker` and `go/backend`."""
+"""The crash points of both programs. `test_points.py` compares them with the sources in `go/`."""
 from __future__ import annotations
 
 POINTS = (
@@ -20,4 +20,21 @@ POINTS = (
     "wait-next",  # a creation has waited too long for its first Poll, and that isn't written yet
     "wait-written",  # it is committed
 )
-OF_BINDINGS = ("binding-half",)
+"""Those of the broker."""
+
+ORDER_POINTS = ("order-next", "order-written")
+"""Those of the platform's commands."""
+
+WORKER_POINTS = (
+    "claim-next",  # it is decided on a row that is due, and nothing is committed yet
+    "claim-written",  # it is committed, and the request isn't sent yet
+    "send-next",  # the request is about to be sent
+    "send-running",  # some milliseconds later
+    "fetch-next",  # a Poll was answered succeeded, and the Fetch isn't sent yet
+    "take-next",  # an answer, or a timeout, is in the record, and nothing is committed yet
+    "take-written",  # it is committed
+)
+"""Those of the platform's workers."""
+
+OF_BINDINGS = ("binding-half", "fetch-next")
+"""Those that no process comes to if there are no bindings."""

@@ -1,7 +1,6 @@
-"""Broker and platform as processes, which are started, killed and started again. None but these is ever ended."""
+"""Broker and platform as processes, which are started, killed and paused. None but these is ever ended."""
 from __future__ import annotations
 
-import os
 import re
 import signal
 import subprocess
@@ -11,11 +10,14 @@ from pathlib import Path
 from random import Random
 from typing import NamedTuple, Sequence
 
-# A line of the platform's log, which reports the traceback right after it.
-_LOGGED = re.compile(r"\d{4}-\d\d-\d\d [\d:,]+ [A-Z]+ ")
-_TRACEBACK = "Traceback (most recent call last):"
-# What the broker says of a panic, also of one that it has made an error of, in a line of JSON.
-_PANIC = re.compile(r'panic: |fatal error: |WARNING: DATA RACE|\{.*"error":".*\bpanic: ')
+# What a program logs of an error that nothing has caught. A panic may be the error in a line of JSON. The step of a row
+# fails only if nothing can be decided.
+_CRY = re.compile(
+    r'panic: |fatal error: |WARNING: DATA RACE|Traceback |\{.*"error":".*\bpanic: |\{.*"event":"step_failed"'
+)
+_PAUSED = 0.1  # the share of the lives of a program in which it is paused
+_LONGEST = 8.0  # seconds in which it may come to the point at which it is to be killed
+_FIRST_PAUSED = 3  # so each program is paused in a short storm too
 
 
 class Program(NamedTuple):
@@ -28,16 +30,28 @@ class Program(NamedTuple):
 
 
 class Killed:
-    """A program that is killed again and again: at each of its crash points, and in between at random."""
+    """A program that is killed again and again: at each of its crash points, and in between at random. Now and then
+    it is paused before.
+    """
 
-    def __init__(self, program: Program, points: Sequence[str], chance: Random, refusals: Sequence[int]) -> None:
-        """`refusals`: statuses with which it may end by itself, if its store goes away while it starts."""
-        self._program, self._chance = program, chance
+    def __init__(
+        self,
+        program: Program,
+        points: Sequence[str],
+        chance: Random,
+        refusals: Sequence[int],
+        pause: tuple[float, float],
+    ) -> None:
+        """`refusals`: statuses with which it may end by itself, if its store goes away while it starts. `pause`: how
+        many seconds a pause has at least, and at most.
+        """
+        self._program, self._chance, self._pause_seconds = program, chance, pause
         self._usual = [-9, *refusals]
         self._open = list(points)
         self.hit: list[str] = []
         self._tried = ""  # the point at which it is to be killed now, where that hasn't come about
         self.kills = 0
+        self.pauses = 0
         self.ends = 0
         """How often it has ended by itself, with one of `refusals`."""
         self._odd: list[str] = []
@@ -90,10 +104,16 @@ class Killed:
         return sorted(it for it in (*self._open, self._tried) if it)
 
     def _run(self) -> None:
+        lives = 0
         while not self._stop.is_set():
-            point = self._tried = self._open.pop(0) if self._open and self._chance.random() < 0.8 else ""
+            lives += 1
+            is_paused = lives == _FIRST_PAUSED or self._chance.random() < _PAUSED
+            has_point = not is_paused and self._open and self._chance.random() < 0.8
+            point = self._tried = self._open.pop(0) if has_point else ""
             self._start(point)
-            is_hit = self._dies(4.0 if point else self._chance.uniform(0.8, 4.0)) and point != ""
+            is_hit = self._dies(_LONGEST if point else self._chance.uniform(0.8, 4.0)) and point != ""
+            if is_paused:
+                self._pause()
             if is_hit:
                 self.hit.append(point)
                 self.kills += 1
@@ -117,6 +137,17 @@ class Killed:
                 continue
         return False
 
+    def _pause(self) -> None:
+        """Pauses it, if it lives. After that it lives for a while."""
+        process = self._process
+        if process is None or process.poll() is not None:
+            return
+        process.send_signal(signal.SIGSTOP)
+        self._stop.wait(self._chance.uniform(*self._pause_seconds))
+        process.send_signal(signal.SIGCONT)
+        self.pauses += 1
+        self._dies(self._chance.uniform(0.5, 2.0))
+
     def _start(self, point: str) -> None:
         with open(self._program.log, "ab") as log:
             self._process = subprocess.Popen(
@@ -129,7 +160,7 @@ class Killed:
 
     def _kill(self) -> None:
         if self._process is not None and self._process.poll() is None:
-            os.kill(self._process.pid, signal.SIGKILL)
+            self._process.kill()
             self._process.wait()
             self.kills += 1
 
@@ -139,14 +170,5 @@ class Killed:
 
 
 def cries(log: str) -> list[str]:
-    """What the errors were that nothing has caught. In Python their tracebacks follow no line of the log, and those of
-    the errors that they came of are separated from them by an empty line. In Go they are panics.
-    """
-    found, before, lines = [], "-", log.split("\n")
-    for at, line in enumerate(lines):
-        if line == _TRACEBACK and before and not _LOGGED.match(before):
-            found.append(next((it for it in lines[at + 1 :] if it and not it.startswith(" ")), "a traceback"))
-        if _PANIC.match(line):
-            found.append(line[:1000])
-        before = line
-    return found
+    """The lines of a log that report an error which nothing has caught."""
+    return [line[:1000] for line in log.split("\n") if _CRY.match(line)]

@@ -79,7 +79,7 @@ class _Connection(socketserver.BaseRequestHandler):
         with contextlib.suppress(OSError), self.server.carrying():
             request = _read(self.request)
             if request is not None:
-                self._carry(request)
+                self._carry(_alone(request))
 
     def _carry(self, request: bytes) -> None:
         method, target = request.split(b" ", 2)[:2]
@@ -152,6 +152,12 @@ def _read(connection: Any) -> bytes | None:
             return None
         data, body = data + more, body + more
     return data
+
+
+def _alone(request: bytes) -> bytes:
+    """The request with a header by which the broker ends the connection behind its answer."""
+    line, gap, rest = request.partition(b"\r\n")
+    return line + gap + b"Connection: close\r\n" + rest
 
 
 def _wait_for_end(connection: Any) -> None:

@@ -2,16 +2,16 @@
 from __future__ import annotations
 
 import contextlib
-import logging
 import socket
 import tempfile
 from argparse import Namespace
 from pathlib import Path
-from typing import Iterator, NamedTuple
+from typing import NamedTuple
 
-from storm.build import broker
 from storm.gateway import haproxy
+from storm.instance_audit import is_at_rest
 from storm.places import places
+from storm.programs import Killed
 from storm.starts import Starts
 from storm.storm import Storm
 
@@ -37,30 +37,15 @@ def run(asked: Namespace) -> Report:
 def _run_in(folder: Path, asked: Namespace) -> Report:
     ports = _free_ports(asked.brokers + 1)
     entrance = ports.pop()
-    program = broker(folder)
     with places(folder, asked) as at, contextlib.ExitStack() as stack:
-        stack.enter_context(_logged(folder / "bindings.log"))
+        starts = Starts(asked, folder, at)
         if asked.haproxy:
             stack.enter_context(haproxy(folder, entrance, ports))
-        storm = Storm(asked, at, Starts(asked, folder, at, program), ports, [entrance] if asked.haproxy else ports)
+        storm = Storm(asked, at, starts, ports, [entrance] if asked.haproxy else ports)
+        stack.callback(lambda: at.resources.clear(set(storm.orders.records().instances)))
         storm.run()
         report = _report(storm)
     return report
-
-
-@contextlib.contextmanager
-def _logged(file: Path) -> Iterator[None]:
-    """What the client of bindings logs is written to a file: with the faults it is much."""
-    log, handler = logging.getLogger("osb.client"), logging.FileHandler(file, encoding="utf-8")
-    handler.setFormatter(logging.Formatter("%(asctime)s %(message)s"))
-    before, log.propagate = log.propagate, False
-    log.addHandler(handler)
-    try:
-        yield
-    finally:
-        log.removeHandler(handler)
-        log.propagate = before
-        handler.close()
 
 
 def _report(storm: Storm) -> Report:
@@ -76,17 +61,22 @@ def _report(storm: Storm) -> Report:
 
 
 def _counts(storm: Storm, counted: list[str]) -> list[str]:
-    audit, operator, binder = storm.audit, storm.operator, storm.binder
+    audit, operator, unruly = storm.audit, storm.operator, storm.unruly
     converged = f"converged after {storm.converged_in:.1f} s" if storm.converged_in >= 0.0 else "not converged"
     looks = ", ".join(f"{audit.looks[it]} {it}" for it in ("ready", "gone", "binding ready", "binding gone"))
+    given = len(storm.credentials.given) if storm.credentials else 0
     lines = [
-        f"{len(operator.orders) + len(storm.orders_hit)} orders, {len(operator.removed)} removals, "
-        f"{binder.created} bindings, {len(binder.removed)} removals of a binding, "
-        f"{sum(it.kills for it in storm.brokers)} kills of brokers, {storm.platform.kills} of the platform, "
-        f"{storm.server_kills()} of PostgreSQL; {sum(it.ends for it in storm.brokers)} brokers and "
-        f"{storm.platform.ends} platforms have ended by themselves",
+        f"{len(operator.orders)} orders, {len(operator.bindings)} bindings, {len(operator.removed)} removals, "
+        f"{operator.retried} retries, {len(operator.abandoned)} abandoned, credentials of {given} bindings were tried"
+        + (f", {len(unruly.bound)} bindings of the unruly client" if unruly else ""),
+        f"kills: {_sum(storm.brokers, 'kills')} of brokers, {_sum(storm.workers, 'kills')} of workers, "
+        f"{storm.command_kills()} of commands, {storm.server_kills()} of PostgreSQL; pauses: "
+        f"{_sum(storm.brokers, 'pauses')} of brokers, {_sum(storm.workers, 'pauses')} of workers, "
+        f"{storm.server_pauses()} of PostgreSQL; {_sum(storm.brokers, 'ends')} brokers and "
+        f"{_sum(storm.workers, 'ends')} workers have ended by themselves",
         "requests: " + ", ".join(f"{count} {kind}" for kind, count in sorted(storm.faults.counts.items())),
         f"compared during the storm: {looks}; {converged}",
+        _verdict(storm, counted),
     ]
     if storm.asked.kill_database:
         outage = ", ".join(f"{count} {status}" for status, count in sorted(storm.proxy.outage.items()))
@@ -94,13 +84,23 @@ def _counts(storm: Storm, counted: list[str]) -> list[str]:
     if storm.asked.without is not None:
         lines += [f"false during the storm: {key}: {what}" for key, what in sorted(audit.wrong.items())[:20]]
         lines += [f"wrong at the end: {line}" for line in counted]
-        resources, credentials = audit.orphans()
-        lines.append(
-            f"{resources} resources and {credentials} credentials without a record at the end, "
-            f"{len(audit.wrong)} false records during the storm, "
-            f"{len(storm.at.together())} times two workers at one key"
-        )
     return lines
+
+
+def _verdict(storm: Storm, counted: list[str]) -> str:
+    """What counts, in one line: all of it is 0 if nothing is wrong."""
+    resources, credentials = storm.audit.orphans()
+    rows = storm.orders.records()
+    stuck = [it for it in (*rows.instances.values(), *rows.bindings.values()) if not is_at_rest(it)]
+    return (
+        f"{resources} resources and {credentials} credentials without a record at the end, {len(storm.audit.wrong)} "
+        f"false records during the storm, {len(counted)} kinds of disagreement at the end, {len(stuck)} records that "
+        f"haven't converged, {len(storm.at.together())} times two workers at one key"
+    )
+
+
+def _sum(programs: list[Killed], what: str) -> int:
+    return sum(getattr(it, what) for it in programs)
 
 
 def _ends(storm: Storm) -> list[str]:

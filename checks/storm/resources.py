@@ -12,11 +12,9 @@ import uuid
 from pathlib import Path
 from typing import Any, NamedTuple, Protocol
 
-from osb import Id
-from osb_platform.instances import Instance
-from osb_program import pg
-from storm.bindings import Binding
 from storm.held import Pair
+from storm.records import Row
+from storm.tables import execute, opened
 
 
 class There(NamedTuple):
@@ -41,12 +39,12 @@ class Resources(Protocol):
         """What exists now."""
         ...
 
-    def is_usable(self, row: Instance) -> bool:
+    def is_usable(self, row: Row) -> bool:
         """Whether the resource of a ready instance can be used, and is what was ordered."""
         ...
 
-    def works(self, row: Binding) -> bool:
-        """Whether the credentials that are recorded of a ready binding give access."""
+    def works(self, row: Row, given: Any) -> bool:
+        """Whether these credentials of a binding give access."""
         ...
 
     def clear(self, ids: set[str]) -> None:
@@ -68,19 +66,18 @@ class Folders:
         credentials = {pair: found for pair in pairs if (found := self._credentials(pair)) is not None}
         return There(whole, some, pairs, {_pair(name) for name in some_bound}, credentials)
 
-    def is_usable(self, row: Instance) -> bool:
+    def is_usable(self, row: Row) -> bool:
         """As `Resources` says: the label of the folder says what was ordered."""
-        folder = self._top / str(row.id)
-        wanted = {"instance": str(row.id), "plan": str(row.plan), "service": str(row.service)}
+        folder = self._top / row.instance
+        wanted = {"instance": row.instance, "plan": str(row.plan), "service": str(row.service)}
         with contextlib.suppress(OSError, ValueError):
             return bool(json.loads(_label(folder)) == wanted)
         return False
 
-    def works(self, row: Binding) -> bool:
+    def works(self, row: Row, given: Any) -> bool:
         """As `Resources` says: the file of the binding has the token, which is for its folder."""
-        given = credentials_of(row)
-        folder = str(self._top.absolute() / str(row.instance))
-        return given is not None and given == self._credentials(row.pair) and given.get("folder") == folder
+        folder = str(self._top.absolute() / row.instance)
+        return isinstance(given, dict) and given == self._credentials(row.pair) and given.get("folder") == folder
 
     def clear(self, ids: set[str]) -> None:
         """Nothing: the storm's folder ends with it."""
@@ -108,11 +105,6 @@ def _label(folder: Path) -> bytes:
     with contextlib.suppress(OSError):
         return os.getxattr(folder, "user.osb")
     return (folder / "instance.json").read_bytes()
-
-
-def credentials_of(row: Binding) -> Any:
-    """The credentials that are recorded of a binding, or None."""
-    return None if row.object is None else json.loads(row.object).get("credentials")
 
 
 _EXIST = """
@@ -149,15 +141,14 @@ class Databases:
         named = [(_ids(name), bool(is_whole)) for name, is_whole in execute(self._url, _EXIST)]
         return [(ids, is_whole) for ids, is_whole in named if ids is not None]
 
-    def is_usable(self, row: Instance) -> bool:
+    def is_usable(self, row: Row) -> bool:
         """As `Resources` says: the database lets its role in, and takes a table of it."""
-        name = _name(str(row.id))
-        return _takes(self._url, dbname=name, user=name, password=_password(self._key, row.id))
+        name = _name(row.instance)
+        return _takes(self._url, dbname=name, user=name, password=_password(self._key, row.instance))
 
-    def works(self, row: Binding) -> bool:
+    def works(self, row: Row, given: Any) -> bool:
         """As `Resources` says: the binding's user can log in, and make a table."""
-        given = credentials_of(row)
-        if not isinstance(given, dict) or given.get("database") != _name(str(row.instance)):
+        if not isinstance(given, dict) or given.get("database") != _name(row.instance):
             return False
         return _takes(
             self._url,
@@ -203,27 +194,29 @@ def _ids(name: str) -> Pair | None:
     return str(uuid.UUID(instance)), "" if binding is None else str(uuid.UUID(int=int(binding, 32) >> 2))
 
 
-def _password(key: bytes, id: Id) -> str:
+def _password(key: bytes, id: str) -> str:
     """The password of the instance's role."""
     made = hmac.new(key, f"password of {id}".encode(), hashlib.sha256).digest()
     return base64.urlsafe_b64encode(made).decode().rstrip("=")
 
 
+_REJECTED = re.compile(
+    r'FATAL:  (password authentication failed for user|role ".*" (does not exist|is not permitted to log in)|'
+    r'database ".*" (does not exist|is not currently accepting connections)|permission denied for database)'
+)
+
+
 def _takes(url: str, **parts: Any) -> bool:
-    """Whether a session that is opened so may make a table."""
+    """Whether a session that is opened so may make a table. Raises psycopg2.Error if the server is away."""
     import psycopg2  # if PostgreSQL is used, it is installed
 
     try:
-        opened: Any = psycopg2.connect(url, **parts)
-        with contextlib.closing(opened) as session, session.cursor() as cursor:
+        with contextlib.closing(opened(url, **parts)) as session, session.cursor() as cursor:
             cursor.execute("CREATE TEMPORARY TABLE x (y integer)")
         return True
-    except psycopg2.Error:
+    except psycopg2.errors.InsufficientPrivilege:
         return False
-
-
-def execute(url: str, statement: str) -> list[tuple[Any, ...]]:
-    """Runs a statement in a session of its own, and returns its rows."""
-    with contextlib.closing(pg.Sessions(url, 1).opened()) as session, session.cursor() as cursor:
-        cursor.execute(statement)
-        return [] if cursor.description is None else list(cursor.fetchall())
+    except psycopg2.OperationalError as error:
+        if _REJECTED.search(str(error)):
+            return False
+        raise

@@ -1,11 +1,10 @@
 """What is recorded, held and there, as far as it can be seen at once."""
 from __future__ import annotations
 
-from typing import Callable, NamedTuple
+from typing import Any, Callable, Mapping, NamedTuple
 
-from osb_platform.instances import Instance, Instances
-from storm.bindings import Binding, Bindings
 from storm.held import Held, Pair
+from storm.records import Records
 from storm.resources import There
 
 
@@ -16,35 +15,38 @@ class Sight(NamedTuple):
     nothing exists again once it was deleted.
     """
 
-    instances: dict[str, Instance]
-    bindings: dict[Pair, Binding]
+    records: Records
     before: There
     """What existed before the rows of the broker were read."""
     held: Held
     """The rows of the broker, all of one moment."""
     there: There
     """What existed after that."""
-    binding_states: dict[Pair, str]
-    states: dict[str, str]
-    """The state of each record at the end."""
+    after: Records
+    """The records at the end."""
+    given: Mapping[Pair, Any]
+    """The objects of bindings that osb-platform has printed, with the credentials."""
+    foreign: frozenset[Pair]
+    """The bindings that somebody else than the platform has created."""
 
 
 class Place(NamedTuple):
     """Where to look."""
 
-    instances: Instances
-    bindings: Bindings
+    records: Callable[[], Records]
     held: Callable[[], Held]
     there: Callable[[], There]
+    given: Mapping[Pair, Any]
+    foreign: set[Pair]
 
     def look(self) -> Sight:
         """Looks at everything, in the order of `Sight`."""
         return Sight(
-            {str(row.id): row for row in self.instances.rows()},
-            {row.pair: row for row in self.bindings.rows()},
+            self.records(),
             self.there(),
             self.held(),
             self.there(),
-            self.bindings.states(),
-            dict(self.instances.states()),
+            self.records(),
+            dict(self.given),
+            frozenset(self.foreign),
         )

@@ -1,12 +1,20 @@
-"""A server of a storm's own is killed, is away then, and still has what it had committed."""
+"""A server of a storm's own is killed, is away then, and still has what it had committed. It is paused, and goes on."""
 from __future__ import annotations
 
+import threading
 from pathlib import Path
 
 import pytest
-from osb_program import pg
-from storm.cluster import INSTALL, cluster, programs
-from storm.resources import execute
+from storm.cluster import INSTALL, Cluster, _children, cluster, programs
+from storm.tables import execute, is_error
+from waiting import until
+
+
+def states(server: Cluster) -> set[str]:
+    """The states of the server's processes, as /proc has them."""
+    assert server._process is not None
+    pid = server._process.pid
+    return {Path(f"/proc/{it}/stat").read_text().rpartition(") ")[2][0] for it in (pid, *_children(pid))}
 
 
 @pytest.mark.slow
@@ -23,10 +31,18 @@ def test_kills(tmp_path: Path) -> None:
             assert (server.kills, server.is_away()) == (kills, True)
             with pytest.raises(Exception) as raised:
                 execute(url, "SELECT 1")
-            assert pg.is_error(raised.value)
+            assert is_error(raised.value)
             server.start()
             assert execute(url, "SELECT count(*), max(number) FROM kept") == [(kills, kills)]
+        thread = threading.Thread(target=server.pause, args=[3.0])
+        thread.start()
+        until(lambda: states(server) == {"T"})
+        assert server.is_away()
+        thread.join()
+        assert "T" not in states(server)
+        assert (server.pauses, server.is_down()) == (1, False)
+        assert execute(url, "SELECT count(*) FROM kept") == [(2,)]
         assert execute(url, "SHOW fsync") == execute(url, "SHOW synchronous_commit") == [("on",)]
     with pytest.raises(Exception) as raised:
         execute(url, "SELECT 1")
-    assert pg.is_error(raised.value)
+    assert is_error(raised.value)

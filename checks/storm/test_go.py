@@ -1,4 +1,4 @@
-"""What the storm puts into the broker, in Go: go vet, and its tests."""
+"""What the storm puts into both programs, in Go: go vet, and its tests."""
 from __future__ import annotations
 
 import pytest
@@ -11,7 +11,7 @@ TAGS = ("-tags", "libsqlite3 storm")
 
 @pytest.mark.parametrize("tags", ["libsqlite3 storm", "libsqlite3 crashpoints storm"])
 def test_vet(packages: Packages, tags: str) -> None:
-    assert packages("vet", "-tags", tags, "./storm", "./broker", "./cmd/osb-broker") == ""
+    assert packages("vet", "-tags", tags, "./storm", "./broker", "./cmd/osb-broker", "./cmd/osb-platform") == ""
 
 
 def test_tests(packages: Packages) -> None:
@@ -19,5 +19,6 @@ def test_tests(packages: Packages) -> None:
 
 
 def test_hook(packages: Packages) -> None:
-    """The one place in the package broker."""
+    """The one place in the package broker, and that in the platform's program."""
     packages("test", "-race", "-count=1", *TAGS, "-run", "TestBindWithoutAvailable", "./broker")
+    packages("test", "-race", "-count=1", *TAGS, "-run", "TestForStorm", "./cmd/osb-platform")

@@ -3,21 +3,17 @@ from __future__ import annotations
 
 import json
 import uuid
-from dataclasses import replace
 from pathlib import Path
+from urllib.parse import urlsplit
 
 import pytest
-from osb import Answer, Body, Id, Record
-from storm.bindings import Binding
-from storm.operator import PLANS, SERVICE
-from storm.resources import Folders, _digits, _ids, _name
+from osb import Id
+from storm.catalogue import PLANS, SERVICE
+from storm.records import Row
+from storm.resources import Databases, Folders, _digits, _ids, _name
+from storm.tables import execute, is_error
 
 ONE, TWO, BOUND = Id(0, 1), Id(0, 2), Id(0, 3)
-
-
-def ready(object: str) -> Binding:
-    record, _ = Record.create(BOUND, SERVICE, PLANS[0], True)
-    return Binding(ONE, BOUND, record.answer(1, Answer(201, Body.EMPTY)), object)
 
 
 def test_no_folders(tmp_path: Path) -> None:
@@ -38,20 +34,46 @@ def test_folders(tmp_path: Path) -> None:
     assert there.credentials == {whole: {"token": "t"}}
 
 
-@pytest.mark.usefixtures("library")
 def test_credentials_of_folders(tmp_path: Path) -> None:
     given = {"folder": str(tmp_path / str(ONE)), "token": "t"}
-    row, folders = ready(json.dumps({"credentials": given})), Folders(tmp_path)
-    assert not folders.works(row)
+    row, folders = Row(str(ONE), str(BOUND), SERVICE, PLANS[0], "ready"), Folders(tmp_path)
+    assert not folders.works(row, given)
     (tmp_path / ".bindings").mkdir()
     file = tmp_path / ".bindings" / f"{ONE}-{BOUND}"
     file.write_text(json.dumps(given))
-    assert folders.works(row)
-    assert not folders.works(replace(row, object='{"credentials": {"token": "t"}}'))
+    assert folders.works(row, given)
+    assert not folders.works(row, {"token": "t"})
+    assert not folders.works(row, None)
     file.write_text(json.dumps({**given, "token": "u"}))
-    assert not folders.works(row)
-    file.write_text(json.dumps({**given, "folder": "/"}))
-    assert not folders.works(replace(row, object=json.dumps({"credentials": {**given, "folder": "/"}})))
+    assert not folders.works(row, given)
+    elsewhere = {**given, "folder": "/"}
+    file.write_text(json.dumps(elsewhere))
+    assert not folders.works(row, elsewhere)
+
+
+@pytest.mark.slow
+@pytest.mark.postgres
+def test_credentials_of_databases(postgresql: str) -> None:
+    """They work while the role may log in. Of a server that is away nobody knows."""
+    row, databases = Row(str(ONE), str(BOUND), SERVICE, PLANS[0], "ready"), Databases(postgresql, b"key")
+    database, at = _name(str(ONE)), urlsplit(postgresql)
+    role = f"{database}_{_digits(str(BOUND))}"
+    given = {"host": at.hostname, "port": at.port, "database": database, "username": role, "password": "secret"}
+    assert not databases.works(row, given)
+    execute(postgresql, f"CREATE DATABASE {database}")
+    assert not databases.works(row, given)
+    execute(postgresql, f"CREATE ROLE {role} LOGIN PASSWORD 'secret'")
+    assert databases.works(row, given)
+    assert databases.look().bound == {row.pair}
+    assert not databases.works(row, {**given, "password": "other"})
+    assert not databases.works(row, {**given, "database": "postgres"})
+    with pytest.raises(Exception) as raised:
+        databases.works(row, {**given, "port": 1})
+    assert is_error(raised.value)
+    execute(postgresql, f"ALTER ROLE {role} NOLOGIN")
+    assert not databases.works(row, given)
+    databases.clear({str(ONE)})
+    assert databases.look() == (set(), set(), set(), set(), {})
 
 
 def test_names_of_roles() -> None:

@@ -290,13 +290,18 @@ func allowed(target string) string {
 	return http.MethodPut + ", " + http.MethodDelete
 }
 
-// failed answers 500, or 503 if there is no memory, and reports why.
+// failed answers 500, or 503 if the store or the locks are away or there is no memory, and reports why. The work may have
+// been done, so it is never a 4xx. Both statuses tell a platform that the outcome isn't known.
 func (h *Handler) failed(x *exchange, err error) reply {
 	h.report(x, "request_failed", err)
 	if !errors.Is(err, osb.ErrMemory) {
-		answer := osb.Answer{Status: http.StatusInternalServerError, Body: osb.BodyOtherError}
-		if body, err := h.written(wording{answer, failedHere}); err == nil {
-			return reply{http.StatusInternalServerError, body}
+		status, sentence := http.StatusInternalServerError, failedHere
+		if errors.Is(err, ErrAway) {
+			status, sentence = http.StatusServiceUnavailable, awayNow
+		}
+		answer := osb.Answer{Status: uint16(status), Body: osb.BodyOtherError}
+		if body, err := h.written(wording{answer, sentence}); err == nil {
+			return reply{status, body}
 		}
 	}
 	body, _ := osb.RefusalBody(osb.ErrMemory) // it takes none of the library's memory, and is a refusal

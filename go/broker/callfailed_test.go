@@ -3,6 +3,7 @@ package broker_test
 import (
 	"context"
 	"encoding/json"
+	"errors"
 	"net/http"
 	"net/http/httptest"
 	"path/filepath"
@@ -47,13 +48,18 @@ type watched struct {
 
 func newWatched(t *testing.T, backend broker.Backend) *watched {
 	t.Helper()
+	return newWatchedWith(t, backend, newMemoryLocks())
+}
+
+func newWatchedWith(t *testing.T, backend broker.Backend, locks broker.Locks) *watched {
+	t.Helper()
 	seen := &callObserver{calls: map[string]int{}}
 	store, err := sqlite.Open(context.Background(), filepath.Join(t.TempDir(), "store"), seen)
 	if err != nil {
 		t.Fatal(err)
 	}
 	t.Cleanup(func() { _ = store.Close() })
-	service := broker.NewService(catalogueFor(t, catalogue), store, backend, newMemoryLocks(), broker.Rules{}, seen)
+	service := broker.NewService(catalogueFor(t, catalogue), store, backend, locks, broker.Rules{}, seen)
 	return &watched{service, seen, handlerFor(t, service)}
 }
 
@@ -187,6 +193,56 @@ func TestNamesOfFailedCalls(t *testing.T) {
 			w.expect(t, want)
 		})
 	}
+}
+
+// brokenLocks are locks that fail.
+type brokenLocks struct {
+	*memoryLocks
+	isTaken bool // whether TryLock reports that somebody else has the lock, in place of an error
+}
+
+func (b brokenLocks) TryLock(context.Context, broker.Key) (broker.Lock, error) {
+	if b.isTaken {
+		return nil, nil
+	}
+	return nil, errScripted
+}
+
+func (b brokenLocks) Lock(context.Context, broker.Key) (broker.Lock, error) { return nil, errScripted }
+
+// A lock that fails is counted each time, of requests and of unfinished work. Nothing is done without it. A lock that
+// somebody else has isn't counted.
+func TestLocksThatFail(t *testing.T) {
+	for name, isTaken := range map[string]bool{"at once": false, "while a request waits": true} {
+		backend := newShelf(calm)
+		w := newWatchedWith(t, backend, brokenLocks{newMemoryLocks(), isTaken})
+		if status := w.ask("PUT", instances+"one", bodyOf(now, ""), "a"); status != http.StatusInternalServerError {
+			t.Errorf("%s: the Provision was answered %d", name, status)
+		}
+		w.expect(t, map[string]int{"lock": 1})
+		if there := backend.there(keyOf("one")); there != broker.None {
+			t.Errorf("%s: there is %v", name, there)
+		}
+	}
+	w := newWatchedWith(t, newShelf(calm), brokenLocks{newMemoryLocks(), false})
+	for round := 0; round < 2; round++ {
+		if err := w.TakeUp(context.Background(), keyOf("one")); !errors.Is(err, errScripted) {
+			t.Errorf("TakeUp returned %v", err)
+		}
+	}
+	w.expect(t, map[string]int{"lock": 2})
+
+	locks := newMemoryLocks()
+	w = newWatchedWith(t, newShelf(calm), locks)
+	taken, err := locks.TryLock(context.Background(), keyOf("one"))
+	if err != nil {
+		t.Fatal(err)
+	}
+	defer taken.Unlock()
+	if err := w.TakeUp(context.Background(), keyOf("one")); err != nil {
+		t.Errorf("TakeUp returned %v", err)
+	}
+	w.expect(t, map[string]int{})
 }
 
 // pathOf is the path of a key of the tests above.

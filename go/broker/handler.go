@@ -63,6 +63,21 @@ const slowBodies = 256
 // Stop has every request from now on answered with 503.
 func (h *Handler) Stop() { h.isStopping.Store(true) }
 
+// Wait waits until no request is carried out, and returns whether that came about within the time. Call Stop before.
+// Afterwards no request is carried out any more.
+func (h *Handler) Wait(within time.Duration) bool {
+	late := time.NewTimer(within)
+	defer late.Stop()
+	for taken := 0; taken < cap(h.slots); taken++ {
+		select {
+		case h.slots <- struct{}{}:
+		case <-late.C:
+			return false
+		}
+	}
+	return true
+}
+
 // An exchange is one request while it is being answered.
 type exchange struct {
 	Exchange
@@ -112,7 +127,7 @@ func (h *Handler) answer(x *exchange) reply {
 		return h.catalogue(x)
 	}
 	body, err := h.body(x.request)
-	if err != nil { // it was cut on its way, or came too slowly
+	if err != nil { // it was cut on its way, came too slowly, or has a malformed chunk
 		x.header.Set("Connection", "close")
 		return h.otherError(x, http.StatusRequestTimeout, cutBody)
 	}
@@ -129,6 +144,11 @@ const mostDiscarded = 32 << 20
 // body reads the body. Of one that is too long it returns one byte more than is allowed, which the library refuses. It
 // reads the rest too, so that a platform that sends all of the body before it reads gets the answer: the connection
 // would be closed otherwise while the platform still sends.
+//
+// After an error the answer is 408, also if a chunk is malformed, though 400 would be usual for that. A platform takes a
+// 400 as the broker's decision about the request, and doesn't clean up. But chunks are of one connection (RFC 9112,
+// section 7): a proxy chunks the same request anew, so another copy of it may be carried out. This project's platform
+// takes a 408 for no answer, and cleans up. Besides, net/http reports a trailer that was cut as a malformed one.
 func (h *Handler) body(r *http.Request) ([]byte, error) {
 	if r.ContentLength == 0 {
 		return nil, nil

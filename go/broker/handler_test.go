@@ -394,6 +394,37 @@ func TestAtOnce(t *testing.T) {
 	}
 }
 
+// Wait returns once what is carried out has ended, or its time is over.
+func TestWait(t *testing.T) {
+	one := waiting{begun: make(chan broker.Request, 1), release: make(chan struct{})}
+	s := newSite(t, setting{atOnce: 3, over: func(s *shelf) broker.Backend { one.shelf = s; return one }})
+	made := make(chan int, 1)
+	go func() {
+		given, _ := s.ask("PUT", instances+"i", bodyOf(now, ""))
+		made <- given.StatusCode
+	}()
+	<-one.begun
+	s.Stop()
+	go func() {
+		time.Sleep(50 * time.Millisecond)
+		close(one.release)
+	}()
+	if !s.Wait(time.Minute) {
+		t.Error("a minute was too short")
+	}
+	select {
+	case <-one.release:
+	default:
+		t.Error("it hasn't waited")
+	}
+	if status := <-made; status != 201 {
+		t.Error(status)
+	}
+	if s.Wait(time.Millisecond) {
+		t.Error("something may still be carried out")
+	}
+}
+
 // refusing is a backend that refuses and fails.
 type refusing struct {
 	*shelf
@@ -556,6 +587,8 @@ func TestUsers(t *testing.T) {
 			t.Errorf("%q: %v", wrong, err)
 		}
 	}
+	s.Users = &broker.Users{}
+	s.expect(t, 401, "GET", "/v2/catalog", "")
 }
 
 // What a log is told of a request.

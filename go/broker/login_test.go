@@ -107,3 +107,34 @@ func TestWhatALoginIsTold(t *testing.T) {
 		t.Error(wrong, user)
 	}
 }
+
+// Users that are replaced may not log in any more, and their successors may. What can't be replaced stays.
+func TestUsersAreReplaced(t *testing.T) {
+	s := newSite(t, setting{users: map[string][]string{"u": {"p"}, "v": {"w"}}})
+	expect := func(when string, want map[string]int) {
+		t.Helper()
+		for login, status := range want {
+			user, password, _ := strings.Cut(login, ":")
+			given, _ := s.ask("GET", "/v2/catalog", "", func(r *http.Request) { r.SetBasicAuth(user, password) })
+			if given.StatusCode != status {
+				t.Errorf("%s, %s is answered %d", when, login, given.StatusCode)
+			}
+		}
+	}
+	for _, it := range []struct {
+		when string
+		next map[string][]string
+		want map[string]int
+	}{
+		{"with a second password", map[string][]string{"u": {"p", "new"}}, map[string]int{"u:p": 200, "u:new": 200, "v:w": 401}},
+		{"after an error", map[string][]string{"u": {"other"}, "": {"w"}},
+			map[string]int{"u:p": 200, "u:new": 200, "u:other": 401}},
+		{"with nobody", nil, map[string]int{"u:p": 200}},
+		{"with the new password", map[string][]string{"u": {"new"}}, map[string]int{"u:p": 401, "u:new": 200}},
+	} {
+		if err := s.Users.Replace(it.next); (err != nil) != (it.next == nil || it.next[""] != nil) {
+			t.Errorf("%s: %v", it.when, err)
+		}
+		expect(it.when, it.want)
+	}
+}

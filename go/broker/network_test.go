@@ -320,10 +320,14 @@ func (w *world) settle() {
 	}
 }
 
+// enough is how many seeds reach every point.
+const enough = 150
+
 func TestAnyNetwork(t *testing.T) {
 	seen, walks := &seen{kills: map[string]int{}}, walksTo(t)
 	settled := map[osb.State]int{}
-	for seed := int64(0); seed < seedsOr(150); seed++ {
+	count := seedsOr(enough)
+	for seed := int64(0); seed < count; seed++ {
 		w := newWorld(t, seed, inFolder(t.TempDir()), seen, walks)
 		w.run()
 		for _, it := range w.all() {
@@ -333,7 +337,7 @@ func TestAnyNetwork(t *testing.T) {
 	}
 	t.Logf("settled: %v; %v", settled, seen)
 	for _, point := range points {
-		if seen.kills[point] == 0 {
+		if seen.kills[point] == 0 && count >= enough {
 			t.Errorf("never killed at %s", point)
 		}
 	}

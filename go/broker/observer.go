@@ -9,9 +9,9 @@ type Observer interface {
 	Answered(Exchange)
 	// Failed is called if something went wrong that an operator has to know.
 	Failed(Failure)
-	// CallFailed is called after each call of the backend that fails, also if the same call is repeated. The name is
-	// look, create, delete, look-binding, create-binding, delete-binding or credentials, as for a command, or sync. A
-	// creation that the backend rejects hasn't failed.
+	// CallFailed is called after each call of the backend or of the Locks that fails, also if the same call is repeated.
+	// The name is look, create, delete, look-binding, create-binding, delete-binding or credentials, as for a command, or
+	// sync or lock. A creation that the backend rejects hasn't failed, nor has a lock that somebody else has.
 	CallFailed(call string)
 	// Committed is called after each commit of a store that writes several changes together, with their number.
 	Committed(changes int)

@@ -14,6 +14,7 @@ const (
 	cutBody     = "The body didn't arrive whole and in time. Send the request again."
 	predecessor = "The broker doesn't rotate bindings. Send the Bind without predecessor_binding_id."
 	failedHere  = "The broker failed. Its log has the reason, under the id of this request."
+	awayNow     = "The broker can't work now, and doesn't know what came of the request. Send it again later."
 	idTaken     = "The id is taken. Choose another id."
 	notByUs     = "The backend rejected the request."
 )

@@ -17,6 +17,7 @@ type Service struct {
 	catalogue *Catalogue
 	store     Store
 	locks     Locks
+	gate      *gate // of the locks
 	worker    worker
 	observer  Observer
 	rules     Rules
@@ -29,6 +30,9 @@ type Rules struct {
 	FirstPoll bool
 	// WaitForPoll is how long a creation waits for its first Poll before it has failed.
 	WaitForPoll time.Duration
+	// LocksAtOnce is how many requests may take a lock at once, or 0 for any number. If it is less than the number of
+	// requests that are carried out at once, a silent server of the locks doesn't hold up requests that need no lock.
+	LocksAtOnce int
 }
 
 // NewService makes a service. If the backend is a LockBackend, give its locks.
@@ -37,6 +41,7 @@ func NewService(
 ) *Service {
 	return &Service{
 		catalogue: catalogue, store: store, locks: locks, observer: observer, rules: rules,
+		gate:   newGate(locks, rules.LocksAtOnce),
 		worker: worker{backend: backend, observer: observer},
 	}
 }
@@ -64,6 +69,7 @@ type Answered struct {
 //
 // The lock is taken first if it is free: then nobody else can have done the work between its record and its beginning,
 // and it needn't be read once more. If it isn't free, the store answers without it, most often that work is pending.
+// If the locks are away, the store answers what needs no work, and all else fails.
 func (s *Service) Handle(ctx context.Context, asked Asked) (Answered, error) {
 	if asked.IsFetch {
 		return s.fetch(ctx, asked)
@@ -73,9 +79,9 @@ func (s *Service) Handle(ctx context.Context, asked Asked) (Answered, error) {
 			return answered, err
 		}
 	}
-	lock, err := s.locks.TryLock(ctx, asked.Key)
-	if err != nil {
-		return Answered{}, err
+	lock, away := s.tryLock(ctx, asked.Key)
+	if away != nil && !errors.Is(away, ErrAway) {
+		return Answered{}, away
 	}
 	defer func() {
 		if lock != nil {
@@ -83,7 +89,7 @@ func (s *Service) Handle(ctx context.Context, asked Asked) (Answered, error) {
 		}
 	}()
 	for {
-		begun, err := s.record(ctx, asked)
+		begun, err := s.record(ctx, asked, away)
 		if err != nil || begun.work == osb.WorkNone {
 			return begun.answered, err
 		}
@@ -101,19 +107,33 @@ func (s *Service) Handle(ctx context.Context, asked Asked) (Answered, error) {
 	}
 }
 
+// tryLock takes the lock of a key if it is free. The observer is told if that fails.
+func (s *Service) tryLock(ctx context.Context, key Key) (Lock, error) {
+	lock, err := s.gate.tryLock(ctx, key)
+	if err != nil && ctx.Err() == nil {
+		s.observer.CallFailed("lock")
+	}
+	return lock, err
+}
+
 // longestWait is how long a request waits for the lock of its key. Whoever has the lock may have left it to a process that
 // never ends.
 const longestWait = 10 * time.Second
 
-// lock waits for the lock of a key. If somebody else has it for too long, the work stays pending.
+// lock waits for the lock of a key. If somebody else has it for too long, the work stays pending. The observer is told if
+// the locks fail.
 func (s *Service) lock(ctx context.Context, key Key) (Lock, error) {
 	within, cancel := context.WithTimeout(ctx, longestWait)
 	defer cancel()
 	lock, err := s.locks.Lock(within, key)
-	if err != nil && ctx.Err() == nil && within.Err() != nil {
-		err = fmt.Errorf("%w: somebody else has the lock of %v", ErrNobodyKnows, key)
+	switch {
+	case err == nil || ctx.Err() != nil:
+		return lock, err
+	case within.Err() != nil:
+		return nil, fmt.Errorf("%w: somebody else has the lock of %v", ErrNobodyKnows, key)
 	}
-	return lock, err
+	s.observer.CallFailed("lock")
+	return nil, err
 }
 
 // errDoneBefore reports that somebody else has done the work, before this worker began.
@@ -170,11 +190,15 @@ type begun struct {
 	entry    Entry // what was written, if work is due
 }
 
-// record is the first transaction of a request: it is answered, or its work becomes pending.
-func (s *Service) record(ctx context.Context, asked Asked) (given begun, err error) {
+// record is the first transaction of a request: it is answered, or its work becomes pending. If away isn't nil, work
+// can't be done now: then nothing is written if work is due, and the error is away.
+func (s *Service) record(ctx context.Context, asked Asked, away error) (given begun, err error) {
 	place := ""
 	err = s.change(ctx, asked.Key, 0, func(held Held) (next *Entry, err error) {
 		next, given, err = s.begin(held, asked)
+		if err == nil && away != nil && given.work != osb.WorkNone {
+			return nil, away
+		}
 		if place = ""; err == nil && next != nil {
 			if place = "begin"; given.work == osb.WorkNone {
 				place = "mark"

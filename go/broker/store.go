@@ -50,6 +50,8 @@ type Step func(Held) (*Entry, error)
 
 // A Store keeps a row for each instance and each binding. No row of an instance is ever deleted. Any number of
 // goroutines use a Store, and any number of processes use the database.
+//
+// If the store can't be used now, and may be back soon, the error of a method is ErrAway (Away).
 type Store interface {
 	// Read returns what is committed and on disk.
 	Read(ctx context.Context, key Key) (Held, error)
@@ -92,7 +94,7 @@ type Stats struct {
 }
 
 // Locks let one worker at a time be at a key, among all processes. A Lock lives as long as the work that is done under
-// it, also if the work outlives its process.
+// it, also if the work outlives its process. If the Locks can't be used now, and may be back soon, the error is ErrAway.
 type Locks interface {
 	// Lock waits for the lock.
 	Lock(ctx context.Context, key Key) (Lock, error)
@@ -118,4 +120,22 @@ var (
 	ErrLostLock = errors.New("the lock was lost")
 	// ErrNobodyKnows reports that nobody knows how the work went. It stays pending, and is tried again.
 	ErrNobodyKnows = errors.New("nobody knows how the work went")
+	// ErrAway reports that the store or the Locks can't be used now, for example because their server has stopped. They
+	// may be back soon. Nobody knows whether a Change that fails with it has committed. The request is answered with
+	// 503, and with 500 after any other error.
+	ErrAway = errors.New("the store or the locks can't be used now")
 )
+
+// Away returns an error with the text of err, which is ErrAway too, by errors.Is. It returns nil if err is nil.
+func Away(err error) error {
+	if err == nil {
+		return nil
+	}
+	return away{err}
+}
+
+type away struct{ error }
+
+func (a away) Unwrap() error { return a.error }
+
+func (away) Is(target error) bool { return target == ErrAway }

@@ -24,7 +24,7 @@ var ErrStillTaken = fmt.Errorf("another worker has the lock, and the work began 
 // Errors: those of the store, the locks and the backend; ErrStillTaken. What isn't done stays as it is, to be taken up
 // again.
 func (s *Service) TakeUp(ctx context.Context, key Key) error {
-	lock, err := s.locks.TryLock(ctx, key)
+	lock, err := s.tryLock(ctx, key)
 	if err != nil {
 		return err
 	}

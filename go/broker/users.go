@@ -7,13 +7,15 @@ import (
 	"net/http"
 	"sort"
 	"strings"
+	"sync/atomic"
 	"time"
 
 	"pippinterm/osb"
 )
 
-// Users are the platforms that may log in, with their passwords.
-type Users struct{ logins []login }
+// Users are the platforms that may log in, with their passwords. Any number of goroutines may use Users. The zero Users
+// let nobody log in.
+type Users struct{ logins atomic.Pointer[[]login] }
 
 type login struct{ user, password, header string }
 
@@ -23,6 +25,34 @@ type login struct{ user, password, header string }
 // error names a password.
 func NewUsers(passwords map[string][]string) (*Users, error) {
 	users := &Users{}
+	if err := users.Replace(passwords); err != nil {
+		return nil, err
+	}
+	return users, nil
+}
+
+// Replace takes the passwords of each user, as NewUsers does, in place of all that were valid before. A request that is
+// judged after Replace has returned needs one of the new ones.
+//
+// Errors: those of NewUsers. The old passwords are valid then.
+func (u *Users) Replace(passwords map[string][]string) error {
+	logins, err := loginsOf(passwords)
+	if err != nil {
+		return err
+	}
+	u.logins.Store(&logins)
+	return nil
+}
+
+// current returns the logins that are valid now.
+func (u *Users) current() []login {
+	if logins := u.logins.Load(); logins != nil {
+		return *logins
+	}
+	return nil
+}
+
+func loginsOf(passwords map[string][]string) (logins []login, err error) {
 	for user, all := range passwords {
 		if len(all) == 0 {
 			return nil, fmt.Errorf("the user %q has no password", user)
@@ -35,14 +65,14 @@ func NewUsers(passwords map[string][]string) (*Users, error) {
 				osb.BasicAuth(header, user, password) != nil {
 				return nil, fmt.Errorf("the user %q or its password can't be sent by HTTP's Basic scheme", user)
 			}
-			users.logins = append(users.logins, login{user, password, header})
+			logins = append(logins, login{user, password, header})
 		}
 	}
-	if len(users.logins) == 0 {
+	if len(logins) == 0 {
 		return nil, errors.New("no user may log in")
 	}
-	sort.Slice(users.logins, func(one, other int) bool { return users.logins[one].user < users.logins[other].user })
-	return users, nil
+	sort.Slice(logins, func(one, other int) bool { return logins[one].user < logins[other].user })
+	return logins, nil
 }
 
 // judge returns the user whose password the header Authorization names. A header that stands twice is judged as one
@@ -50,8 +80,8 @@ func NewUsers(passwords map[string][]string) (*Users, error) {
 //
 // Errors: osb.ErrUnauthorized, osb.ErrMemory.
 func (u *Users) judge(values []string) (string, error) {
-	value, found := strings.Join(values, ", "), ""
-	for _, it := range u.logins {
+	value, found, logins := strings.Join(values, ", "), "", u.current()
+	for _, it := range logins {
 		if subtle.ConstantTimeCompare([]byte(value), []byte(it.header)) == 1 {
 			found = it.user
 		}
@@ -59,7 +89,7 @@ func (u *Users) judge(values []string) (string, error) {
 	if found != "" {
 		return found, nil
 	}
-	for _, it := range u.logins { // other spellings of the same header
+	for _, it := range logins { // other spellings of the same header
 		err := osb.BasicAuth(value, it.user, it.password)
 		if err == nil {
 			found = it.user

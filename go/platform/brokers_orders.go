@@ -3,7 +3,6 @@ package platform
 import (
 	"context"
 	"errors"
-	"net/url"
 	"regexp"
 	"strings"
 	"time"
@@ -19,11 +18,11 @@ var brokerName = regexp.MustCompile(`^[a-z0-9-]{1,63}$`)
 
 // AddBroker writes down a broker. password is in clear, or nil if PasswordFile is given.
 //
-// Errors: a Fault if the name or the URL is malformed, the name is taken, or a password is given and there is no vault;
-// those of the Store.
+// Errors: a Fault if the name is malformed or taken, CheckURL rejects the URL, or a password is given and there is no
+// vault; those of the Store.
 func (o *Orders) AddBroker(ctx context.Context, broker Broker, password []byte) error {
 	broker.Password, broker.Catalogue, broker.CatalogueAt, broker.Reason = nil, nil, time.Time{}, Reason{}
-	if err := o.finish(&broker, password, true); err != nil {
+	if err := o.finish(&broker, password, true, true); err != nil {
 		return err
 	}
 	err := o.store.AddBroker(ctx, broker)
@@ -53,7 +52,7 @@ func (o *Orders) SetBroker(ctx context.Context, name string, change func(*Broker
 
 // set changes a broker that was read.
 func (o *Orders) set(broker *Broker, change func(*Broker) error, password []byte) error {
-	name, file := broker.Name, broker.PasswordFile
+	name, url, file := broker.Name, broker.URL, broker.PasswordFile
 	hasPassword := broker.Password != nil || file != ""
 	if err := change(broker); err != nil {
 		return err
@@ -67,7 +66,7 @@ func (o *Orders) set(broker *Broker, change func(*Broker) error, password []byte
 	case password == nil && broker.PasswordFile != "":
 		broker.Password = nil
 	}
-	return o.finish(broker, password, hasPassword)
+	return o.finish(broker, password, hasPassword, strings.TrimRight(broker.URL, "/") != url)
 }
 
 // DropBroker forgets a broker of which nothing was ever ordered.
@@ -84,17 +83,20 @@ func (o *Orders) DropBroker(ctx context.Context, name string) error {
 	return err
 }
 
-// finish checks a broker, and seals its password. A broker of version 0.2 may have none: then the program has it.
-func (o *Orders) finish(broker *Broker, password []byte, needsPassword bool) error {
+// finish checks a broker, and seals its password. A broker of version 0.2 may have none: then the program has it. A URL
+// that isn't new was allowed before.
+func (o *Orders) finish(broker *Broker, password []byte, needsPassword, isNewURL bool) error {
 	if !brokerName.MatchString(broker.Name) {
 		return fault(Invalid, "the name of a broker has 1 to 63 characters: a-z, 0-9 and hyphens")
 	}
-	if err := checkURL(broker.URL); err != nil {
-		return err
+	if isNewURL {
+		if err := CheckURL(broker.URL, o.allowsHTTP); err != nil {
+			return err
+		}
 	}
 	broker.URL = strings.TrimRight(broker.URL, "/")
-	if broker.User == "" || strings.Contains(broker.User, ":") {
-		return fault(Invalid, "the user at a broker isn't empty and has no colon")
+	if broker.User == "" || strings.ContainsAny(broker.User, ":\x00") {
+		return fault(Invalid, "the user at a broker isn't empty, and has neither a colon nor a NUL")
 	}
 	if err := checkSettings(broker.Settings); err != nil {
 		return err
@@ -116,17 +118,6 @@ func (o *Orders) finish(broker *Broker, password []byte, needsPassword bool) err
 		return err
 	}
 	broker.Password = sealed
-	return nil
-}
-
-func checkURL(text string) error {
-	read, err := url.Parse(text)
-	if err != nil || read.Scheme != "http" && read.Scheme != "https" || read.Hostname() == "" {
-		return fault(Invalid, "the URL of a broker must begin with https:// and a host")
-	}
-	if read.User != nil || strings.ContainsAny(text, "?#") {
-		return fault(Invalid, "the URL of a broker must have no user, no query and no fragment")
-	}
 	return nil
 }
 

@@ -3,6 +3,7 @@ package platform
 import (
 	"context"
 	"encoding/json"
+	"errors"
 	"time"
 
 	"pippinterm/osb"
@@ -31,10 +32,13 @@ type Incoming struct {
 	Lost       error // why no answer is taken, so that a timeout is recorded; or nil
 }
 
+// ErrUnreachable reports that there is no connection to a broker, so nothing was sent. The next request would fail, too.
+var ErrUnreachable = errors.New("the broker can't be reached")
+
 // A Client sends requests. Any number of goroutines use it.
 type Client interface {
 	// Exchange sends one request and waits for the whole answer, or until its Until. It never sends a request twice,
-	// and follows no redirect.
+	// and follows no redirect. Lost is ErrUnreachable (by errors.Is) if there is no connection.
 	Exchange(ctx context.Context, out Outgoing) Incoming
 	// Catalogue asks for the catalogue of a broker. An error is why it wasn't had; status is the answer's, or 0.
 	Catalogue(ctx context.Context, broker Broker) (document json.RawMessage, status int, err error)

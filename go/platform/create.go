@@ -47,8 +47,12 @@ func (o *Orders) Create(ctx context.Context, wanted NewInstance) (Entry, error) 
 		Organization: orText(wanted.Organization, DefaultOrganization), Space: orText(wanted.Space, DefaultSpace),
 		Identity: wanted.Identity, Try: 1, Tries: wanted.Tries, First: number,
 	}
-	if order.Tries == 0 {
+	switch {
+	case order.Tries != 0:
+	case order.IsOwnID:
 		order.Tries = DefaultTries
+	default: // the next try would have another id than the one that was asked for
+		order.Tries = 1
 	}
 	order.Body, err = bodyOf(member{"parameters", wanted.Parameters}, member{"context", wanted.Context})
 	if err != nil {
@@ -75,7 +79,7 @@ func (o *Orders) Bind(ctx context.Context, wanted NewBinding) (Entry, error) {
 	}
 	of, err := o.store.Read(ctx, InstanceKey(instance))
 	if err != nil {
-		return Entry{}, unknown(InstanceKey(instance), err)
+		return Entry{}, unknownInstance(wanted.Instance, err)
 	}
 	if err := o.checkBindable(ctx, of); err != nil {
 		return Entry{}, err
@@ -110,12 +114,19 @@ func (o *Orders) Bind(ctx context.Context, wanted NewBinding) (Entry, error) {
 func checkReady(instance Entry) error {
 	switch {
 	case instance.Removal != NotRemoved:
-		return fault(Conflict, "the instance %v is removed: no binding of it can be created", instance.Key)
+		return fault(Conflict, "%s is removed: no binding of it can be created", named(instance))
 	case instance.State != Ready:
-		return fault(Conflict, "the instance %v is %s: a binding can be created once it is ready", instance.Key,
-			instance.State)
+		return fault(Conflict, "%s is %s: a binding can be created once it is ready", named(instance), instance.State)
 	}
 	return nil
+}
+
+// unknownInstance is the Fault of a binding whose instance has no row, or the error that is given.
+func unknownInstance(id string, err error) error {
+	if errors.Is(err, ErrUnknown) {
+		return fault(NotFound, "the instance %s is unknown", id)
+	}
+	return err
 }
 
 // checkBindable is a Fault unless the catalogue says that the plan of an instance is bindable.
@@ -155,11 +166,12 @@ func (o *Orders) insert(ctx context.Context, order Order, check func(Held) error
 	})
 	switch {
 	case errors.Is(err, ErrUsed):
-		return Entry{}, fault(Conflict, "the id %q is used already, and none is used twice", order.Key)
+		return Entry{}, fault(Conflict, "the id of %s is used already, and none is used twice: choose another one",
+			named(entry))
 	case errors.Is(err, ErrUnknown) && !order.Key.IsBinding: // dropped since it was read
 		return Entry{}, fault(NotFound, "the broker %q is unknown", order.Broker)
 	case err != nil:
-		return Entry{}, unknown(InstanceKey(order.Key.Instance), err)
+		return Entry{}, unknownInstance(order.Names.Instance, err)
 	}
 	point("order-written").at()
 	return entry, nil
@@ -190,14 +202,22 @@ func (o *Orders) broker(ctx context.Context, name string) (Broker, error) {
 // catalogueOf is the catalogue that a broker has answered last.
 func catalogueOf(broker Broker) (*Catalogue, error) {
 	if broker.Catalogue == nil {
-		return nil, fault(Conflict, "the broker %s has given no catalogue yet: run the platform, and try again",
-			broker.Name)
+		return nil, fault(Conflict, "the broker %s has given no catalogue yet%s: run the platform, and try again",
+			broker.Name, reasonIn(broker))
 	}
 	catalogue, err := ReadCatalogue(broker.Catalogue)
 	if err != nil {
 		return nil, fault(Conflict, "the broker %s: %v", broker.Name, err)
 	}
 	return catalogue, nil
+}
+
+// reasonIn is why a broker has given no catalogue, in brackets, or empty if nobody has asked it.
+func reasonIn(broker Broker) string {
+	if broker.Reason.Lost == "" {
+		return ""
+	}
+	return " (" + broker.Reason.Lost + ")"
 }
 
 // chosen are the service and the plan of a broker that an order names.
@@ -244,7 +264,7 @@ func namedID(named string) (text string, number osb.ID, err error) {
 		return "", number, fault(Invalid, "the id %q can't be used: it is . or .., or has a slash", named)
 	}
 	if number, err = osb.IDOfText(named); err != nil {
-		return "", number, fault(Invalid, "the id %q can't be used: an id has 1 to 255 bytes of UTF-8", named)
+		return "", number, noID(named)
 	}
 	return named, number, nil
 }

@@ -34,6 +34,13 @@ type sending struct {
 // isLast is whether it is the last deletion, of which nothing is in the record.
 func (s sending) isLast() bool { return s.attempt == 0 }
 
+// hasLeased is whether a row has the lease that was decided on with the request. Otherwise that wasn't written, or the
+// row was leased again: then a request of the same number may be another worker's.
+func (s sending) hasLeased(e Entry) bool {
+	lease := s.out.Entry.Lease
+	return e.Lease.Worker == lease.Worker && e.Lease.Until.Equal(lease.Until)
+}
+
 // A decision is what a worker does with a row that is due.
 type decision struct {
 	entry  Entry // the row as it is written

@@ -6,7 +6,6 @@ import (
 	"errors"
 	"fmt"
 	mathrand "math/rand"
-	"strings"
 	"sync"
 	"time"
 
@@ -89,10 +88,10 @@ func NewEngine(store Store, client Client, vault Vault, options Options, observe
 	}
 }
 
-// Run steps what is due until stop is closed, and returns nil once what was in flight is answered, which takes as long
-// as an exchange at most. If ctx is done, it returns the error of ctx, and what was in flight is left to the next
-// worker. A store that is away, or a broker that isn't reached, is waited for. The caller is the Only worker of its
-// name, and has called Free before.
+// Run steps what is due until stop is closed, and returns nil once what was in flight is answered and written, which
+// takes as long as its leases at most. If ctx is done, it returns the error of ctx, and what was in flight is left to
+// the next worker. A store that is away, or a broker that isn't reached, is waited for. The caller is the Only worker of
+// its name, and has called Free before. If it loses that right, it closes stop.
 func (e *Engine) Run(ctx context.Context, stop <-chan struct{}) error {
 	working, cancel := context.WithCancel(ctx)
 	r := newRun(working, e)
@@ -103,7 +102,48 @@ func (e *Engine) Run(ctx context.Context, stop <-chan struct{}) error {
 		return err
 	}
 	r.sites.stop()
-	limit := time.AfterFunc(e.Exchange, cancel)
+	return r.settle(ctx, cancel)
+}
+
+// A run is one call of Run or RunOnce. All of its goroutines have ended once wait has returned.
+type run struct {
+	*Engine
+	ctx   context.Context
+	group sync.WaitGroup
+	sites *sites
+	// inFlight are the requests that aren't answered yet, in all and of each broker. running are these, and those whose
+	// answers are being written: at most twice as many as may be in flight, so that one transaction of the Store can
+	// have the answers to some and the requests that follow.
+	inFlight, running int
+	busy              map[string]int  // only brokers that have requests in flight
+	silent            map[string]bool // whether the last request to a broker wasn't answered
+	answered          chan heardOf    // of each request that is answered, or that won't be; it never blocks
+	ended             chan again      // of each exchange whose answer is written; it never blocks
+	known             time.Time       // when something is due, as far as is known; zero if nothing is
+	look              time.Time       // when the Store is asked again
+	asked             map[string]bool // for which brokers it was asked last
+}
+
+// again is when the row of an exchange is due again. It isn't, if isDue is false.
+type again struct {
+	in    time.Duration
+	isDue bool
+}
+
+func newRun(ctx context.Context, e *Engine) *run {
+	r := &run{Engine: e, ctx: ctx, busy: map[string]int{}, silent: map[string]bool{}}
+	r.answered, r.ended = make(chan heardOf, 2*e.AtOnce), make(chan again, 2*e.AtOnce)
+	r.sites = newSites(ctx, e, &r.group)
+	return r
+}
+
+// wait waits for all goroutines.
+func (r *run) wait() { r.group.Wait() }
+
+// settle waits until what is in flight is answered and written. Once its leases are over, giveUp is called. It returns
+// the error of ctx if that is done before.
+func (r *run) settle(ctx context.Context, giveUp func()) error {
+	limit := time.AfterFunc(r.Exchange+r.Margin, giveUp)
 	defer limit.Stop()
 	for r.running > 0 {
 		select {
@@ -116,64 +156,6 @@ func (e *Engine) Run(ctx context.Context, stop <-chan struct{}) error {
 	return nil
 }
 
-// RunOnce does what is due, waits for the answers, and returns. It asks each broker for its catalogue first, for as
-// long as an exchange may last.
-//
-// Errors: the first of the Store; ErrUnreached if a broker wasn't reached, or refuses the user or the password. Its
-// orders are left to a later run.
-func (e *Engine) RunOnce(ctx context.Context) error {
-	working, cancel := context.WithCancel(ctx)
-	r := newRun(working, e)
-	defer r.wait()
-	defer cancel()
-	if err := r.sites.reachAll(); err != nil {
-		return err
-	}
-	if err := r.drain(ctx); err != nil {
-		return err
-	}
-	if unreached := r.sites.unreached(); len(unreached) > 0 {
-		return fmt.Errorf("%w: %s", ErrUnreached, strings.Join(unreached, ", "))
-	}
-	return nil
-}
-
-// ErrUnreached reports that brokers haven't answered their catalogues.
-var ErrUnreached = errors.New("brokers weren't reached")
-
-// A run is one call of Run or RunOnce. All of its goroutines have ended once wait has returned.
-type run struct {
-	*Engine
-	ctx   context.Context
-	group sync.WaitGroup
-	sites *sites
-	// inFlight are the requests that aren't answered yet, in all and of each broker. running are these, and those whose
-	// answers are being written: at most twice as many as may be in flight, so that one transaction of the Store can
-	// have the answers to some and the requests that follow.
-	inFlight, running int
-	busy              map[string]int
-	answered          chan string // the broker of each request that is answered; it never blocks
-	ended             chan again  // of each exchange whose answer is written; it never blocks
-	known             time.Time   // when something is due, as far as is known; zero if nothing is
-	look              time.Time   // when the Store is asked again
-}
-
-// again is when the row of an exchange is due again. It isn't, if isDue is false.
-type again struct {
-	in    time.Duration
-	isDue bool
-}
-
-func newRun(ctx context.Context, e *Engine) *run {
-	r := &run{Engine: e, ctx: ctx, busy: map[string]int{}}
-	r.answered, r.ended = make(chan string, 2*e.AtOnce), make(chan again, 2*e.AtOnce)
-	r.sites = newSites(ctx, e, &r.group)
-	return r
-}
-
-// wait waits for all goroutines.
-func (r *run) wait() { r.group.Wait() }
-
 // loop begins exchanges until it is to stop.
 func (r *run) loop(ctx context.Context, stop <-chan struct{}) error {
 	timer := time.NewTimer(0)
@@ -184,8 +166,8 @@ func (r *run) loop(ctx context.Context, stop <-chan struct{}) error {
 			return nil
 		case <-ctx.Done():
 			return ctx.Err()
-		case broker := <-r.answered:
-			r.free(broker)
+		case it := <-r.answered:
+			r.free(it)
 			continue
 		case it := <-r.ended:
 			r.note(it)
@@ -198,8 +180,8 @@ func (r *run) loop(ctx context.Context, stop <-chan struct{}) error {
 			return nil
 		case <-ctx.Done():
 			return ctx.Err()
-		case broker := <-r.answered:
-			r.free(broker)
+		case it := <-r.answered:
+			r.free(it)
 		case it := <-r.ended:
 			r.note(it)
 		case <-r.sites.changed:
@@ -219,12 +201,6 @@ func resetTimer(timer *time.Timer, wait time.Duration) {
 	timer.Reset(wait)
 }
 
-// free takes in that a request is answered.
-func (r *run) free(broker string) {
-	r.inFlight--
-	r.busy[broker]--
-}
-
 // note takes in that an answer is written.
 func (r *run) note(it again) {
 	r.running--
@@ -236,39 +212,16 @@ func (r *run) note(it again) {
 	}
 }
 
-// places returns the brokers to which something may be sent, and how many requests. If there are several brokers, each
-// takes a half of the places at most: one that doesn't answer doesn't keep the orders of all others waiting.
-func (r *run) places() (names []string, most int) {
-	reached, known := r.sites.names()
-	share := r.AtOnce
-	if known > 1 {
-		share = (r.AtOnce + 1) / 2
-	}
-	most = r.AtOnce - r.inFlight
-	if written := 2*r.AtOnce - r.running; written < most {
-		most = written
-	}
-	for _, name := range reached {
-		left := share - r.busy[name]
-		if left <= 0 {
-			continue
-		}
-		names = append(names, name)
-		if left < most {
-			most = left
-		}
-	}
-	if len(names) == 0 {
-		most = 0
-	}
-	return names, most
-}
-
 // pump begins as many exchanges as there are free places, and returns for how long there is nothing to do.
 func (r *run) pump() time.Duration {
 	names, most := r.places()
 	if most <= 0 {
 		return r.Look
+	}
+	for _, name := range names {
+		if !r.asked[name] { // it had no place left, and may have something due
+			r.look = time.Time{}
+		}
 	}
 	if now := time.Now(); (r.known.IsZero() || now.Before(r.known)) && !now.Before(r.look) {
 		r.ask(names)
@@ -288,6 +241,10 @@ func (r *run) pump() time.Duration {
 
 // ask asks the Store when something is due.
 func (r *run) ask(names []string) {
+	r.asked = map[string]bool{}
+	for _, name := range names {
+		r.asked[name] = true
+	}
 	due, now, err := r.store.NextDue(r.ctx, names)
 	r.known, r.look = time.Time{}, time.Now().Add(r.Look)
 	if !r.once.failed("store_failed", "", err) && !due.IsZero() {
@@ -325,36 +282,10 @@ func (r *run) start(sendings []*sending) {
 		r.group.Add(1)
 		go func() {
 			defer r.group.Done()
-			r.ended <- r.exchange(r.ctx, r.sites, it, func() { r.answered <- it.out.Broker.Name })
+			r.ended <- r.exchange(r.ctx, r.sites, it, func(isAnswered bool) {
+				r.answered <- heardOf{it.out.Broker.Name, isAnswered}
+			})
 		}()
-	}
-}
-
-// drain goes on until nothing is due and nothing is in flight.
-func (r *run) drain(ctx context.Context) error {
-	for {
-		claim := claimed{}
-		if names, most := r.places(); most > 0 {
-			claim = r.claim(r.ctx, r.sites, names, most)
-			r.start(claim.sendings)
-			if claim.err != nil {
-				return claim.err
-			}
-		}
-		if claim.claimed > 0 { // none of these is due at once any more
-			continue
-		}
-		if r.running == 0 {
-			return nil
-		}
-		select {
-		case broker := <-r.answered:
-			r.free(broker)
-		case it := <-r.ended:
-			r.note(it)
-		case <-ctx.Done():
-			return ctx.Err()
-		}
 	}
 }
 
@@ -389,7 +320,7 @@ func (o *once) failed(event, broker string, err error) bool {
 	o.told[name] = reason
 	o.mu.Unlock()
 	if err != nil && isNew {
-		o.observer.Failed(Failure{Event: event, Broker: broker, Err: err})
+		o.observer.Failed(Failure{Event: event, Broker: broker, Err: brief(err)})
 	}
 	return err != nil
 }

@@ -76,7 +76,7 @@ type Reason struct {
 	Status      int       `json:"status,omitempty"`      // of the answer, or 0 if none came
 	Error       string    `json:"error,omitempty"`       // the code in the answer
 	Description string    `json:"description,omitempty"` // the answer's, for a person
-	Lost        string    `json:"lost,omitempty"`        // why no answer was taken, or empty
+	Lost        string    `json:"lost,omitempty"`        // why no answer was taken, or what is wrong with it, or empty
 }
 
 // An Entry is a row: the order, and what has become of it.
@@ -111,6 +111,10 @@ type Entry struct {
 	Metadata    json.RawMessage // metadata of the answer, or nil
 	Credentials []byte          // of a binding that is ready: its object, sealed; else nil
 	Because     string          // why it was abandoned
+
+	// Unreadable is why the row can't be read, or empty. Key, State and Since are as they are stored, and the rest is
+	// as far as it could be read. No step gets such a row.
+	Unreadable string
 }
 
 // Rests is whether nothing is to be done for a row until somebody asks.

@@ -65,7 +65,7 @@ func (e *Engine) claim(ctx context.Context, sites *sites, names []string, most i
 // waiting.
 func (e *Engine) stepFailed(key Key, err error) {
 	if err != nil {
-		e.observer.Failed(Failure{Event: "step_failed", Key: key, IsNamed: true, Err: err})
+		e.observer.Failed(Failure{Event: "step_failed", Key: key, IsNamed: true, Err: brief(err)})
 	}
 }
 
@@ -94,12 +94,15 @@ func inDoubt(decisions map[Key]decision, most int, err error) (sendings []*sendi
 	return sendings
 }
 
-// exchange sends one request, and takes what comes back. answered is called in between.
-func (e *Engine) exchange(ctx context.Context, sites *sites, s *sending, answered func()) again {
+// exchange sends one request, and takes what comes back. In between it calls answered, with whether there is an answer.
+func (e *Engine) exchange(ctx context.Context, sites *sites, s *sending, answered func(isAnswered bool)) again {
 	heard := e.hear(ctx, s)
-	answered()
-	if isRefusal(heard.Status) {
-		sites.lose(s.out.Broker, heard.Status)
+	answered(heard.Lost == nil)
+	switch {
+	case isRefusal(heard.Status):
+		sites.lose(s.out.Broker, "broker_refuses", fmt.Errorf("status %d", heard.Status))
+	case errors.Is(heard.Lost, ErrUnreachable):
+		sites.lose(s.out.Broker, "broker_unreached", brief(heard.Lost))
 	}
 	entry, now, err := e.take(ctx, *s, heard)
 	switch {
@@ -131,7 +134,7 @@ func isRefusal(status int) bool {
 func (e *Engine) fail(event string, s sending, err error) {
 	e.observer.Failed(Failure{
 		Event: event, Broker: s.out.Entry.Broker, Key: s.out.Entry.Key, IsNamed: true, RequestID: s.out.RequestID,
-		Err: err,
+		Err: brief(err),
 	})
 }
 
@@ -200,7 +203,7 @@ func (e *Engine) send(ctx context.Context, s *sending, kind string) Incoming {
 	e.observer.Sent(told)
 	point("send-running").soon()
 	in := e.client.Exchange(ctx, s.out)
-	told.Status, told.Lost, told.RetryAfter, told.Duration = in.Status, in.Lost, in.RetryAfter, in.Duration
+	told.Status, told.Lost, told.RetryAfter, told.Duration = in.Status, brief(in.Lost), in.RetryAfter, in.Duration
 	told.Error, told.Description = textOf(in.Details.Error), textOf(in.Details.Description)
 	e.observer.Answered(told)
 	return in

@@ -1,7 +1,6 @@
 package platform
 
 import (
-	"fmt"
 	"strings"
 
 	"pippinterm/osb"
@@ -42,19 +41,24 @@ func (k Key) String() string {
 // ParseKey reads a key as an operator writes it: the id of an instance, or that of an instance, a slash, and that of a
 // binding. Each id is any text of 1 to 255 bytes of UTF-8 without a slash.
 //
-// Errors: those of osb.IDOfText.
+// Errors: a Fault.
 func ParseKey(text string) (Key, error) {
 	first, second, isBinding := strings.Cut(text, "/")
 	instance, err := osb.IDOfText(first)
 	if err != nil {
-		return Key{}, fmt.Errorf("the id %q: %w", first, err)
+		return Key{}, noID(first)
 	}
 	if !isBinding {
 		return InstanceKey(instance), nil
 	}
 	binding, err := osb.IDOfText(second)
 	if err != nil {
-		return Key{}, fmt.Errorf("the id %q: %w", second, err)
+		return Key{}, noID(second)
 	}
 	return BindingKey(instance, binding), nil
+}
+
+// noID is the Fault of a text that no id can be.
+func noID(text string) error {
+	return fault(Invalid, "the id %q can't be used: an id has 1 to 255 bytes of UTF-8", text)
 }

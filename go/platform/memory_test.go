@@ -14,7 +14,8 @@ import (
 // any two statements.
 type memory struct {
 	clock func() time.Time
-	// between is called between two statements, without a lock of the memory, but with those of the rows.
+	// between is called before a transaction, and between two statements: without a lock of the memory, but with those
+	// of the rows.
 	between func(point string, key Key)
 	// beforeChange is called before a broker is changed, without a lock.
 	beforeChange func(name string)
@@ -28,7 +29,7 @@ type memory struct {
 	away    error // why nothing can be read or written, or nil
 	doubt   error // the error of the next commit, though it is written
 	told    string
-	// unreadable are rows that a claim can't read.
+	// unreadable are rows that can't be read.
 	unreadable map[Key]bool
 }
 
@@ -230,6 +231,7 @@ func isDue(e Entry, now time.Time, names []string) bool {
 }
 
 func (m *memory) Claim(_ context.Context, brokers []string, most int, step Step) (claimed []Claimed, err error) {
+	m.between("claim-begin", Key{})
 	m.mu.Lock()
 	defer m.mu.Unlock()
 	if m.away != nil {
@@ -282,6 +284,7 @@ func (m *memory) outside(call func()) {
 }
 
 func (m *memory) Change(_ context.Context, key Key, step Step) error {
+	m.between("change-begin", key)
 	m.mu.Lock()
 	defer m.mu.Unlock()
 	if m.away != nil {
@@ -293,6 +296,9 @@ func (m *memory) Change(_ context.Context, key Key, step Step) error {
 		return ErrUnknown
 	}
 	t.lockAll(key, true)
+	if m.unreadable[key] {
+		return errUnreadable
+	}
 	if err := m.stepped(t, m.clock(), key, "change", step); err != nil {
 		return err
 	}
@@ -316,6 +322,8 @@ func (m *memory) Only(context.Context, string) (func(), <-chan struct{}, error) 
 	return func() {}, make(chan struct{}), nil
 }
 
+func (m *memory) HasWorkers(context.Context) (bool, error) { return false, nil }
+
 func (m *memory) Read(_ context.Context, key Key) (Entry, error) {
 	m.mu.Lock()
 	defer m.mu.Unlock()
@@ -323,7 +331,15 @@ func (m *memory) Read(_ context.Context, key Key) (Entry, error) {
 	if !isThere {
 		return Entry{}, ErrUnknown
 	}
-	return e, nil
+	return m.shown(e), nil
+}
+
+// shown is a row as it is read to be shown.
+func (m *memory) shown(e Entry) Entry {
+	if m.unreadable[e.Key] {
+		e.Record, e.IsSent, e.Unreadable = osb.Record{}, false, errUnreadable.Error()
+	}
+	return e
 }
 
 func (m *memory) List(context.Context, Filter) ([]Entry, error) {
@@ -331,7 +347,7 @@ func (m *memory) List(context.Context, Filter) ([]Entry, error) {
 	defer m.mu.Unlock()
 	found := []Entry{}
 	for _, key := range m.begin().keys() {
-		found = append(found, m.rows[key])
+		found = append(found, m.shown(m.rows[key]))
 	}
 	return found, nil
 }
@@ -432,6 +448,16 @@ func (m *memory) Fingerprint(_ context.Context, fingerprint string) (string, err
 		m.told = fingerprint
 	}
 	return m.told, nil
+}
+
+func (m *memory) ReplaceFingerprint(_ context.Context, before, after string) error {
+	m.mu.Lock()
+	defer m.mu.Unlock()
+	if m.told != before || before == "" {
+		return ErrUnknown
+	}
+	m.told = after
+	return nil
 }
 
 func (m *memory) Ready(context.Context) error { return m.away }

@@ -3,7 +3,8 @@ package platform
 import "time"
 
 // An Observer is told what happens, for a log and for metrics. Its methods return at once, and are called by any number
-// of goroutines. No password, no credentials and no body is handed to it.
+// of goroutines. No password, no credentials and no body is handed to it, and no text or error of more than 1,000 bytes
+// that a broker may have written.
 type Observer interface {
 	// Sent is called before a request is sent, once it is recorded as in flight.
 	Sent(Exchange)

@@ -16,12 +16,18 @@ type Orders struct {
 	store Store
 	vault Vault // or nil: then no broker's password and no credentials can be read or written
 	newID func() (osb.ID, error)
+	// allowsHTTP allows http:// for brokers that aren't on this machine.
+	allowsHTTP bool
 }
 
 // NewOrders makes the calls over a store.
 func NewOrders(store Store, vault Vault) *Orders {
 	return &Orders{store: store, vault: vault, newID: newID}
 }
+
+// AllowHTTP sets whether a broker that isn't on this machine may have a URL with http://, by which everybody on the way
+// reads the password. It mayn't at first. Call it before the first order.
+func (o *Orders) AllowHTTP(isAllowed bool) { o.allowsHTTP = isAllowed }
 
 // A NewInstance is an instance to create.
 type NewInstance struct {
@@ -33,7 +39,7 @@ type NewInstance struct {
 	Parameters    json.RawMessage // an object, or nil
 	Context       json.RawMessage // an object, or nil
 	Identity      string          // the value of X-Broker-API-Originating-Identity, or empty
-	Tries         int             // 0 stands for DefaultTries
+	Tries         int             // 0 stands for DefaultTries, or for 1 if there is an ID
 }
 
 // A NewBinding is a binding to create.
@@ -93,16 +99,19 @@ func (o *Orders) change(ctx context.Context, key Key, step func(time.Time, Held)
 
 // unknown is the Fault of a key that has no row, or the error that is given.
 func unknown(key Key, err error) error {
-	if errors.Is(err, ErrUnknown) {
-		return fault(NotFound, "%s %v is unknown", what(key), key)
+	switch {
+	case !errors.Is(err, ErrUnknown):
+		return err
+	case key.IsBinding:
+		return fault(NotFound, "there is no binding of this id")
 	}
-	return err
+	return fault(NotFound, "there is no instance of this id")
 }
 
-// what is what a key names.
-func what(key Key) string {
-	if key.IsBinding {
-		return "the binding"
+// named is what a row is, and the id by which it was ordered.
+func named(e Entry) string {
+	if e.Key.IsBinding {
+		return "the binding " + e.Names.Instance + "/" + e.Names.Binding
 	}
-	return "the instance"
+	return "the instance " + e.Names.Instance
 }

@@ -98,6 +98,11 @@ func TestCreateNamed(t *testing.T) {
 	}
 	_, err = d.orders.Create(background, NewInstance{Service: "shelf", Plan: "now", ID: "a thing"})
 	wantFault(t, err, Conflict, "used already")
+	e, err = d.orders.Create(background, NewInstance{Service: "shelf", Plan: "now", ID: "another thing"})
+	check(t, err)
+	if e.Tries != 1 { // the next one would have another id
+		t.Errorf("%d tries", e.Tries)
+	}
 }
 
 func TestCreateRejected(t *testing.T) {
@@ -237,7 +242,7 @@ func TestRemove(t *testing.T) {
 		}
 	}
 	_, err := newDesk(t).orders.Remove(background, anInstance, true)
-	wantFault(t, err, NotFound, "the instance "+anInstance.String())
+	wantFault(t, err, NotFound, "no instance of this id")
 }
 
 func TestRemoveWithBindings(t *testing.T) {
@@ -318,7 +323,7 @@ func TestAbandon(t *testing.T) {
 			d.dial.forward(time.Minute)
 			after, err := d.orders.Abandon(background, key, "the broker was closed")
 			if state == Gone || state == Withdrawn || state == Abandoned || state == Ordered {
-				wantFault(t, err, Conflict, what(key))
+				wantFault(t, err, Conflict, named(before))
 				continue
 			}
 			if err != nil || after.State != Abandoned || !after.Rests() || after.Because != "the broker was closed" ||
@@ -338,7 +343,7 @@ func TestAbandon(t *testing.T) {
 	_, err = d.orders.Abandon(background, anInstance, "")
 	wantFault(t, err, Invalid, "reason")
 	_, err = d.orders.Abandon(background, InstanceKey(id("77")), "why not")
-	wantFault(t, err, NotFound, "unknown")
+	wantFault(t, err, NotFound, "no instance of this id")
 }
 
 // A binding that is abandoned doesn't keep its instance from being removed or abandoned. One that is held beside it
@@ -428,13 +433,14 @@ func TestCredentials(t *testing.T) {
 	_, err = d.orders.Credentials(background, anInstance)
 	wantFault(t, err, Invalid, "instance")
 	_, err = d.orders.Credentials(background, BindingKey(id("1"), id("b2")))
-	wantFault(t, err, NotFound, "unknown")
+	wantFault(t, err, NotFound, "no binding of this id")
 	d.put(rowIn(aBinding, Cleaning))
 	_, err = d.orders.Credentials(background, aBinding)
 	wantFault(t, err, Conflict, "cleaning")
 	d.put(with(rowIn(aBinding, Ready), func(e *Entry) { e.Credentials = []byte(`["another", ""]`) }))
-	if _, err = d.orders.Credentials(background, aBinding); err == nil {
-		t.Error("what was sealed for another row is opened")
+	_, err = d.orders.Credentials(background, aBinding)
+	if err == nil || !strings.Contains(err.Error(), named(d.store.rows[aBinding])+" can't be decrypted") {
+		t.Errorf("what was sealed for another row: %v", err)
 	}
 }
 
@@ -464,8 +470,14 @@ func TestBrokers(t *testing.T) {
 	if changed = d.store.brokers["shelf"]; changed.Password == nil || changed.PasswordFile != "" {
 		t.Errorf("got %+v", changed)
 	}
-	file := Broker{Name: "file", URL: "http://here:1", User: "u", PasswordFile: "p"}
+	file := Broker{Name: "file", URL: "http://there:1", User: "u", PasswordFile: "p"}
+	wantFault(t, d.orders.AddBroker(background, file, nil), Invalid, "reads the password")
+	move := func(b *Broker) error { b.URL = "http://there:2"; return nil }
+	wantFault(t, d.orders.SetBroker(background, "shelf", move, nil), Invalid, "reads the password")
+	d.orders.AllowHTTP(true)
 	check(t, d.orders.AddBroker(background, file, nil))
+	d.orders.AllowHTTP(false) // what was allowed before stays
+	check(t, d.orders.SetBroker(background, "file", func(b *Broker) error { b.User = "me"; return nil }, nil))
 	check(t, d.orders.DropBroker(background, "file"))
 	wantFault(t, d.orders.DropBroker(background, "file"), NotFound, "unknown")
 	d.put(rowIn(anInstance, Gone))
@@ -496,7 +508,7 @@ func TestBrokersRejected(t *testing.T) {
 		"and a host":       func(b *Broker) { b.URL = "https://" },
 		"no user":          func(b *Broker) { b.URL = "https://u:p@b" },
 		"no query":         func(b *Broker) { b.URL = "https://b?x" },
-		"no colon":         func(b *Broker) { b.User = "a:b" },
+		"neither a colon":  func(b *Broker) { b.User = "a:b" },
 		"not both":         func(b *Broker) { b.PasswordFile = "p" },
 		"the hold":         func(b *Broker) { b.Settings.Hold = &minus },
 		"the longest poll": func(b *Broker) { b.Settings.LongestPoll = &long },

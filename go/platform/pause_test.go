@@ -5,6 +5,7 @@ import (
 	"encoding/json"
 	"errors"
 	"fmt"
+	"reflect"
 	"sync"
 	"sync/atomic"
 	"testing"
@@ -18,7 +19,7 @@ type wire struct {
 	Silent
 	dial   *dial
 	seller *seller
-	paused func(point string) // is called before a request leaves, and once it was handled
+	paused func(point string) // is called before a request leaves, once it was handled, and once its answer is there
 
 	mu   sync.Mutex
 	left []departure
@@ -36,8 +37,21 @@ func (w *wire) Catalogue(context.Context, Broker) (json.RawMessage, int, error) 
 	return json.RawMessage(sold), 200, nil
 }
 
-// Sent is the last that happens before a Client is called.
-func (w *wire) Sent(Exchange) { w.paused("sent") }
+// Sent is the last that happens before a Client is called, and Answered is the first afterwards.
+func (w *wire) Sent(it Exchange) { w.paused(pointOf("sent", it.Kind == "fetch")) }
+
+func (w *wire) Answered(it Exchange) { w.paused(pointOf("answered", it.Kind == "fetch")) }
+
+// Changed is the last that happens in a step, if the state is another one.
+func (w *wire) Changed(Key, State, State) { w.paused("changed") }
+
+// pointOf is the name of a point, which is another one of a Fetch.
+func pointOf(name string, isFetch bool) string {
+	if isFetch {
+		return "fetch-" + name
+	}
+	return name
+}
 
 func (w *wire) Exchange(_ context.Context, out Outgoing) Incoming {
 	if !w.Clock().Before(out.Until) {
@@ -47,7 +61,7 @@ func (w *wire) Exchange(_ context.Context, out Outgoing) Incoming {
 	w.left = append(w.left, departure{out, w.dial.time()})
 	w.mu.Unlock()
 	given := w.seller.handle(out)
-	w.paused("handled")
+	w.paused(pointOf("handled", out.IsFetch))
 	if !w.Clock().Before(out.Until) {
 		return Incoming{Lost: errors.New("its time is over")}
 	}
@@ -96,7 +110,7 @@ func check(t *testing.T, err error) {
 func (s *stage) step(b *bench) {
 	found := b.engine.claim(background, b.sites, []string{"shelf"}, 10)
 	for _, it := range found.sendings {
-		b.engine.exchange(background, b.sites, it, func() {})
+		b.engine.exchange(background, b.sites, it, func(bool) {})
 	}
 }
 
@@ -129,95 +143,77 @@ func (s *stage) isLeased() bool {
 	return false
 }
 
-// The scenes are rows of which a request is due.
-var scenes = map[string]func(*testing.T, *stage) Key{
-	"a creation": func(t *testing.T, s *stage) Key { return s.ordered(t, "now") },
-	"a Poll": func(t *testing.T, s *stage) Key {
-		key := s.ordered(t, "later")
-		s.step(s.workers[1])
-		s.dial.forward(2 * time.Second)
-		return key
-	},
-	"a deletion": func(t *testing.T, s *stage) Key {
-		key := s.ordered(t, "now")
-		s.goOn(s.workers[1], 5)
-		_, err := s.orders.Remove(background, key, false)
-		check(t, err)
-		s.dial.forward(time.Hour)
-		return key
-	},
-	"the first deletion": func(t *testing.T, s *stage) Key {
-		key := s.ordered(t, "now")
-		s.goOn(s.workers[1], 5)
-		_, err := s.orders.Remove(background, key, false)
-		check(t, err)
-		return key
-	},
-	"a Bind": func(t *testing.T, s *stage) Key {
-		instance := s.ordered(t, "now")
-		s.goOn(s.workers[1], 5)
-		e, err := s.orders.Bind(background, NewBinding{Instance: instance.String()})
-		check(t, err)
-		return e.Key
-	},
-	"a Fetch": func(t *testing.T, s *stage) Key {
-		instance := s.ordered(t, "bind-later")
-		s.goOn(s.workers[1], 5)
-		e, err := s.orders.Bind(background, NewBinding{Instance: instance.String()})
-		check(t, err)
-		s.step(s.workers[1])
-		s.seller.goOn()
-		s.dial.forward(2 * time.Second)
-		return e.Key
-	},
+// A pause is how a worker is paused, while another goes on.
+type pause struct {
+	point  string
+	length time.Duration
+	// isBroken is whether the database ends the transaction that waits.
+	isBroken bool
+	// isMidway is whether the other worker waits for an answer when the first one goes on.
+	isMidway bool
 }
 
-func (s *stage) ordered(t *testing.T, plan string) Key {
-	t.Helper()
-	e, err := s.orders.Create(background, NewInstance{Service: "shelf", Plan: plan, Tries: 1})
-	check(t, err)
-	return e.Key
+func (p pause) String() string {
+	name := fmt.Sprintf("%s/%v", p.point, p.length)
+	if p.isBroken {
+		name += "/broken"
+	}
+	if p.isMidway {
+		name += "/midway"
+	}
+	return name
+}
+
+// pauses are all of them: for so long that an answer may still be taken, that no request may be sent, and that the
+// lease is over.
+func pauses() (all []pause) {
+	for _, point := range points {
+		for _, length := range []time.Duration{45 * time.Second, 75 * time.Second, 100 * time.Second} {
+			for _, isBroken := range []bool{false, true} {
+				all = append(all, pause{point, length, isBroken, false}, pause{point, length, isBroken, true})
+			}
+		}
+	}
+	return all
 }
 
 // A worker is paused at each point, until it may send no more, or for longer than its lease, while another goes on.
-// Nothing is sent once the lease is over, no deletion is sent before its time, and what is recorded in the end is true.
+// Nothing is sent once the lease is over, no deletion is sent before its time, nothing is written that the other worker
+// has leased, and what is recorded in the end is true.
 func TestPausedWorker(t *testing.T) {
-	points := []string{
-		"claim-read", "claim-decided", "claim-commit", "claimed", "sent", "handled", "change-read", "change-decided",
-		"change-commit",
-	}
-	for name, scene := range scenes {
-		for _, point := range points {
-			for _, isBroken := range []bool{false, true} { // whether the database ends the transaction that waits
-				for _, hold := range []time.Duration{0, 5 * time.Minute} {
-					for _, length := range []time.Duration{45 * time.Second, 75 * time.Second, 100 * time.Second} {
-						t.Run(fmt.Sprintf("%s/%s/%v/%v/%v", name, point, isBroken, hold, length), func(t *testing.T) {
-							s := newStage(t, hold)
-							key := scene(t, s)
-							s.pauseAt(t, point, isBroken, length)
-							s.goOn(s.workers[0], 20)
-							s.goOn(s.workers[1], 60)
-							s.check(t, key, hold)
-						})
-					}
+	for _, scene := range scenes {
+		for _, pause := range pauses() {
+			for _, hold := range []time.Duration{0, 5 * time.Minute} {
+				if hold == 0 && scene.needsHold {
+					continue
 				}
+				t.Run(fmt.Sprintf("%s/%v/hold %v", scene.name, pause, hold), func(t *testing.T) {
+					s := newStage(t, hold)
+					key := scene.come(t, s)
+					if isReached := s.pause(t, pause); isReached != scene.hasPoint(pause.point, hold) {
+						t.Errorf("it is paused: %v", isReached)
+					}
+					s.goOn(s.workers[0], 20)
+					s.goOn(s.workers[1], 60)
+					s.check(t, key, hold)
+				})
 			}
 		}
 	}
 }
 
-// pauseAt pauses the first worker at a point for so long, while the second one goes on.
-func (s *stage) pauseAt(t *testing.T, point string, isBroken bool, length time.Duration) {
+// pause pauses the first worker. It returns whether the worker has come to the point.
+func (s *stage) pause(t *testing.T, how pause) bool {
 	t.Helper()
-	paused, resumed := make(chan struct{}), make(chan struct{})
+	reached, resumed := make(chan struct{}), make(chan struct{})
 	var isReached atomic.Bool
-	pause := func(reached string) {
-		if reached == point && isReached.CompareAndSwap(false, true) {
-			close(paused)
+	pause := func(point string) {
+		if point == how.point && isReached.CompareAndSwap(false, true) {
+			close(reached)
 			<-resumed
 		}
 	}
-	s.store.between = func(reached string, _ Key) { pause(reached) }
+	s.store.between = func(point string, _ Key) { pause(point) }
 	s.paused = pause
 	ended := make(chan struct{})
 	first := s.workers[0]
@@ -226,21 +222,52 @@ func (s *stage) pauseAt(t *testing.T, point string, isBroken bool, length time.D
 		found := first.engine.claim(background, first.sites, []string{"shelf"}, 10)
 		pause("claimed")
 		for _, it := range found.sendings {
-			first.engine.exchange(background, first.sites, it, func() {})
+			first.engine.exchange(background, first.sites, it, func(bool) {})
 		}
 	}()
-	await(t, "it doesn't come to the point", paused, ended)
-	isReached.Store(true) // of what is held, nothing is sent
-	if isBroken {
+	await(t, "it doesn't come to the point", reached, ended)
+	hasPaused := isReached.Swap(true) // the second worker isn't paused
+	if how.isBroken {
 		s.store.breakAll()
 	}
-	s.dial.forward(length)
+	s.dial.forward(how.length)
+	resume := func() {
+		close(resumed)
+		await(t, "it doesn't end", ended, nil)
+	}
+	if how.isMidway {
+		s.takeOver(t, resume)
+		return hasPaused
+	}
 	for round := 0; round < 3; round++ {
 		s.step(s.workers[1])
 		s.dial.forward(time.Millisecond)
 	}
-	close(resumed)
-	await(t, "it doesn't end", ended, nil)
+	resume()
+	return hasPaused
+}
+
+// takeOver has the second worker claim what is due, and send it once the first one has gone on. What the second one has
+// leased, nobody else writes.
+func (s *stage) takeOver(t *testing.T, resume func()) {
+	t.Helper()
+	second := s.workers[1]
+	found := second.engine.claim(background, second.sites, []string{"shelf"}, 10)
+	before, err := s.store.List(background, Filter{})
+	check(t, err)
+	now := s.dial.time()
+	resume()
+	for _, it := range before {
+		after, err := s.store.Read(background, it.Key)
+		check(t, err)
+		isLeased := it.Lease.Worker == second.name && now.Before(it.Lease.Until)
+		if isLeased && !reflect.DeepEqual(after, it) {
+			t.Errorf("the second worker has written %+v, and the first one %+v", it, after)
+		}
+	}
+	for _, it := range found.sendings {
+		second.engine.exchange(background, second.sites, it, func(bool) {})
+	}
 }
 
 // await waits for one of two things.
@@ -277,13 +304,18 @@ func (s *stage) check(t *testing.T, key Key, hold time.Duration) {
 	}
 	rows, err := s.store.List(background, Filter{})
 	check(t, err)
+	tries := map[string]int{}
 	for _, e := range rows {
+		name := fmt.Sprint(e.First, e.Try)
+		if tries[name]++; tries[name] > 1 {
+			t.Errorf("try %d of %v is ordered %d times", e.Try, e.First, tries[name])
+		}
 		isRight := e.State == Ready && s.seller.isThere(e.Key) || e.State == Gone && s.seller.isNone(e.Key)
 		if !isRight || !e.Rests() || e.Lease != (Lease{}) {
 			t.Errorf("%v is recorded %s, due %v, %v: %s", e.Key, e.State, e.Due, e.Lease, s.seller.is(e.Key))
 		}
 		if object, err := s.orders.Credentials(background, e.Key); e.State == Ready && e.Key.IsBinding &&
-			(err != nil || string(object) != string(s.seller.objects[e.Key])) {
+			(err != nil || string(object) != s.seller.object(e.Key)) {
 			t.Errorf("the credentials of %v are %s (%v)", e.Key, object, err)
 		}
 	}

@@ -36,6 +36,7 @@ type sites struct {
 type site struct {
 	broker    Broker
 	catalogue *Catalogue
+	reason    error              // why there is no catalogue, or nil
 	cancel    context.CancelFunc // ends the goroutine that asks for the catalogue, now and later
 }
 
@@ -101,8 +102,9 @@ func isAskedAlike(one, other Broker) bool {
 	return reflect.DeepEqual(one, other)
 }
 
-// ask has a goroutine ask a broker for its catalogue until it is answered, and again and again after every so long. It
-// is asked once if every is 0. The goroutine ends once ctx is done, or the site's cancel is called.
+// ask has a goroutine ask a broker for its catalogue until it is answered, and again and again after every so long. If
+// every is 0, one answer is enough, also one that refuses the platform. The goroutine ends once ctx is done, or the
+// site's cancel is called.
 func (s *sites) ask(ctx context.Context, it *site, group *sync.WaitGroup, every time.Duration) {
 	asking, cancel := context.WithCancel(ctx)
 	it.cancel = cancel
@@ -111,22 +113,26 @@ func (s *sites) ask(ctx context.Context, it *site, group *sync.WaitGroup, every 
 	go func() {
 		defer group.Done()
 		defer cancel()
-		for s.askOnce(asking, it, broker) && every > 0 && sleep(asking, every) {
+		for s.askOnce(asking, it, broker, every == 0) && every > 0 && sleep(asking, every) {
 		}
 	}()
 }
 
-// askOnce asks a broker for its catalogue until it is answered. It returns false if ctx is done before. Until then the
-// last catalogue counts.
-func (s *sites) askOnce(ctx context.Context, it *site, broker Broker) bool {
+// askOnce asks a broker for its catalogue until it is answered. It returns false if ctx is done before, or if the
+// broker refuses the platform and that ends it. Until then the last catalogue counts.
+func (s *sites) askOnce(ctx context.Context, it *site, broker Broker, refusalEnds bool) bool {
 	for rest := firstAsking; ; rest *= 2 {
-		catalogue, err := s.catalogue(ctx, broker)
+		catalogue, status, err := s.catalogue(ctx, broker)
 		if err == nil {
 			s.reach(ctx, it, catalogue)
 			return true
 		}
 		if ctx.Err() == nil {
+			s.miss(it, err)
 			s.once.failed("broker_unreached", broker.Name, err)
+		}
+		if refusalEnds && refusesPlatform(status) {
+			return false
 		}
 		if rest > longestAsking {
 			rest = longestAsking
@@ -137,12 +143,25 @@ func (s *sites) askOnce(ctx context.Context, it *site, broker Broker) bool {
 	}
 }
 
+// refusesPlatform is whether no waiting mends what a broker has answered: that it refuses the user, the password, or
+// the version of the API.
+func refusesPlatform(status int) bool {
+	return isRefusal(status) || status == http.StatusPreconditionFailed
+}
+
+// miss takes in why the catalogue of a broker wasn't had.
+func (s *sites) miss(it *site, reason error) {
+	s.mu.Lock()
+	defer s.mu.Unlock()
+	it.reason = reason
+}
+
 // reach takes in that a broker has answered its catalogue, unless nobody asks for this answer any more.
 func (s *sites) reach(ctx context.Context, it *site, catalogue *Catalogue) {
 	s.mu.Lock()
 	isOver, isNew := ctx.Err() != nil, it.catalogue == nil
 	if !isOver {
-		it.catalogue = catalogue
+		it.catalogue, it.reason = catalogue, nil
 	}
 	s.mu.Unlock()
 	if isOver {
@@ -159,26 +178,22 @@ func (s *sites) reach(ctx context.Context, it *site, catalogue *Catalogue) {
 	}
 }
 
-// catalogue asks for the catalogue once, and has it, or why it wasn't had, in the Store.
-func (s *sites) catalogue(ctx context.Context, broker Broker) (*Catalogue, error) {
+// catalogue asks for the catalogue once, and has it, or why it wasn't had, in the Store. status is the answer's, or 0.
+func (s *sites) catalogue(ctx context.Context, broker Broker) (read *Catalogue, status int, err error) {
 	limited, cancel := context.WithTimeout(ctx, s.Exchange)
 	defer cancel()
 	document, status, err := s.client.Catalogue(limited, broker)
-	var read *Catalogue
 	if err == nil {
 		read, err = ReadCatalogue(document)
 	}
 	if err != nil {
-		if status == http.StatusUnauthorized || status == http.StatusForbidden {
-			err = fmt.Errorf("the broker refuses the user or the password: %w", err)
-		}
 		reason := Reason{Kind: "catalogue", Status: status, Lost: atMost(err.Error())}
 		if written := s.keep(ctx, broker, nil, reason); written != nil && !errors.Is(written, errChanged) {
 			s.once.failed("store_failed", "", written)
 		}
-		return nil, err
+		return nil, status, err
 	}
-	return read, s.keep(ctx, broker, document, Reason{})
+	return read, status, s.keep(ctx, broker, document, Reason{})
 }
 
 var errChanged = errors.New("the broker was changed or dropped meanwhile")
@@ -233,20 +248,21 @@ func isSameJSON(one, other json.RawMessage) bool {
 }
 
 // lose has a broker asked for its catalogue again before anything more is sent, since it refuses the user or the
-// password.
-func (s *sites) lose(asked Broker, status int) {
+// password, or can't be reached. event says which. So an outage of a broker costs the orders that are in flight, and no
+// other.
+func (s *sites) lose(asked Broker, event string, reason error) {
+	err := fmt.Errorf("%w: nothing more is sent until it answers its catalogue", reason)
 	s.mu.Lock()
 	it := s.byName[asked.Name]
 	isLost := it != nil && it.catalogue != nil && isAskedAlike(it.broker, asked) && s.ctx.Err() == nil
 	if isLost {
 		it.cancel()
-		it.catalogue = nil
+		it.catalogue, it.reason = nil, err
 		s.ask(s.ctx, it, s.group, s.Catalogues)
 	}
 	s.mu.Unlock()
 	if isLost {
-		err := fmt.Errorf("status %d: nothing more is sent until it answers its catalogue", status)
-		s.observer.Failed(Failure{Event: "broker_refuses", Broker: asked.Name, Err: err})
+		s.observer.Failed(Failure{Event: event, Broker: asked.Name, Err: err})
 	}
 }
 
@@ -263,7 +279,8 @@ func (s *sites) names() (names []string, known int) {
 	return names, len(s.byName)
 }
 
-// reachAll asks each broker for its catalogue, for as long as an exchange may last.
+// reachAll asks each broker for its catalogue, for as long as an exchange may last, or until the broker refuses the
+// platform.
 func (s *sites) reachAll() error {
 	brokers, err := s.store.Brokers(s.ctx)
 	if err != nil {
@@ -282,17 +299,21 @@ func (s *sites) reachAll() error {
 	return s.ctx.Err()
 }
 
-// unreached are the names of the brokers that aren't reached.
-func (s *sites) unreached() (names []string) {
+// unreached are the brokers that aren't reached, each with its name and why.
+func (s *sites) unreached() (found []string) {
 	s.mu.Lock()
 	defer s.mu.Unlock()
 	for name, it := range s.byName {
-		if it.catalogue == nil {
-			names = append(names, name)
+		switch {
+		case it.catalogue != nil:
+		case it.reason != nil:
+			found = append(found, fmt.Sprintf("%s: %s", name, atMost(it.reason.Error())))
+		default:
+			found = append(found, name)
 		}
 	}
-	sort.Strings(names)
-	return names
+	sort.Strings(found)
+	return found
 }
 
 // decide decides on a row by the terms of its broker. It returns nil if the broker isn't reached any more: the row

@@ -4,6 +4,7 @@ import (
 	"context"
 	"encoding/json"
 	"errors"
+	"fmt"
 	"time"
 
 	"pippinterm/osb"
@@ -21,7 +22,7 @@ func (o *Orders) Remove(ctx context.Context, key Key, withBindings bool) (Entry,
 		case e.State == Gone || e.State == Withdrawn:
 			return nil, nil
 		case e.State == Abandoned:
-			return nil, fault(Conflict, "%s %v is abandoned: nothing is sent any more", what(key), key)
+			return nil, fault(Conflict, "%s is abandoned: nothing is sent any more", named(e))
 		case !e.IsSent:
 			e.State, e.Since, e.Due, e.Removal = Withdrawn, now, time.Time{}, Removed
 			return &Change{Entry: e, WakeInstance: key.IsBinding}, nil
@@ -35,7 +36,7 @@ func (o *Orders) Remove(ctx context.Context, key Key, withBindings bool) (Entry,
 			case withBindings:
 				removal = RemovedWhole
 			case !allGone && e.Removal != RemovedWhole:
-				return nil, fault(Conflict, "the instance %v has bindings: remove them first, or with it", key)
+				return nil, fault(Conflict, "%s has bindings: remove them first, or with it", named(e))
 			}
 		}
 		if e.Removal < removal {
@@ -54,24 +55,33 @@ func (o *Orders) Retry(ctx context.Context, key Key) (Entry, error) {
 		e := held.Entry
 		switch {
 		case e.Rests():
-			return nil, fault(Conflict, "%s %v is %s: nothing is to be done for it", what(key), key, e.State)
+			return nil, fault(Conflict, "%s is %s: nothing is to be done for it", named(e), e.State)
 		case e.IsSent && e.Record.InFlight() != osb.KindNone && now.Before(e.Lease.Until):
-			return nil, fault(Conflict, "a request of %s %v is in flight: try again later", what(key), key)
+			return nil, fault(Conflict, "a request of %s is in flight: try again later", named(e))
 		case e.IsSent && e.Record.InFlight() != osb.KindNone: // its worker has ended
 			if err := e.giveUp(now); err != nil {
-				return nil, err
+				return nil, notRetried(e, err)
 			}
 		}
 		if e.State == CleaningPolling {
 			record, err := e.Record.Retry()
 			if err != nil {
-				return nil, err
+				return nil, notRetried(e, err)
 			}
 			e.come(now, record)
 		}
 		e.Due, e.Unchanged = now, 0
 		return &Change{Entry: e}, nil
 	})
+}
+
+// notRetried is a Fault if the record of a row doesn't allow a retry. A record that can't be read isn't the fault of
+// whoever asks.
+func notRetried(e Entry, err error) error {
+	if errors.Is(err, osb.ErrBadRecord) {
+		return fmt.Errorf("%s: %w", named(e), err)
+	}
+	return fault(Conflict, "%s can't be retried: its record is %s (%v)", named(e), StateOf(e.Record), err)
 }
 
 // Abandon ends the record as abandoned, for a reason that an operator gives. Nothing is sent any more. Nobody knows
@@ -81,15 +91,15 @@ func (o *Orders) Retry(ctx context.Context, key Key) (Entry, error) {
 // Errors: a Fault; those of the Store.
 func (o *Orders) Abandon(ctx context.Context, key Key, because string) (Entry, error) {
 	if because == "" {
-		return Entry{}, fault(Invalid, "give a reason for which %s %v is abandoned", what(key), key)
+		return Entry{}, fault(Invalid, "give a reason: whoever reads the record later sees it")
 	}
 	return o.change(ctx, key, func(now time.Time, held Held) (*Change, error) {
 		e := held.Entry
 		switch {
 		case e.State == Gone && !e.HasLast, e.State == Withdrawn, e.State == Abandoned:
-			return nil, fault(Conflict, "%s %v is %s already", what(key), key, e.State)
+			return nil, fault(Conflict, "%s is %s already", named(e), e.State)
 		case !e.IsSent:
-			return nil, fault(Conflict, "%s %v wasn't sent yet: remove it", what(key), key)
+			return nil, fault(Conflict, "%s wasn't sent yet: remove it", named(e))
 		}
 		if !key.IsBinding {
 			allGone, err := held.AllGone()
@@ -97,7 +107,7 @@ func (o *Orders) Abandon(ctx context.Context, key Key, because string) (Entry, e
 				return nil, err
 			}
 			if !allGone {
-				return nil, fault(Conflict, "a binding of the instance %v may exist: remove its bindings first", key)
+				return nil, fault(Conflict, "a binding of %s may exist: remove its bindings first", named(e))
 			}
 		}
 		e.Because = because
@@ -114,7 +124,7 @@ func (o *Orders) Abandon(ctx context.Context, key Key, because string) (Entry, e
 // Errors: a Fault if the key is unknown or not ready, or there is no vault; those of the Store and the Vault.
 func (o *Orders) Credentials(ctx context.Context, key Key) (json.RawMessage, error) {
 	if !key.IsBinding {
-		return nil, fault(Invalid, "%v is an instance: bindings have credentials", key)
+		return nil, fault(Invalid, "it is an instance: only a binding has credentials")
 	}
 	if o.vault == nil {
 		return nil, fault(Conflict, "there is no key to read credentials with: give the program the right one")
@@ -123,11 +133,18 @@ func (o *Orders) Credentials(ctx context.Context, key Key) (json.RawMessage, err
 	if err != nil {
 		return nil, unknown(key, err)
 	}
+	if e.Unreadable != "" {
+		return nil, fmt.Errorf("%s can't be read: %s", named(e), e.Unreadable)
+	}
 	if e.State != Ready {
-		return nil, fault(Conflict, "the binding %v is %s: it has credentials while it is ready", key, e.State)
+		return nil, fault(Conflict, "%s is %s: it has credentials while it is ready", named(e), e.State)
 	}
 	if e.Credentials == nil {
-		return nil, errors.New("a binding that is ready has no credentials in the store")
+		return nil, fmt.Errorf("%s is ready, and has no credentials in the store", named(e))
 	}
-	return o.vault.Open(e.Credentials, key.String())
+	object, err := o.vault.Open(e.Credentials, key.String())
+	if err != nil {
+		return nil, fmt.Errorf("the credentials of %s can't be decrypted: %w", named(e), err)
+	}
+	return object, nil
 }

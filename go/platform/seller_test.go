@@ -118,6 +118,13 @@ func (s *seller) work(key Key) *reply {
 	return s.written(key, request.Kind, answer)
 }
 
+// object is what a Bind of this key was answered with.
+func (s *seller) object(key Key) string {
+	s.mu.Lock()
+	defer s.mu.Unlock()
+	return string(s.objects[key])
+}
+
 // change has a resource exist, or not.
 func (s *seller) change(key Key, exists bool) {
 	delete(s.things, key)

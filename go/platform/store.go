@@ -44,7 +44,8 @@ type Filter struct {
 	Bindings *bool   // only bindings, or only instances
 	Prefix   string  // only rows whose number, as a GUID, begins so
 	First    *osb.ID // only the tries of this order
-	After    *Place  // only rows behind this place, in the order of State, Since, Key
+	Latest   bool    // in the opposite order
+	After    *Place  // only rows behind this place, in the order in which they are listed
 	Most     int     // as many at most; 0 for all
 }
 
@@ -77,13 +78,13 @@ type Store interface {
 
 	// Claim is one transaction over at most so many rows that are due, that nobody has leased, and whose broker is one
 	// of these, the longest due first. Rows that another transaction has locked are passed over. It calls step for
-	// each, and writes what step returns. A row whose step fails stays as it was, but is due FailedRest later, and
-	// claimed has its error.
+	// each, and writes what step returns. A row whose step fails, or that can't be read, stays as it was, but is due
+	// FailedRest later, and claimed has its error.
 	Claim(ctx context.Context, brokers []string, most int, step Step) (claimed []Claimed, err error)
 
 	// Change is one transaction over the row of a key. It may call step more than once; the last call counts.
 	//
-	// Errors: ErrUnknown, those of step.
+	// Errors: ErrUnknown; that the row, or that of a binding's instance, can't be read; those of step.
 	Change(ctx context.Context, key Key, step Step) error
 
 	// Free ends all leases of a worker that doesn't run: their rows are due at once. The caller is the Only worker of
@@ -94,10 +95,14 @@ type Store interface {
 	// is closed if the right is lost before.
 	Only(ctx context.Context, worker string) (end func(), lost <-chan struct{}, err error)
 
-	// Read returns the row of a key. Errors: ErrUnknown.
+	// HasWorkers returns whether a process has the right to be a worker, of any name.
+	HasWorkers(ctx context.Context) (bool, error)
+
+	// Read returns the row of a key, also one that can't be read (Entry.Unreadable). Errors: ErrUnknown.
 	Read(ctx context.Context, key Key) (Entry, error)
 
-	// List returns rows, in the order of State, Since, Key. Reading locks nothing.
+	// List returns rows, in the order of State, Since, Key, or with Filter.Latest in the opposite order. Reading locks
+	// nothing. A row that can't be read is one of them (Entry.Unreadable).
 	List(ctx context.Context, filter Filter) ([]Entry, error)
 
 	// Life returns the stays of a row that have ended, in their order.
@@ -106,7 +111,7 @@ type Store interface {
 	// Counts counts the rows of each broker, kind and state.
 	Counts(ctx context.Context) ([]Count, error)
 
-	// InFlight returns the rows that are leased, those of the earliest Lease.Until first.
+	// InFlight returns the rows that are leased, those of the earliest Lease.Until first, with those that can't be read.
 	InFlight(ctx context.Context, most int) ([]Entry, error)
 
 	// NextDue returns when the next row is due that nobody has leased and whose broker is one of these, and the Store's
@@ -131,6 +136,10 @@ type Store interface {
 	// Fingerprint writes a fingerprint of the key that seals secrets, if none is written yet, and returns the one that
 	// is.
 	Fingerprint(ctx context.Context, fingerprint string) (string, error)
+
+	// ReplaceFingerprint writes another fingerprint in place of the one that is written. Errors: ErrUnknown if another
+	// one is written than before, or none; nothing is written then.
+	ReplaceFingerprint(ctx context.Context, before, after string) error
 
 	// Ready returns nil if a row can be read and one can be written.
 	Ready(ctx context.Context) error

@@ -4,16 +4,19 @@ import (
 	"encoding/json"
 	"errors"
 	"net/http"
+	"strings"
 	"time"
 	"unicode/utf8"
 
 	"pippinterm/osb"
 )
 
-// The greatest lengths of what is kept of a broker's words, in bytes.
+// The greatest lengths of what is kept of a broker's words, in bytes (this project's choice). An operation has at most
+// 10,000 characters (docs/wire.md).
 const (
-	longestText = 1000
-	longestURL  = 10_000
+	longestText     = 1000 // of an error, a description, and a reason; the front is kept
+	longestURL      = 10_000
+	longestMetadata = 64 << 10
 )
 
 // A hearing is what came back of an exchange: of a Poll that a Fetch followed, the answer to the Poll and the object of
@@ -25,13 +28,13 @@ type hearing struct {
 }
 
 // taken is what is written once a request was answered, or wasn't. It is nil if nothing is to be written, because
-// another worker has given the request up, or an operator has abandoned the row.
+// another worker has given the request up, an operator has abandoned the row, or the request wasn't recorded.
 func taken(now time.Time, held Held, s sending, heard hearing) (*Change, error) {
 	e, t := held.Entry, s.terms
 	if s.isLast() {
 		return takenLast(now, e, s, heard), nil
 	}
-	if !e.IsSent || e.State == Abandoned {
+	if !e.IsSent || e.State == Abandoned || s.unsure != nil && !s.hasLeased(e) {
 		return nil, nil
 	}
 	record, err := e.answered(s, heard)
@@ -82,16 +85,24 @@ func (e *Entry) keep(heard hearing, s sending) {
 		return
 	}
 	if isPolled(e.State) && s.out.Request.Kind != osb.KindPoll {
-		e.Operation = heard.Operation
+		e.Operation = storable(heard.Operation)
 	}
 	if s.out.Request.Kind == osb.KindProvision {
-		if url := heard.Details.DashboardURL; url != nil && len(*url) <= longestURL {
+		if url := storable(heard.Details.DashboardURL); url != nil && len(*url) <= longestURL {
 			e.Dashboard = *url
 		}
 	}
-	if heard.Metadata != nil {
+	if heard.Metadata != nil && len(heard.Metadata) <= longestMetadata {
 		e.Metadata = append(json.RawMessage(nil), heard.Metadata...)
 	}
+}
+
+// storable is a text that counts as it is or not at all, or nil if it has a NUL: not every database can keep that.
+func storable(text *string) *string {
+	if text == nil || strings.Contains(*text, "\x00") {
+		return nil
+	}
+	return text
 }
 
 // isFailedCreation is whether a creation has failed by what was answered.
@@ -203,8 +214,7 @@ func judgeLast(in Incoming) (shown aftermath, isOver bool) {
 
 // takenLast is what is written after a last deletion, or nil if another worker has leased the row since.
 func takenLast(now time.Time, e Entry, s sending, heard hearing) *Change {
-	lease := s.out.Entry.Lease
-	if e.State != Gone || e.Lease.Worker != lease.Worker || !e.Lease.Until.Equal(lease.Until) {
+	if e.State != Gone || !s.hasLeased(e) {
 		return nil
 	}
 	e.Lease, e.Last = Lease{}, reasonOf(now, heard)
@@ -225,8 +235,11 @@ func reasonOf(now time.Time, heard hearing) Reason {
 		At: now, Kind: heard.kind, Status: heard.Status,
 		Error: textOf(heard.Details.Error), Description: textOf(heard.Details.Description),
 	}
-	if heard.Lost != nil {
+	switch {
+	case heard.Lost != nil:
 		reason.Lost = atMost(heard.Lost.Error())
+	case heard.Status >= 200 && heard.Status <= 202 && heard.Answer.Body == osb.BodyMalformed:
+		reason.Lost = "its body can't be read"
 	}
 	return reason
 }
@@ -249,3 +262,18 @@ func atMost(text string) string {
 	}
 	return text[:end]
 }
+
+// brief is an error whose text isn't longer than is kept, or nil: a broker may have written a part of it, such as the
+// names in its certificate. What the error wraps is still found in it.
+func brief(err error) error {
+	if err == nil || len(err.Error()) <= longestText {
+		return err
+	}
+	return briefError{err}
+}
+
+type briefError struct{ whole error }
+
+func (e briefError) Error() string { return atMost(e.whole.Error()) }
+
+func (e briefError) Unwrap() error { return e.whole }

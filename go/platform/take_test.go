@@ -1,10 +1,7 @@
 package platform
 
 import (
-	"encoding/json"
 	"errors"
-	"fmt"
-	"strings"
 	"testing"
 	"time"
 
@@ -163,31 +160,6 @@ func TestTakenLost(t *testing.T) {
 	}
 }
 
-// A binding is ready only with its credentials, and a 202 to a Bind is cleaned up if nobody can fetch them.
-func TestTakenCredentials(t *testing.T) {
-	try := tried(t, rowIn(aBinding, Polling), plain())
-	succeeded := try.heard(200, `{"state": "succeeded"}`)
-	if e := try.taken(t, succeeded).Entry; e.State != Polling || e.Credentials != nil {
-		t.Errorf("without a Fetch: %s, %q", e.State, e.Credentials)
-	}
-	succeeded.sealed = []byte("those of the Fetch")
-	if e := try.taken(t, succeeded).Entry; e.State != Ready || string(e.Credentials) != "those of the Fetch" {
-		t.Errorf("with a Fetch: %s, %q", e.State, e.Credentials)
-	}
-	try = tried(t, rowIn(aBinding, Ordered), plain())
-	created := try.heard(201, `{"credentials": {}}`)
-	created.sealed = nil
-	if e := try.taken(t, created).Entry; e.State != Cleaning {
-		t.Errorf("a 201 whose credentials can't be sealed: %s", e.State)
-	}
-	unfetchable := plain()
-	unfetchable.isRetrievable = false
-	try = tried(t, rowIn(aBinding, Ordered), unfetchable)
-	if e := try.taken(t, try.heard(202, `{}`)).Entry; e.State != Cleaning {
-		t.Errorf("a 202 whose credentials can't be fetched: %s", e.State)
-	}
-}
-
 // Nothing is written of a request that another worker has given up, or of a row that was abandoned.
 func TestTakenByAnother(t *testing.T) {
 	try := tried(t, rowIn(anInstance, Ordered), plain())
@@ -199,6 +171,25 @@ func TestTakenByAnother(t *testing.T) {
 	} {
 		if change, err := taken(at(102), Held{Entry: row}, try.sent, heard); change != nil || err != nil {
 			t.Errorf("%s: %v, %v", name, change, err)
+		}
+	}
+}
+
+// A request that was perhaps never recorded is given up. If it wasn't, another worker may have sent one of the same
+// number, and nothing is written.
+func TestTakenInDoubt(t *testing.T) {
+	try := tried(t, rowIn(anInstance, Ordered), plain())
+	try.sent.unsure = errors.New("the connection broke")
+	lost := hearing{kind: "provision", Incoming: Incoming{Lost: errUnsure}}
+	if e := try.taken(t, lost).Entry; e.State != Cleaning || e.Lease != (Lease{}) {
+		t.Errorf("got %s, %v", e.State, e.Lease)
+	}
+	for _, lease := range []Lease{
+		{}, {"other", try.row.Lease.Until}, {"one", try.row.Lease.Until.Add(time.Millisecond)},
+	} {
+		row := with(try.row, func(e *Entry) { e.Lease = lease })
+		if change, err := taken(at(12), Held{Entry: row}, try.sent, lost); change != nil || err != nil {
+			t.Errorf("leased by %v: %v, %v", lease, change, err)
 		}
 	}
 }
@@ -225,99 +216,6 @@ func TestTakenAndRemoved(t *testing.T) {
 	}
 }
 
-// The next try is ordered with the end of one that has failed for a passing reason.
-func TestNextTry(t *testing.T) {
-	failed := func(change func(*Entry)) Entry {
-		e := rowIn(anInstance, Cleaning)
-		e.Passing, e.Failure, e.Names.Instance = true, Reason{At: at(5), Kind: "provision", Status: 503}, "a name"
-		e.Body = json.RawMessage(`{"parameters": {}}`)
-		change(&e)
-		return e
-	}
-	for _, it := range []struct {
-		name string
-		row  Entry
-		due  int // in seconds after the end, or rest if there is none
-	}{
-		{"after the first", failed(func(*Entry) {}), 2},
-		{"after the second", failed(func(e *Entry) { e.Try = 2 }), 4},
-		{"after the last", failed(func(e *Entry) { e.Try = 3 }), rest},
-		{"of one", failed(func(e *Entry) { e.Tries = 1 }), rest},
-		{"removed", failed(removed), rest},
-		{"not passing", failed(func(e *Entry) { e.Passing = false }), rest},
-		{"Retry-After", failed(func(e *Entry) { e.After = 50 * time.Second }), 5 + 50 - 11},
-		{"a long Retry-After", failed(func(e *Entry) { e.After = 50 * time.Hour }), 5 + 3600 - 11},
-		{"under a chosen id", failed(chosenID), 2},
-	} {
-		t.Run(it.name, func(t *testing.T) {
-			try := tried(t, it.row, plain())
-			next := try.taken(t, try.heard(410, `{}`)).Next
-			if it.due == rest || next == nil {
-				if it.due != rest || next != nil {
-					t.Errorf("got %+v", next)
-				}
-				return
-			}
-			want := it.row.Order
-			want.Key, want.Names.Instance, want.IsOwnID = InstanceKey(id("99")), id("99").String(), true
-			want.Try++
-			if fmt.Sprint(next.Order) != fmt.Sprint(want) {
-				t.Errorf("got %+v, want %+v", next.Order, want)
-			}
-			if next.State != Ordered || next.IsSent || !next.Due.Equal(at(11+it.due)) {
-				t.Errorf("got %s, due %v", next.State, next.Due)
-			}
-		})
-	}
-}
-
-// A creation that is refused for a passing reason and leaves nothing behind is ordered again at once.
-func TestNextTryOfUnsettled(t *testing.T) {
-	row := with(rowIn(anInstance, Unsettled), func(e *Entry) { e.Passing = true })
-	try := tried(t, row, plain())
-	if next := try.taken(t, try.heard(200, `{}`)).Next; next == nil {
-		t.Error("there is no next try")
-	}
-	binding := with(rowIn(aBinding, Cleaning), func(e *Entry) { e.Passing = true })
-	try = tried(t, binding, plain())
-	if next := try.taken(t, try.heard(200, `{}`)).Next; next != nil {
-		t.Error("a binding isn't tried again")
-	}
-}
-
-// What a broker says of a pace, an operation, a dashboard and metadata is kept.
-func TestTakenKept(t *testing.T) {
-	try := tried(t, rowIn(anInstance, Ordered), plain())
-	heard := try.heard(202, `{"operation": "task 1", "dashboard_url": "https://d.example", "metadata": {"labels": {}}}`)
-	heard.RetryAfter = 70 * time.Second
-	e := try.taken(t, heard).Entry
-	if e.Operation == nil || *e.Operation != "task 1" || e.Dashboard != "https://d.example" || e.Metadata == nil {
-		t.Errorf("got %+v", e)
-	}
-	if !e.Due.Equal(at(11+70)) || !e.PolledSince.Equal(at(11)) {
-		t.Errorf("due %v, polled since %v", e.Due, e.PolledSince)
-	}
-	polled := tried(t, with(e, func(e *Entry) { e.Due = at(9) }), plain())
-	kept := polled.taken(t, polled.heard(200, `{"state": "in progress", "operation": "task 2"}`)).Entry
-	if *kept.Operation != "task 1" || kept.Dashboard != "https://d.example" || !kept.PolledSince.Equal(at(11)) {
-		t.Errorf("got %+v", kept)
-	}
-	if done := polled.taken(t, polled.heard(200, `{"state": "succeeded"}`)).Entry; done.Operation != nil {
-		t.Errorf("the operation is over: %q", *done.Operation)
-	}
-}
-
-// A long Retry-After counts for an hour, and a long description for its front.
-func TestTakenBounds(t *testing.T) {
-	try := tried(t, rowIn(anInstance, Cleaning), plain())
-	heard := try.heard(500, `{"error": "E", "description": "`+strings.Repeat("é", 2000)+`"}`)
-	heard.RetryAfter = 1000 * time.Hour
-	e := try.taken(t, heard).Entry
-	if !e.Due.Equal(at(11+3600)) || e.Last.Description != strings.Repeat("é", 500) || e.Last.Error != "E" {
-		t.Errorf("due %v, %d bytes of %q", e.Due, len(e.Last.Description), e.Last.Error)
-	}
-}
-
 // A deletion is due once the hold is over, and polling ends at the time for which it may go on.
 func TestTakenDue(t *testing.T) {
 	try := tried(t, rowIn(anInstance, Ordered), held())
@@ -339,71 +237,6 @@ func TestTakenDue(t *testing.T) {
 		if e := try.taken(t, try.heard(500, `{}`)).Entry; !e.Due.Equal(at(11 + want)) {
 			t.Errorf("after %d: due %v", unchanged, e.Due)
 		}
-	}
-}
-
-// At a broker without tombstones, one deletion more is due after the end: once the hold has passed again.
-func TestTakenHasLast(t *testing.T) {
-	for _, key := range []Key{anInstance, aBinding} {
-		row := with(rowIn(key, Cleaning), func(e *Entry) { e.SentUntil = at(-1000) })
-		try := tried(t, row, held())
-		if e := try.taken(t, try.heard(410, `{}`)).Entry; !e.HasLast || !e.Due.Equal(at(11+300)) {
-			t.Errorf("%v: %v, due %v", key, e.HasLast, e.Due)
-		}
-		try = tried(t, rowIn(key, Ordered), held()) // it may leave until 60 seconds later
-		if e := try.taken(t, try.heard(400, `{}`)).Entry; !e.HasLast || !e.Due.Equal(at(10+60+300)) {
-			t.Errorf("%v: %v, due %v", key, e.HasLast, e.Due)
-		}
-		try = tried(t, row, plain())
-		if e := try.taken(t, try.heard(410, `{}`)).Entry; e.HasLast || !e.Rests() {
-			t.Errorf("%v: at a broker with tombstones: %v, due %v", key, e.HasLast, e.Due)
-		}
-	}
-}
-
-// longGone is a row whose last deletion is due.
-func longGone(key Key) Entry {
-	return with(rowIn(key, Gone), func(e *Entry) { e.HasLast, e.SentUntil, e.Since = true, at(-1000), at(-900) })
-}
-
-// The table of docs/platform-guide.md about the answer to the last deletion.
-func TestTakenLast(t *testing.T) {
-	const none, found, unsure = nothingLeft, orphanFound, orphanUnknown
-	type verdict struct {
-		shown  aftermath
-		isOver bool
-	}
-	want := map[int]verdict{
-		410: {none, true}, 200: {found, true}, 202: {found, false}, 422: {none, false}, 500: {none, false},
-		503: {none, false}, 302: {none, false}, 204: {none, false}, 201: {none, false}, 400: {unsure, true},
-		402: {unsure, true}, 409: {unsure, true}, 411: {unsure, true}, 418: {unsure, true}, 499: {unsure, true},
-	}
-	for _, status := range []int{401, 403, 404, 405, 407, 408, 412, 413, 414, 415, 429, 431} {
-		want[status] = verdict{unsure, false}
-	}
-	for _, key := range []Key{anInstance, aBinding} {
-		for status, want := range want {
-			row := longGone(key)
-			try := tried(t, row, held())
-			heard := try.heard(status, `{}`)
-			shown, isOver := judgeLast(heard.Incoming)
-			e := try.taken(t, heard).Entry
-			if shown != want.shown || isOver != want.isOver || e.HasLast == want.isOver || e.Rests() != want.isOver {
-				t.Errorf("%d: got %v, %v, %v, due %v; want %v", status, shown, isOver, e.HasLast, e.Due, want)
-			}
-			if e.State != Gone || e.Record != row.Record || e.Since != row.Since || e.Last.Status != status {
-				t.Errorf("%d: the record changes to %s: %v", status, e.State, e.Record)
-			}
-		}
-	}
-	try := tried(t, longGone(anInstance), held())
-	lost := hearing{Incoming: Incoming{Lost: errors.New("cut")}}
-	if e := try.taken(t, lost).Entry; !e.HasLast || !e.Due.Equal(at(11+4)) {
-		t.Errorf("no answer: %v, due %v", e.HasLast, e.Due)
-	}
-	try.row.Lease.Until = try.row.Lease.Until.Add(time.Second)
-	if change := try.taken(t, try.heard(410, `{}`)); change != nil {
-		t.Errorf("another worker has leased it: %v", change)
 	}
 }
 

@@ -44,6 +44,9 @@ func Unavailable(err error) error { return statusOf(err, StatusUnavailable) }
 // Run is stricter than cobra: a command whose Args are nil takes no arguments, and a command that has only subcommands
 // is an error. For this Run changes root and its subcommands, so use them for one Run.
 //
+// The process leaves no core dump, and no other process of its account can read its memory or its environment
+// (PR_SET_DUMPABLE): they have passwords and keys.
+//
 // Until Run returns, a write to a standard output or standard error whose reader has gone returns an error. It doesn't
 // end the process. If the reader of the standard error is slow, Run waits for it for a second.
 func Run(ctx context.Context, root *cobra.Command) (status int) {
@@ -56,6 +59,10 @@ func Run(ctx context.Context, root *cobra.Command) (status int) {
 			status = StatusFailed
 		}
 	}()
+	if err := hideMemory(); err != nil {
+		report(root, err.Error())
+		return StatusFailed
+	}
 	prepare(root)
 	root.SilenceErrors, root.SilenceUsage, root.DisableSuggestions = true, true, true
 	called, err := root.ExecuteContextC(ctx)

@@ -3,6 +3,7 @@ import os
 import sys
 
 from osb_replay_log import signals
+from osb_replay_log.faults import shown
 
 
 def _run() -> int:
@@ -28,7 +29,7 @@ def _open_all() -> None:
 
 
 def _refuse(status: int, said: str) -> int:
-    print(f"osb-replay-log: {said}", file=sys.stderr)
+    print(f"osb-replay-log: {shown(said)}", file=sys.stderr)
     return status
 
 

@@ -8,12 +8,11 @@ import sys
 import tempfile
 import time
 from contextlib import ExitStack, closing
-from pathlib import Path
 
-from osb_replay_log import divided, reports, signals, words, work
+from osb_replay_log import divided, reports, schedulers, signals, words, work
 from osb_replay_log.dask_engine import Dask, Missing
 from osb_replay_log.engines import Engine, Processes
-from osb_replay_log.faults import NO_MEMORY, REFUSED_WORDS, UNABLE, UNREAD, UNWRITTEN, Unreplayed, unwritten
+from osb_replay_log.faults import NO_MEMORY, REFUSED_WORDS, UNABLE, UNREAD, UNWRITTEN, Unreplayed, shown, unwritten
 from osb_replay_log.logs import Log, from_paths
 from osb_replay_log.program import Program, built
 from osb_replay_log.progress import Progress
@@ -36,7 +35,7 @@ def run(given: list[str]) -> int:
 
 
 def _refuse(status: int, said: str) -> int:
-    print(f"{words.PROGRAM}: {said}", file=sys.stderr)
+    print(f"{words.PROGRAM}: {shown(said)}", file=sys.stderr)
     return status
 
 
@@ -56,7 +55,7 @@ def _split(asked: argparse.Namespace) -> None:
     with ExitStack() as stack:
         try:
             if os.stat(room).st_dev != os.stat(asked.parts).st_dev:
-                raise Unreplayed(REFUSED_WORDS, f"{room}: it isn't on the file system of {asked.parts}")
+                raise Unreplayed(REFUSED_WORDS, f"{room}: pass a --room on the same file system as {asked.parts}")
             done, logs, _ = _work(asked, stack, (), room, False)
             divided.write(asked.parts, logs, done)
         except OSError as error:
@@ -74,7 +73,8 @@ def _merge(asked: argparse.Namespace) -> None:
         for number, report in enumerate(found, 1):
             if asked.saved and not report.has_record:
                 raise Unreplayed(UNREAD, f"{its.file(number, 'report')}: it has no saved record")
-        _write(found, its.restarts, asked.saved, _room(stack, asked.room) if its.parts > reports.MOST_OPEN else "")
+        room = _room(stack, asked.room) if its.parts > reports.MOST_OPEN else ""
+        _write(found, its.restarts, asked.saved, Room(room))
 
 
 def _has_output() -> None:
@@ -113,11 +113,12 @@ def _hush() -> None:
 
 def _work(
     asked: argparse.Namespace, stack: ExitStack, options: tuple[str, ...], room: str | None, is_replayed: bool
-) -> tuple[work.Outcome, tuple[Log, ...], str]:
+) -> tuple[work.Outcome, tuple[Log, ...], Room]:
     logs = tuple(from_paths(asked.logs))
     with signals.raised():
         program, progress = Program(built(), options), Progress()
     folder = _room(stack, room)
+    its = Room(folder, asked.room_limit)
     os.chdir("/")  # workers look for modules in their current folder, before Python 3.11
     _hush()
     engine = stack.enter_context(closing(_engine(asked, folder)))
@@ -126,34 +127,32 @@ def _work(
     stack.callback(progress.end)
     with signals.raised():
         try:
-            done = work.do(
-                work.Work(logs, program, Room(folder), asked.part_lines, chunk, progress), engine, is_replayed
-            )
+            done = work.do(work.Work(logs, program, its, asked.part_lines, chunk, progress), engine, is_replayed)
         except OSError as error:
             raise unwritten(folder, error) from error
     progress.end()
-    return done, logs, folder
+    return done, logs, its
 
 
 def _engine(asked: argparse.Namespace, folder: str) -> Engine:
-    if asked.engine == "processes" and asked.scheduler is None:
+    if asked.engine == "processes":
         return Processes(asked.workers)
     try:
-        return Dask(asked.scheduler, asked.workers, folder)
-    except Missing:
+        return Dask(schedulers.named(asked), asked.workers, folder, asked.insecure)
+    except Missing as missing:
+        install = f"apt-get install {missing.package}"
         if asked.engine == "dask" or asked.scheduler is not None:
-            raise Unreplayed(UNABLE, "Dask isn't installed: apt-get install python3-distributed") from None
+            raise Unreplayed(UNABLE, f"{missing.what}. Run {install}{missing.otherwise}") from None
         print(
-            f"{words.PROGRAM}: Dask isn't installed (apt-get install python3-distributed): the parts are replayed by "
-            "processes of this machine",
+            f"{words.PROGRAM}: {missing.what}, so processes of this machine replay the parts. To use Dask: {install}",
             file=sys.stderr,
         )
         return Processes(asked.workers)
 
 
-def _write(found: list[reports.Report], restarts: int, is_saved: bool, room: str) -> None:
+def _write(found: list[reports.Report], restarts: int, is_saved: bool, room: Room) -> None:
     try:
         with open(sys.stdout.fileno(), "wb", closefd=False) as out:
-            reports.write(found, restarts, is_saved, Path(room), out)
+            reports.write(found, restarts, is_saved, room, out)
     except OSError as error:
         raise Unreplayed(UNWRITTEN, "write failed") from error

@@ -16,49 +16,69 @@ from typing import Any, Callable, Iterable, Iterator
 from osb_replay_log import signals
 from osb_replay_log.engines import SECONDS, Given, Result
 from osb_replay_log.faults import UNABLE, Unreplayed, reason
+from osb_replay_log.schedulers import Scheduler
 
 _SECONDS, _SECONDS_TO_REACH = 30, 10
 _HERE = "127.0.0.1"
-"""Nobody elsewhere reaches the scheduler, the workers, or what these tell of themselves."""
+"""Nobody elsewhere reaches the scheduler and the workers."""
+_NO_PAGES: dict[str, list[str]] = {f"distributed.{it}.http.routes": [] for it in ("scheduler", "worker")}
+"""Settings without which every account of this machine can read what a scheduler and its workers tell of themselves."""
 _TIMEOUTS = (TimeoutError, asyncio.TimeoutError)  # one, from Python 3.11 on
 
 
 class Missing(Exception):
-    """Dask isn't installed."""
+    """Dask can't be used because a package isn't installed: what happened, and what to do."""
+
+    def __init__(self, what: str, package: str, otherwise: str = "") -> None:
+        super().__init__(what, package, otherwise)
+        self.what, self.package, self.otherwise = what, package, otherwise
 
 
 class Dask:
-    """Workers of a scheduler: of the one at the address, or of one that is started here, with so many, which leave what
-    they have to in the folder.
+    """Workers of a scheduler that runs already, or of one that is started here with so many workers, whose files are in
+    the folder. Between these there is TLS, or if `is_insecure` perhaps none. Raises `Missing` if Dask isn't installed,
+    or can't have TLS.
     """
 
-    def __init__(self, address: str | None, workers: int, folder: str, seconds: int = _SECONDS_TO_REACH) -> None:
+    def __init__(
+        self,
+        scheduler: Scheduler | None,
+        workers: int,
+        folder: str,
+        is_insecure: bool = False,
+        seconds: int = _SECONDS_TO_REACH,
+    ) -> None:
         try:
             import distributed
         except ImportError as error:
-            raise Missing() from error
+            raise Missing("Dask isn't installed", "python3-distributed") from error
         for name in ("distributed", "tornado", "asyncio"):
             logging.getLogger(name).setLevel(logging.CRITICAL)  # of each worker that dies they tell at length
         self._distributed, self._own = distributed, 0
         self._cluster: Any = None
         self._client: Any = None
+        security = _of_this_run(distributed, is_insecure) if scheduler is None else _given(distributed, scheduler)
         try:
-            if address is None:
-                with signals.held(), signals.kept_from_workers():
-                    self._start(workers, folder)
+            if scheduler is None:
+                with signals.held(), signals.kept_from_workers(), distributed.dask.config.set(_NO_PAGES):
+                    self._start(workers, folder, security)
             else:
                 with signals.raised():
-                    self._client = _client(distributed)(address, timeout=seconds, set_as_default=False)
+                    self._client = _client(distributed)(
+                        scheduler.address, timeout=seconds, set_as_default=False, security=security
+                    )
                     self._send()
         except Exception as error:  # whatever it raises, it can't be had
             self.close()
-            what = "Dask can't be started" if address is None else f"the scheduler {address} can't be reached"
+            what = "Dask can't be started"
+            if scheduler is not None:
+                what = f"the scheduler {scheduler.address} can't be reached"
             raise Unreplayed(UNABLE, f"{what}: {reason(error)}") from error
         except BaseException:
             self.close()
             raise
 
-    def _start(self, workers: int, folder: str, seconds: int = _SECONDS_TO_REACH) -> None:
+    def _start(self, workers: int, folder: str, security: Any) -> None:
         """Starts the workers. One that dies while it starts isn't replaced, and is done without."""
         distributed = self._distributed
         multiprocessing.get_context("spawn").Lock()  # a worker has some: where there can't be one, Dask tells no reason
@@ -68,7 +88,7 @@ class Dask:
             processes=True,
             memory_limit=0,
             host=_HERE,
-            security=_keys(distributed),
+            security=security,
             dashboard_address=None,
             scheduler_kwargs={"dashboard_address": f"{_HERE}:0"},
             worker_dashboard_address=f"{_HERE}:0",
@@ -155,11 +175,28 @@ def _client(distributed: Any) -> Any:
     return type("Client", (distributed.Client,), {"__del__": lambda _self: None})
 
 
-def _keys(distributed: Any) -> Any:
-    """TLS with keys made for this run, where python3-cryptography is installed: else whoever has an account on this
-    machine could have the workers do something.
+def _of_this_run(distributed: Any, is_insecure: bool) -> Any:
+    """TLS with keys that are made for this run. Without it, every account of this machine could have the workers run
+    a program, so there is none only if `is_insecure`.
     """
     try:
         return distributed.security.Security.temporary()
-    except ImportError:
+    except ImportError as error:
+        if is_insecure:
+            return None
+        raise Missing(
+            "Dask would run without TLS, because python3-cryptography isn't installed",
+            "python3-cryptography",
+            ", or pass --engine processes. Without TLS, every account of this machine can run programs as you. If you "
+            "accept that, pass --engine dask --insecure",
+        ) from error
+
+
+def _given(distributed: Any, scheduler: Scheduler) -> Any:
+    """TLS with the scheduler's files, and no connection without it; None, which is no TLS, if it has no files."""
+    if scheduler.tls is None:
         return None
+    ca, cert, key = scheduler.tls
+    return distributed.security.Security(
+        require_encryption=True, tls_ca_file=ca, tls_client_cert=cert, tls_client_key=key
+    )

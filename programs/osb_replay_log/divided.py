@@ -45,7 +45,7 @@ def begin(folder: str) -> None:
     try:
         os.makedirs(folder, exist_ok=True)
         if os.listdir(folder):
-            raise Unreplayed(REFUSED_WORDS, f"{folder}: there is something in it")
+            raise Unreplayed(REFUSED_WORDS, f"{folder}: the folder isn't empty: pass a new one, or an empty one")
     except OSError as error:
         raise Unreplayed(REFUSED_WORDS, f"{folder}: it can't be used: {reason(error)}") from error
 
@@ -116,7 +116,7 @@ def faults(divided: Divided) -> list[Faulty]:
     told = [it for it in (_fault(divided, number) for number in range(1, divided.parts + 1)) if it is not None]
     for log in divided.logs if told else ():
         if found(log.path) != log:
-            raise Unreplayed(UNREAD, f"{log.path}: it has changed since it was parted")
+            raise Unreplayed(UNREAD, f"{log.path}: it has changed since it was split")
     return told
 
 

@@ -61,7 +61,7 @@ class Processes:
             except BrokenProcessPool:
                 deaths += 1
                 if deaths > MOST_DEATHS:
-                    raise Unreplayed(UNABLE, f"workers died {deaths} times in turn") from None
+                    raise Unreplayed(UNABLE, f"workers died {deaths} times, with no task finished in between") from None
                 again += running.values()
                 running.clear()
                 self.close()

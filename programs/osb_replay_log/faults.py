@@ -23,6 +23,15 @@ def unwritten(path: str, error: object) -> Unreplayed:
     return Unreplayed(UNWRITTEN, f"{path}: write failed: {reason(error)}")
 
 
+def shown(text: str) -> str:
+    """The text for a terminal, on one line. Each character that isn't printable is escaped, as in `\\x1b` or `\\u202e`.
+
+    A log and the names of files have what others have written. So their control characters, those that change the
+    direction of a text, and line feeds don't reach the terminal.
+    """
+    return "".join(it if it.isprintable() else it.encode("unicode_escape").decode() for it in text)
+
+
 def reason(error: object) -> str:
     """An error in a word, without the path that stands before it."""
     said = error.strerror if isinstance(error, OSError) else None

@@ -37,7 +37,7 @@ def head_of(logs: Sequence[Log], most: int, chunk: int) -> Head:
                         plans.append(text)
                         places.append(Place(log.path, line))
                     if len(plans) > most:
-                        raise Unreplayed(FAULTY, f"{log.path}: its plans are more than the {most} lines of a part")
+                        raise Unreplayed(FAULTY, f"{log.path}: it has more plans than the {most} lines of a part")
     return Head(tuple(plans), tuple(places), len(logs), 0)
 
 

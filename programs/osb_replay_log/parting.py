@@ -12,6 +12,7 @@ from osb_replay_log.lines import EVENTS, ID_SIZE, LONGEST, Kind, blocks, kind_of
 from osb_replay_log.logs import Stretch, pieces
 from osb_replay_log.spool import Room
 
+_RESTART = b"restart"
 _MOST_COPIES = 1 << 20
 """How many restarts one spool file has, those of all buckets together, before another one is begun."""
 
@@ -81,7 +82,7 @@ def part_lines(lines: Iterator[bytes], buckets: list[list[bytes]]) -> tuple[int,
         if kind is Kind.RESTART:
             restarts += 1
             for put in puts:
-                put(line)
+                put(_RESTART)  # without its blanks, of which there may be hundreds
             if restarts * many >= _MOST_COPIES:
                 return restarts, End.FULL
         elif kind is not Kind.SILENT:

@@ -90,7 +90,7 @@ def finish(bucket: Bucket) -> Done:
             groups = split_again(found, bucket.most - bucket.plans - bucket.restarts)
             if isinstance(groups, Large):
                 return Done(large=groups)
-            return _finish_parts(bucket, _written(found, groups, Path(folder)), events)
+            return _finish_parts(bucket, _written(found, groups, bucket.room, Path(folder)), events)
     except OSError as error:
         raise unwritten(bucket.room.folder, error) from error
 
@@ -109,6 +109,7 @@ def _finish_parts(bucket: Bucket, parts: Iterable[Sequence[Share]], events: int)
             if fault is not None:
                 faulty.append(faulty_line(part.lines(), fault.line - bucket.plans, fault.name))
         os.replace(new, path)
+        bucket.room.take()
         files.append(str(path))
     return Done(tuple(files), tuple(faulty), events=events)
 
@@ -137,7 +138,7 @@ def split_again(found: Iterable[Share], most: int) -> dict[bytes, int] | Large:
     return groups
 
 
-def _written(found: Iterable[Share], groups: dict[bytes, int], folder: Path) -> Iterator[list[Share]]:
+def _written(found: Iterable[Share], groups: dict[bytes, int], room: Room, folder: Path) -> Iterator[list[Share]]:
     """The bucket's lines, parted by these groups: restarts to all."""
     many = max(groups.values()) + 1
     sizes = [0] * many
@@ -147,6 +148,7 @@ def _written(found: Iterable[Share], groups: dict[bytes, int], folder: Path) -> 
             name = name_in(line)
             for group in range(many) if name is None else (groups[name],):
                 texts[group].append(line + b"\n")
+        room.take(sum(len(line) for text in texts for line in text))
         for group, text in enumerate(texts):
             with open(folder / str(group), "ab") as file:
                 file.writelines(text)

@@ -25,11 +25,11 @@ def first_fault(logs: Sequence[Log], found: Sequence[Faulty], judge: Judge, chun
             if is_behind and kind_of(it.text) in (Kind.ODD, Kind.PLAN):
                 fault = judge(it.text[: LONGEST + 1])
                 if fault is None:
-                    return Unreplayed(UNABLE, f"{logs[it.log].path}: line {it.line}: it isn't known what it is")
+                    return Unreplayed(UNABLE, f"{logs[it.log].path}: line {it.line}: osb-replay finds no fault in it")
         elif name in wanted:
             counts[name] += 1
             if counts[name] == wanted[name][0]:
                 fault = wanted[name][1]
         if fault is not None:
             return Unreplayed(FAULTY, f"{logs[it.log].path}: line {it.line}: {fault}")
-    return Unreplayed(UNABLE, "a fault was told that isn't there any more: the log has changed meanwhile")
+    return Unreplayed(UNABLE, "a part has a fault that isn't in the log: the log has changed during the replay")

@@ -3,10 +3,10 @@ from __future__ import annotations
 
 import os
 from bisect import bisect_right
-from pathlib import Path
 from typing import BinaryIO, Iterator, NamedTuple, Sequence
 
 from osb_replay_log.faults import UNREAD, Unreplayed
+from osb_replay_log.spool import Room
 
 MOST_OPEN = 200
 """How many reports are merged at once."""
@@ -43,7 +43,7 @@ def report_in(path: str) -> Report:
             applied = _line_before(file, skipped)
             counts = _head(file, applied, record if has_record else end).split(b"\n")
             if not _is_whole(file, counts, record, end if has_record else -1):
-                raise Unreplayed(UNREAD, f"{path}: it is no whole report")
+                raise Unreplayed(UNREAD, f"{path}: it isn't a complete report")
     except OSError as error:
         raise Unreplayed(UNREAD, f"{path}: read failed: {error.strerror}") from error
     begin, last = record + len(_RECORD), end - len(_RECORD_END) - 1
@@ -128,18 +128,19 @@ def merged(parts: Sequence[Bytes], separator: bytes) -> Iterator[list[bytes]]:
             run.close()
 
 
-def stepped(parts: Sequence[Bytes], separator: bytes, folder: Path) -> list[Bytes]:
+def stepped(parts: Sequence[Bytes], separator: bytes, room: Room) -> list[Bytes]:
     """The same items in few enough files: too many are merged into some of this folder."""
     step = 0
     while len(parts) > MOST_OPEN:
         step, files = step + 1, []
         for at in range(0, len(parts), MOST_OPEN):
-            path = folder / f"merged-{separator.hex()}-{step}-{at}"
+            path = room.file(f"merged-{separator.hex()}-{step}-{at}")
             with open(path, "wb") as file:
                 first = True
                 for block in merged(parts[at : at + MOST_OPEN], separator):
                     file.write((b"" if first else separator) + separator.join(block))
                     first = False
+            room.take()
             files.append(Bytes(str(path), 0, path.stat().st_size))
         parts = files
     return list(parts)
@@ -153,7 +154,7 @@ def _ascending(last: bytes, block: Sequence[bytes], reports: Sequence[Report]) -
         raise Unreplayed(
             UNREAD,
             f"{_last_with(twice, reports)}: it isn't of this log, or another report isn't: "
-            f"instance {twice.decode(errors='replace')} stands there twice, or in the wrong place",
+            f"instance {twice.decode(errors='backslashreplace')} is there twice, or in the wrong place",
         )
     return ids[-1]
 
@@ -166,10 +167,14 @@ def _last_with(name: bytes, reports: Sequence[Report]) -> str:
     return "a report"
 
 
-def write(reports: Sequence[Report], restarts: int, is_saved: bool, folder: Path, out: BinaryIO) -> None:
-    """Writes the report of the whole. Each part has all restarts in it, which are counted once."""
+def write(reports: Sequence[Report], restarts: int, is_saved: bool, room: Room, out: BinaryIO) -> None:
+    """Writes the report of the whole. Each part has all restarts in it, which are counted once. If merging many reports
+    needs more than the room may have, nothing is written.
+    """
+    lines = stepped([it.lines for it in reports], b"\n", room)
+    members = stepped([it.members for it in reports], b"},", room) if is_saved else []
     last = b""
-    for block in merged(stepped([it.lines for it in reports], b"\n", folder), b"\n"):
+    for block in merged(lines, b"\n"):
         last = _ascending(last, block, reports)
         out.write(b"\n".join(block) + b"\n")
     applied = sum(it.applied for it in reports) - restarts * (len(reports) - 1)
@@ -178,7 +183,7 @@ def write(reports: Sequence[Report], restarts: int, is_saved: bool, folder: Path
         end = b"}"
         out.write(_RECORD)
         separator = b""
-        for block in merged(stepped([it.members for it in reports], b"},", folder), b"},"):
+        for block in merged(members, b"},"):
             out.write(separator + b"},".join(block))
             separator = b"},"
         out.write((end if separator else b"") + _RECORD_END + b"\n")

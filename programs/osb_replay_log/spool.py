@@ -1,11 +1,14 @@
 """The spool: a file for each piece of a log, in which its lines stand by buckets, and those of each in their order."""
 from __future__ import annotations
 
+import contextlib
 import os
 import tempfile
 from pathlib import Path
 from struct import Struct
 from typing import Iterator, NamedTuple, Sequence
+
+from osb_replay_log.faults import UNWRITTEN, Unreplayed
 
 _ENTRY = Struct("<QQ")
 """Of each bucket, and of what follows the last one: where it begins, and the count of its lines."""
@@ -15,6 +18,8 @@ class Room(NamedTuple):
     """The folder in which workers leave what others go on with. A file has its name only once it is whole."""
 
     folder: str
+    limit: int | None = None
+    """How many bytes its files may have together."""
 
     def piece(self, stretch: int, piece: int) -> Path:
         """The spool file of a piece."""
@@ -30,6 +35,28 @@ class Room(NamedTuple):
         os.close(handle)
         return Path(path)
 
+    def take(self, more: int = 0) -> None:
+        """Raises `Unreplayed` if the files, and so many bytes more, are more than there may be."""
+        if self.limit is not None and sum(_sizes(self.folder).values()) + more > self.limit:
+            raise Unreplayed(
+                UNWRITTEN,
+                f"{self.folder}: the work directory needs more than the {self.limit:,} bytes that --room-limit allows. "
+                "It was removed. Pass a larger limit, or leave the option out",
+            )
+
+
+def _sizes(folder: str) -> dict[int, int]:
+    """The sizes of all files below the folder, each once even if a worker renames it meanwhile."""
+    found: dict[int, int] = {}
+    with contextlib.suppress(FileNotFoundError), os.scandir(folder) as entries:
+        for it in entries:
+            with contextlib.suppress(FileNotFoundError):
+                if it.is_dir(follow_symlinks=False):
+                    found.update(_sizes(it.path))
+                else:
+                    found[it.inode()] = it.stat(follow_symlinks=False).st_size
+    return found
+
 
 def write(room: Room, path: Path, buckets: Sequence[list[bytes]]) -> None:
     """Writes the spool file of a piece."""
@@ -39,6 +66,7 @@ def write(room: Room, path: Path, buckets: Sequence[list[bytes]]) -> None:
         entries.append(_ENTRY.pack(offset, len(lines)))
         offset += len(text)
     entries.append(_ENTRY.pack(offset, 0))
+    room.take(offset)
     new = room.begin()
     with open(new, "wb") as file:
         file.writelines(entries)

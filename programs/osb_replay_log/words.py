@@ -1,63 +1,78 @@
-"""The words of the command line."""
+"""The arguments of the command line."""
 from __future__ import annotations
 
 import argparse
 import os
-from typing import Callable
+import re
+from typing import Callable, NoReturn
+
+from osb_replay_log import schedulers
+from osb_replay_log.faults import shown
 
 PROGRAM = "osb-replay-log"
 
+_UNITS = {"": 0, "K": 10, "M": 20, "G": 30, "T": 40}
+
 _DESCRIPTION = """\
 Replays a log of any length of what happens between a platform and a service broker, and
-reports what the platform records and what the broker holds in the end. The log is parted
-by instance, the parts are replayed by osb-replay, and their reports are merged."""
+reports what the platform records and what the broker holds in the end. It splits the log
+by instance, runs osb-replay on each part, and merges the reports."""
 
 _EPILOGUE = """\
     osb-replay-log replay january.log february.log.gz
 
-A log is of the language of schedules ('osb-replay replay --help'), with any number of
-lines, in one file or many, plain or gzip; the files are one log, in the order in which
-they are named. One instance has up to 100,000 lines, with the plans and the restarts.
+A log is written in the language of schedules ('osb-replay replay --help'). It has any
+number of lines, in one file or several, plain or gzip. The files are read as one log, in
+the order of the command line. One instance has at most 100,000 lines, with the plans and
+the restarts.
 
-Workers are Dask's (Debian: python3-distributed) where it is installed, and else processes.
+The workers are Dask's if python3-distributed and python3-cryptography are installed, and
+processes of this machine if not.
 
 Exit status:
   0   done
-  1   the log has a fault, or an instance too many lines: standard error has which
-  2   the command line was refused
+  1   the log has a fault, or too many lines of one instance: see standard error
+  2   the command line was rejected
   3   a log could not be read
   4   the report, or a file of the workers, could not be written
   5   out of memory
-  70  the proved program, or the workers, can't be had
+  70  osb-replay, or the workers, can't be started
 
-Where OSB_REPLAY is set, it names the file of the proved program, which is then not built.
+If the environment variable OSB_REPLAY is set, it names the program osb-replay.
 
-docs/logs.md tells more."""
+docs/logs.md has the details."""
 
 _SPLIT = """\
-Parts the log, for another engine: each part becomes a schedule DIR/part-000001.schedule and
-so on. That engine has 'osb-replay replay' read each, and write part-000001.report beside
-it, and part-000001.err where there is anything on standard error. Then 'merge' is due."""
+Splits the log, so that another engine can replay it. Each part becomes a schedule,
+DIR/part-000001.schedule and so on. That engine runs 'osb-replay replay' on each part, and
+writes its standard output to part-000001.report and its standard error to part-000001.err,
+beside the part. Then run 'merge'."""
 
 _MERGE = """\
-Merges the reports that stand beside the parts of a log to that of the whole, or tells the
-first fault of the log."""
+Merges the reports beside the parts of a log into the report of the whole log. If a part has
+a fault, prints the first fault of the log instead."""
+
+
+class _Parser(argparse.ArgumentParser):
+    """Its errors are on one line, whatever a file is called that was taken for an option."""
+
+    def error(self, message: str) -> NoReturn:
+        super().error(shown(message))
 
 
 def read(words: list[str]) -> argparse.Namespace:
-    """Reads the words. Help is printed and ends the program with 0; what can't be read ends it with 2."""
+    """Reads the arguments. `--help` ends the program with status 0, and arguments that are rejected with status 2."""
     parser = _parser()
     asked = parser.parse_args(words)
-    if asked.command != "merge" and asked.engine == "processes" and asked.scheduler is not None:
-        parser.error("argument --scheduler: its workers are Dask's, and not of --engine processes")
+    why = schedulers.refused(asked) if asked.command != "merge" else None
+    if why is not None:
+        parser.error(why)
     return asked
 
 
 def _parser() -> argparse.ArgumentParser:
     shape = argparse.RawDescriptionHelpFormatter
-    parser = argparse.ArgumentParser(
-        PROGRAM, description=_DESCRIPTION, epilog=_EPILOGUE, allow_abbrev=False, formatter_class=shape
-    )
+    parser = _Parser(PROGRAM, description=_DESCRIPTION, epilog=_EPILOGUE, allow_abbrev=False, formatter_class=shape)
     commands = parser.add_subparsers(dest="command", metavar="COMMAND", required=True)
 
     def command(name: str, help_: str, text: str) -> argparse.ArgumentParser:
@@ -67,30 +82,21 @@ def _parser() -> argparse.ArgumentParser:
     replay.add_argument(
         "--settle",
         action="store_true",
-        help="as osb-replay has it: what is reported is how each "
-        "instance stands after three rounds in which nothing is lost",
+        help="report the state of each instance after three more rounds in which no message is lost",
     )
     _saved(replay)
-    _workers(
-        replay,
-        "where the spool is kept, as large as the log: a folder in it, which is removed at the end (the "
-        "system's for temporary files)",
-    )
-    split = command("split", "part a log, for another engine", _SPLIT)
-    split.add_argument("--parts", type=_folder, required=True, metavar="DIR", help="a new folder, or an empty one")
-    _workers(
-        split,
-        "where the spool is kept, as large as the log: a folder in it, on the same file system as DIR, "
-        "which is removed at the end (DIR)",
-    )
-    merge = command("merge", "merge the reports of such parts", _MERGE)
+    _workers(replay, "(the system's folder for temporary files)")
+    split = command("split", "split a log for another engine", _SPLIT)
+    split.add_argument("--parts", type=_path, required=True, metavar="DIR", help="a new folder, or an empty one")
+    _workers(split, "(the folder of --parts, whose file system it must be on)")
+    merge = command("merge", "merge the reports of the parts", _MERGE)
     _saved(merge)
     _room(
         merge,
-        "where more than 200 reports are merged in steps, as large as all of them: a folder in it, which is "
-        "removed at the end (the system's for temporary files)",
+        "if there are more than 200 parts, merge in a work directory in this folder, which needs as much space as all "
+        "reports. It is removed at the end (the system's folder for temporary files)",
     )
-    merge.add_argument("parts", metavar="DIR", help="the folder of 'split'")
+    merge.add_argument("parts", metavar="DIR", help="the folder that 'split' wrote")
     return parser
 
 
@@ -99,18 +105,14 @@ def _saved(parser: argparse.ArgumentParser) -> None:
 
 
 def _room(parser: argparse.ArgumentParser, help_: str) -> None:
-    parser.add_argument("--room", type=_folder, metavar="DIR", help=help_)
+    parser.add_argument("--room", type=_path, metavar="DIR", help=help_)
 
 
-def _folder(text: str) -> str:
-    """Its whole path, since workers may have another current folder."""
-    return os.path.abspath(_address(text))
-
-
-def _address(text: str) -> str:
+def _path(text: str) -> str:
+    """Its absolute path, since workers may have another current folder."""
     if not text:
         raise argparse.ArgumentTypeError("it is empty")
-    return text
+    return os.path.abspath(text)
 
 
 def _workers(parser: argparse.ArgumentParser, room: str) -> None:
@@ -119,33 +121,57 @@ def _workers(parser: argparse.ArgumentParser, room: str) -> None:
         type=_count(1, 1024),
         default=len(os.sched_getaffinity(0)),
         metavar="N",
-        help="workers of this machine (as many as it has processors: %(default)s)",
+        help="start N workers on this machine (the number of its processors: %(default)s)",
+    )
+    parser.add_argument(
+        "--engine",
+        choices=("dask", "processes"),
+        help="whose workers to start (Dask's if it is installed with python3-cryptography)",
     )
     parser.add_argument(
         "--scheduler",
-        type=_address,
+        type=schedulers.address,
         metavar="ADDRESS",
-        help="the workers of this scheduler of Dask, as tcp://10.0.0.1:8786, in their place. The logs, "
-        "the room and the program osb-replay have to be at the same paths for all of them",
+        help="use the workers of a Dask scheduler that runs already, tls://HOST:PORT, or tcp://HOST:PORT without TLS. "
+        "The logs, the --room folder and osb-replay must have the same paths on all its machines",
+    )
+    for option, help_ in (
+        ("--tls-ca", "for a tls:// scheduler: the certificates of its authority, in PEM"),
+        ("--tls-cert", "for a tls:// scheduler: the certificate of this program, in PEM"),
+        ("--tls-key", "for a tls:// scheduler: the key of that certificate, in PEM and without a passphrase"),
+    ):
+        parser.add_argument(option, type=_path, metavar="FILE", help=help_)
+    parser.add_argument(
+        "--insecure",
+        action="store_true",
+        help="allow Dask without TLS: with --engine dask every account of this machine, and with a tcp:// scheduler "
+        "everyone who reaches its port, can then run programs as you",
+    )
+    _room(
+        parser,
+        "keep the spool and the parts' reports in a work directory in this folder. It needs as much space as the log, "
+        f"uncompressed, and is removed at the end {room}",
     )
     parser.add_argument(
-        "--engine", choices=("dask", "processes"), help="whose workers of this machine (Dask's, where it is installed)"
+        "--room-limit",
+        type=_size,
+        metavar="SIZE",
+        help="end with status 4 if the work directory needs more than SIZE bytes. K, M, G or T after the number "
+        "multiply it by powers of 1024 (no limit but the free space)",
     )
-    _room(parser, room)
     parser.add_argument(
         "--part-lines",
         type=_count(1, 100_000),
         default=100_000,
         metavar="N",
-        help="lines of a part at most (%(default)s)",
+        help="the most lines of a part (%(default)s)",
     )
     parser.add_argument(
         "--chunk-bytes",
         type=_count(1, 1 << 30),
         default=16 << 20,
         metavar="N",
-        help="bytes of a log that a worker takes at once, of which it needs about five times as much "
-        "memory (%(default)s)",
+        help="how many bytes of a log a worker reads at once. It needs about five times as much memory (%(default)s)",
     )
     parser.add_argument("logs", nargs="+", metavar="LOG", help="a file of the log")
 
@@ -157,3 +183,10 @@ def _count(least: int, most: int) -> Callable[[str], int]:
         return int(text)
 
     return count
+
+
+def _size(text: str) -> int:
+    found = re.fullmatch("([0-9]{1,15})([KMGT]?)", text.upper())
+    if found is None or not int(found[1]):
+        raise argparse.ArgumentTypeError(f"{text!r} is no size such as 500M or 20G")
+    return int(found[1]) << _UNITS[found[2]]

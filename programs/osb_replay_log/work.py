@@ -104,7 +104,7 @@ def _part(work: Work, engine: Engine, plans: int, body: Sequence[Stretch], many:
         if parted.is_odd:
             until = min(until, number + 1)
         lines, restarts = lines + parted.lines, restarts + parted.restarts
-        work.progress.tell("parted", lines, max(lines, estimate), False)
+        work.progress.tell("split", lines, max(lines, estimate), False)
     return _counted(work, plans, [it for it in found[:until] if it is not None])
 
 
@@ -114,8 +114,8 @@ def _counted(work: Work, plans: int, parted: list[Parted]) -> list[Parted]:
     if restarts + plans > work.most:
         raise Unreplayed(
             FAULTY,
-            f"{work.logs[0].path}: {restarts} restarts and {plans} plans and more, which stand in "
-            f"each part, are more than the {work.most} lines of one",
+            f"{work.logs[0].path}: the log has at least {restarts} restarts and {plans} plans. Each part has all of "
+            f"them, and at most {work.most} lines",
         )
     return parted
 
@@ -144,11 +144,11 @@ def _finish(
         work.progress.tell("replayed" if is_replayed else "written", replayed, events, True)
     for it in done:
         if it.large is not None:
-            name = it.large.name.decode(errors="replace")
+            name = it.large.name.decode(errors="backslashreplace")
             raise Unreplayed(
                 FAULTY,
                 f"instance {name} has {it.large.lines} events: with {restarts} restarts and "
-                f"{plans} plans they are more than the {work.most} lines of a part",
+                f"{plans} plans, that is more than the {work.most} lines of a part",
             )
     faulty = [fault for it in done for fault in it.faulty]
     if faulty or any(it.is_odd for it in parted):

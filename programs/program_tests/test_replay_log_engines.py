@@ -8,6 +8,8 @@ import signal
 import tempfile
 import time
 import unittest
+import urllib.error
+import urllib.request
 import warnings
 from contextlib import closing, redirect_stderr
 from io import StringIO
@@ -20,6 +22,7 @@ from osb_replay_log.dask_engine import Dask
 from osb_replay_log.engines import MOST_DEATHS, Engine, Processes
 from osb_replay_log.faults import Unreplayed
 from osb_replay_log.progress import Progress, bar, clock
+from osb_replay_log.schedulers import Scheduler
 
 pytestmark = pytest.mark.slow
 
@@ -44,6 +47,15 @@ def die(given: tuple[str, int, int]) -> int:
             continue
         os.kill(os.getpid(), signal.SIGKILL)
     return number
+
+
+def pages(_: int) -> list[int]:
+    """The ports for browsers: the worker's, and its scheduler's."""
+    import distributed
+
+    with distributed.worker_client() as client:
+        its = client.scheduler_info()
+    return [its["services"]["dashboard"], distributed.get_worker().http_server.port]
 
 
 class EngineCases:
@@ -100,7 +112,8 @@ class ProcessesTest(unittest.TestCase, EngineCases):
 
 @pytest.mark.alone  # Dask gives up a worker that a busy machine restarts too slowly
 @pytest.mark.skipif(
-    importlib.util.find_spec("distributed") is None, reason="Dask isn't installed (Debian: python3-distributed)"
+    not all(map(importlib.util.find_spec, ["distributed", "cryptography"])),
+    reason="Dask isn't installed with TLS (Debian: python3-distributed python3-cryptography)",
 )
 class DaskTest(unittest.TestCase, EngineCases):
     def engine(self) -> Engine:
@@ -118,9 +131,21 @@ class DaskTest(unittest.TestCase, EngineCases):
         self.addCleanup(folder.cleanup)
         self.folder = folder.name
 
+    def test_no_pages(self) -> None:
+        """What Dask shows to browsers, without a password, isn't there."""
+        with closing(self.engine()) as engine:
+            ports = {port for its in engine.each(pages, [0]) for port in its}
+            self.assertEqual(len(ports), 2)
+            for port in ports:
+                for path in ("/health", "/metrics", "/json/identity.json", "/info/main/workers.html"):
+                    with self.assertRaises(urllib.error.HTTPError) as raised:
+                        urllib.request.urlopen(f"http://127.0.0.1:{port}{path}", timeout=10)
+                    self.assertEqual(raised.exception.code, 404)
+                    raised.exception.close()
+
     def test_no_scheduler(self) -> None:
         with self.assertRaisesRegex(Unreplayed, "scheduler tcp://127.0.0.1:1 can't be reached"):
-            Dask("tcp://127.0.0.1:1", 1, self.folder, 1)
+            Dask(Scheduler("tcp://127.0.0.1:1"), 1, self.folder, seconds=1)
 
 
 class ProgressTest(unittest.TestCase):

@@ -15,6 +15,7 @@ from osb_replay_log.logs import from_paths, lines_of, stretches
 from osb_replay_log.parts import Faulty
 from osb_replay_log.places import first_fault
 from osb_replay_log.program import Fault, Program
+from osb_replay_log.spool import Room
 
 pytestmark = pytest.mark.slow
 
@@ -117,7 +118,7 @@ def test_many_reports_are_merged_in_steps(tmp_path: Path, has_record: bool) -> N
         parts[chance.randrange(450)][name] = state
     paths = [report_of(tmp_path / str(at), part, has_record) for at, part in enumerate(parts)]
     out = io.BytesIO()
-    reports.write([reports.report_in(it) for it in paths], 3, has_record, tmp_path, out)
+    reports.write([reports.report_in(it) for it in paths], 3, has_record, Room(str(tmp_path)), out)
     counts = f"applied {5 * 450 - 3 * 449}\nskipped {2 * 450}\n"
     assert out.getvalue() == Path(report_of(tmp_path / "whole", rows, has_record, counts)).read_bytes()
 
@@ -129,5 +130,5 @@ def test_a_report_that_is_cut(tmp_path: Path, has_record: bool) -> None:
     cut = tmp_path / "cut"
     for size in {*range(len(whole))} - {whole.find(b"{")}:
         cut.write_bytes(whole[:size])
-        with pytest.raises(Unreplayed, match="no whole report"):
+        with pytest.raises(Unreplayed, match="isn't a complete report"):
             reports.report_in(str(cut))

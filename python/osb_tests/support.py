@@ -3,10 +3,6 @@ from __future__ import annotations
 
 import base64
 import json
-import logging
-import tempfile
-import unittest
-from pathlib import Path
 from typing import Callable
 
 from osb import Answer, Holding, Id, Kind, Mode, OsbError, Outcome, Request, Status, Work
@@ -32,17 +28,6 @@ def handled(held: Holding, mode: Mode | None, asked: Request, outcome: Outcome) 
     """What becomes of a holding by a request whose work, if there is any, ends like this, and the answer."""
     begun, due = held.begin(mode, asked)
     return begun.end(mode, outcome) if isinstance(due, Work) else (begun, due)
-
-
-class InFolder(unittest.TestCase):
-    """A test with a folder of its own, and without a word in the log."""
-
-    def setUp(self) -> None:
-        logging.disable(logging.CRITICAL)
-        self.addCleanup(logging.disable, logging.NOTSET)
-        folder = tempfile.TemporaryDirectory()
-        self.addCleanup(folder.cleanup)
-        self.folder = Path(folder.name)
 
 
 def status_of(call: Callable[[], object]) -> Status | None:

@@ -91,7 +91,7 @@ func (p *program) call(ctx context.Context, call string, request broker.Request,
 		State string `json:"state"`
 	}{request, p.state})
 	if err == nil {
-		err = p.run(ctx, call, input, numbers(request.Key), func(run ended) error {
+		err = p.run(ctx, call, input, names(request.Key), func(run ended) error {
 			return run.read(into, call == "create" || call == "create-binding")
 		})
 	}

@@ -168,11 +168,12 @@ func environment(all []string, state string) []string {
 	return kept
 }
 
-// numbers returns the variables with the numbers of a key.
-func numbers(key broker.Key) []string {
-	variables := []string{"OSB_INSTANCE=" + key.Instance.String()}
-	if key.IsBinding {
-		variables = append(variables, "OSB_BINDING="+key.Binding.String())
+// names returns the variables with the numbers of a key, and with a name that only this key has.
+func names(key broker.Key) []string {
+	instance := key.Instance.String()
+	if !key.IsBinding {
+		return []string{"OSB_INSTANCE=" + instance, "OSB_NAME=" + instance}
 	}
-	return variables
+	binding := key.Binding.String()
+	return []string{"OSB_INSTANCE=" + instance, "OSB_BINDING=" + binding, "OSB_NAME=" + instance + "." + binding}
 }

@@ -201,13 +201,14 @@ func TestEnvironment(t *testing.T) {
 	backend := newBackend(t, Options{}, `tr '\0' '\n' </proc/$$/environ >"$OSB_STATE/$1"`)
 	_ = backend.Create(ctx, instance)
 	_, _ = backend.CreateBinding(ctx, binding)
+	one, two := instance.Key.Instance.String(), binding.Key.Binding.String()
 	always := []string{
-		"BACKEND_REGION=north", "HOME=/nowhere", "LANG=C", "OSB_INSTANCE=" + instance.Key.Instance.String(),
+		"BACKEND_REGION=north", "HOME=/nowhere", "LANG=C", "OSB_INSTANCE=" + one,
 		"OSB_STATE=" + backend.state, "PATH=" + os.Getenv("PATH"), "TZ=UTC",
 	}
 	for call, wanted := range map[string][]string{
-		"create":         always,
-		"create-binding": append([]string{"OSB_BINDING=" + binding.Key.Binding.String()}, always...),
+		"create":         append([]string{"OSB_NAME=" + one}, always...),
+		"create-binding": append([]string{"OSB_BINDING=" + two, "OSB_NAME=" + one + "." + two}, always...),
 	} {
 		text, err := os.ReadFile(filepath.Join(backend.state, call))
 		if err != nil {

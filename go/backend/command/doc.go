@@ -23,10 +23,12 @@
 //	OSB_STATE               the absolute path of that folder, as the member "state"
 //	OSB_INSTANCE            the number of the instance's id, as a GUID in lower case; not for capabilities
 //	OSB_BINDING             the number of the binding's id, likewise; only for the calls of bindings
+//	OSB_NAME                a name for the instance or the binding: OSB_INSTANCE, or OSB_INSTANCE.OSB_BINDING; not for
+//	                        capabilities
 //	PATH, HOME, LANG, TZ    those of the broker, if they are set
 //	BACKEND_..              all variables of the broker whose names begin so
 //
-// An id is any text of 1 to 255 bytes, and may contain "/" or "..". Name files by OSB_INSTANCE and OSB_BINDING.
+// An id is any text of 1 to 255 bytes, and may contain "/" or "..". So name files by OSB_NAME.
 //
 // # What the program reports
 //

@@ -82,8 +82,9 @@ func (d *Databases) prepare(ctx context.Context) (err error) {
 	return kept.check(d.options.Key)
 }
 
-// Close closes the sessions. Work that the server has begun goes on, and keeps its lock until it has ended.
-func (d *Databases) Close() error { return d.db.Close() }
+// Close closes the sessions. Work that the server has begun goes on, and keeps its lock until it has ended. If the server
+// doesn't answer, Close returns 2 seconds later, and the sessions end by themselves.
+func (d *Databases) Close() error { return session.Close(d.db) }
 
 // Sync returns once what Look and LookBinding say would outlive a power cut, and the loss of the server if the server
 // waits for a standby. It commits a record of the log: all earlier records are on disk then too.

@@ -4,7 +4,6 @@ import (
 	"context"
 	"database/sql"
 	"errors"
-	"time"
 
 	"pippinterm/broker"
 	"pippinterm/broker/postgres/session"
@@ -26,7 +25,8 @@ func (d *Databases) Locks() broker.Locks { return locks{d.db, d.options.Sessions
 // CanBeLost returns true.
 func (l locks) CanBeLost() bool { return true }
 
-// Lock waits for the lock, until the context is done.
+// Lock waits for the lock, until the context is done. It fails sooner if the server doesn't answer: a server that lives
+// answers once lockWait is over.
 func (l locks) Lock(ctx context.Context, key broker.Key) (broker.Lock, error) {
 	for {
 		lock, err := l.take(ctx, key, "SELECT true FROM pg_advisory_lock($1)")
@@ -42,32 +42,42 @@ func (l locks) TryLock(ctx context.Context, key broker.Key) (broker.Lock, error)
 }
 
 // take takes the lock with a statement that returns whether it has. If the server has ended a session that was idle,
-// another one is taken.
+// another one is taken. All of this together takes session.Answer at most. If the server can't be used now, the error
+// is broker.ErrAway too.
 func (l locks) take(ctx context.Context, key broker.Key, statement string) (broker.Lock, error) {
+	within, cancel := session.Within(ctx, session.Answer)
+	defer cancel()
 	for tries := 0; ; tries++ {
-		lock, err := l.attempt(ctx, key, statement)
-		if ctx.Err() != nil || !session.IsLost(err) || tries >= l.most {
-			return lock, err
+		lock, wasIdle, err := l.attempt(within, key, statement)
+		if within.Err() == nil && wasIdle && session.IsLost(err) && tries < l.most {
+			continue
 		}
+		if err = session.Unanswered(ctx, err); session.IsAway(err) {
+			err = broker.Away(err)
+		}
+		return lock, err
 	}
 }
 
-func (l locks) attempt(ctx context.Context, key broker.Key, statement string) (broker.Lock, error) {
+// attempt takes the lock on one session. If that fails, wasIdle is whether there was a session.
+func (l locks) attempt(
+	ctx context.Context, key broker.Key, statement string,
+) (taken broker.Lock, wasIdle bool, err error) {
 	conn, err := l.db.Conn(ctx)
 	if err != nil {
-		return nil, err
+		return nil, false, err
 	}
 	var isTaken bool
 	err = conn.QueryRowContext(ctx, statement, numberOf(key)).Scan(&isTaken)
 	switch {
 	case err == nil && isTaken:
-		return &lock{conn: conn, key: key}, nil
+		return &lock{conn: conn, key: key}, true, nil
 	case err == nil || session.IsCode(err, session.LockNotAvailable):
 		_ = conn.Close() // it goes back to the others
 	default:
 		session.Discard(conn) // it may have the lock
 	}
-	return nil, err
+	return nil, true, err
 }
 
 // A lock is a session that holds the lock of a key.
@@ -85,7 +95,7 @@ func (l *lock) Context(ctx context.Context) context.Context {
 
 // Unlock releases the lock. If that fails, the session is closed, and the lock ends with it.
 func (l *lock) Unlock() {
-	ctx, cancel := context.WithTimeout(context.Background(), 10*time.Second)
+	ctx, cancel := session.Within(context.Background(), session.Answer)
 	defer cancel()
 	var wasHeld bool
 	err := l.conn.QueryRowContext(ctx, "SELECT pg_advisory_unlock($1)", numberOf(l.key)).Scan(&wasHeld)

@@ -242,3 +242,74 @@ func TestSessions(t *testing.T) {
 		defer it.Unlock()
 	}
 }
+
+// While the server can't be reached, no lock is taken, and the error is broker.ErrAway. Afterwards all can be taken.
+func TestLocksOfAServerThatIsAway(t *testing.T) {
+	r := newRig(t)
+	r.open()
+	proxy, url := pgtest.NewProxy(t, r.url)
+	d, err := postgres.Open(context.Background(), url, postgres.Options{Key: secret, Sessions: 2})
+	if err != nil {
+		t.Fatal(err)
+	}
+	defer d.Close()
+	key := newInstance(t)
+	proxy.Cut("\x00") // a byte of every message
+	for round := 0; round < 2; round++ {
+		if _, err := d.Locks().TryLock(context.Background(), key); !errors.Is(err, broker.ErrAway) {
+			t.Errorf("TryLock returned %v", err)
+		}
+		if _, err := d.Locks().Lock(context.Background(), key); !errors.Is(err, broker.ErrAway) {
+			t.Errorf("Lock returned %v", err)
+		}
+	}
+	proxy.Cut("")
+	held := take(t, d, key)
+	defer held.Unlock()
+	if other := take(t, d, key); other != nil {
+		t.Error("a lock is taken twice")
+	}
+}
+
+// While the server is silent, whoever wants a lock is answered broker.ErrAway within a limit, on sessions that were idle,
+// on new ones, and while it waits for one. A lock that is held is given back in that time too.
+func TestLocksOfAServerThatIsSilent(t *testing.T) {
+	r := newRig(t)
+	r.open()
+	proxy, url := pgtest.NewProxy(t, r.url)
+	d, err := postgres.Open(context.Background(), url, postgres.Options{Key: secret, Sessions: 3})
+	if err != nil {
+		t.Fatal(err)
+	}
+	defer d.Close()
+	key := newInstance(t)
+	held, idle := take(t, d, key), take(t, d, newInstance(t))
+	idle.Unlock()
+	proxy.Hang(true)
+	done := make(chan error, 5)
+	for n := 0; n < 4; n++ {
+		other := newInstance(t)
+		go func() {
+			_, err := d.Locks().TryLock(context.Background(), other)
+			done <- err
+		}()
+	}
+	go func() {
+		held.Unlock()
+		done <- broker.ErrAway
+	}()
+	late := time.After(25 * time.Second)
+	for n := 0; n < cap(done); n++ {
+		select {
+		case err := <-done:
+			if !errors.Is(err, broker.ErrAway) {
+				t.Errorf("TryLock returned %v", err)
+			}
+		case <-late:
+			t.Fatal("TryLock or Unlock waits for the silent server")
+		}
+	}
+	proxy.Hang(false)
+	again := take(t, d, newInstance(t))
+	again.Unlock()
+}

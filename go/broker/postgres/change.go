@@ -22,11 +22,12 @@ import (
 // step writes nothing, the inserted row is rolled back. A row that was inserted for a binding has the zero Holding.
 //
 // Errors: broker.ErrLostLock, those of step, the context's and the server's; and session.ErrUnknownCommit if nobody
-// knows whether the change is written. After any other error it isn't. A panic of step is an error.
+// knows whether the change is written. After any other error it isn't. A panic of step is an error. If the server can't
+// be used now, the error is broker.ErrAway too.
 func (s *Store) Change(ctx context.Context, key broker.Key, fence int64, step broker.Step) error {
-	statements, err := s.statements(ctx)
+	statements, err := s.preparedFor(ctx)
 	if err != nil {
-		return err
+		return away(err)
 	}
 	return s.transaction(ctx, &key, func(tx *sql.Tx) (bool, error) {
 		it := change{ctx: ctx, tx: tx, statements: statements, key: key}
@@ -157,7 +158,7 @@ func (s *Store) Fence(ctx context.Context, key broker.Key) (int64, error) {
 		return 0, err
 	}
 	worker := int64(binary.BigEndian.Uint64(random[:])>>1) | 1
-	err := s.reading(ctx, func(statements prepared) error {
+	err := s.reading(ctx, func(ctx context.Context, statements prepared) error {
 		_, err := statements[of(key, putWorker, putBindingWorker)].ExecContext(ctx, append(keyed(key), worker)...)
 		return err
 	})

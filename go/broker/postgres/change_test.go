@@ -160,24 +160,36 @@ func TestSessionsThatTheServerEnds(t *testing.T) {
 // openAll has so many transactions run at once, so that the store has so many sessions.
 func openAll(t *testing.T, store broker.Store, count int) {
 	t.Helper()
-	var all, entered sync.WaitGroup
-	entered.Add(count)
+	entered, done, gate := make(chan struct{}, count), make(chan error, count), make(chan struct{})
+	var once sync.Once
+	open := func() { once.Do(func() { close(gate) }) }
+	defer open() // before the store is closed, which waits for the steps
 	for n := 0; n < count; n++ {
-		all.Add(1)
-		go func(n int) {
-			defer all.Done()
-			err := store.Change(context.Background(), broker.InstanceKey(id(100+n)), 0,
-				func(broker.Held) (*broker.Entry, error) {
-					entered.Done()
-					entered.Wait()
-					return nil, nil
-				})
-			if err != nil {
-				t.Error(err)
-			}
-		}(n)
+		key := broker.InstanceKey(id(100 + n))
+		go func() {
+			done <- store.Change(context.Background(), key, 0, func(broker.Held) (*broker.Entry, error) {
+				select {
+				case entered <- struct{}{}:
+				default: // it is called again
+				}
+				<-gate
+				return nil, nil
+			})
+		}()
 	}
-	all.Wait()
+	for n := 0; n < count; n++ {
+		select {
+		case <-entered:
+		case err := <-done:
+			t.Fatalf("a change has ended before its step: %v", err)
+		}
+	}
+	open()
+	for n := 0; n < count; n++ {
+		if err := <-done; err != nil {
+			t.Error(err)
+		}
+	}
 }
 
 // A session that ends while its step runs writes nothing.

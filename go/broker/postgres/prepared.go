@@ -6,6 +6,7 @@ import (
 	"sync"
 
 	"pippinterm/broker"
+	"pippinterm/broker/postgres/session"
 )
 
 // The statements of reads and changes, which the server parses and plans once for each session.
@@ -76,6 +77,14 @@ func (s *Store) statements(ctx context.Context) (prepared, error) {
 	}
 	p.all = all
 	return all, nil
+}
+
+// preparedFor is statements, for a server that may be silent.
+func (s *Store) preparedFor(ctx context.Context) (prepared, error) {
+	within, cancel := session.Within(ctx, session.Answer)
+	defer cancel()
+	all, err := s.statements(within)
+	return all, session.Unanswered(ctx, err)
 }
 
 // finding is the text that finds the row of a key.

@@ -6,19 +6,20 @@ import (
 	"errors"
 
 	"pippinterm/broker"
+	"pippinterm/broker/postgres/session"
 	"pippinterm/osb"
 )
 
 // Read returns what is committed: the server shows nothing that isn't on its disk.
-func (s *Store) Read(ctx context.Context, key broker.Key) (held broker.Held, err error) {
-	err = s.reading(ctx, func(statements prepared) error {
+func (s *Store) Read(outer context.Context, key broker.Key) (held broker.Held, err error) {
+	err = s.reading(outer, func(ctx context.Context, statements prepared) error {
 		if key.IsBinding {
 			held, err = readHeldBinding(ctx, statements[readBinding], key)
 			return err
 		}
 		held.Entry, _, err = scanned(key, statements[findInstance].QueryRowContext(ctx, key.Instance))
 		held.AnyBinding = func() (is bool, err error) {
-			err = s.reading(ctx, func(statements prepared) error {
+			err = s.reading(outer, func(ctx context.Context, statements prepared) error {
 				return statements[anyBinding].QueryRowContext(ctx, key.Instance).Scan(&is)
 			})
 			return is, err
@@ -28,14 +29,17 @@ func (s *Store) Read(ctx context.Context, key broker.Key) (held broker.Held, err
 	return held, err
 }
 
-// reading calls with the prepared statements, for those that are transactions of their own.
-func (s *Store) reading(ctx context.Context, call func(prepared) error) error {
+// reading calls with the prepared statements, for those that are transactions of their own. A server that doesn't answer
+// isn't waited for longer than session.Answer: its sessions would be used up.
+func (s *Store) reading(ctx context.Context, call func(context.Context, prepared) error) error {
 	return s.query(func(*sql.DB) error {
-		statements, err := s.statements(ctx)
-		if err != nil {
-			return err
+		within, cancel := session.Within(ctx, session.Answer)
+		defer cancel()
+		statements, err := s.statements(within)
+		if err == nil {
+			err = call(within, statements)
 		}
-		return call(statements)
+		return session.Unanswered(ctx, err)
 	})
 }
 
@@ -79,13 +83,15 @@ func (s *Store) Unfinished(ctx context.Context) (keys []broker.Key, err error) {
 // HeldBindings returns the bindings of an instance that are held, in no order.
 func (s *Store) HeldBindings(ctx context.Context, instance osb.ID) (ids []osb.ID, err error) {
 	const held = "SELECT binding FROM osb_bindings WHERE instance = $1 AND held"
-	err = s.each(ctx, held, []any{instance}, func(rows *sql.Rows) error {
+	within, cancel := session.Within(ctx, session.Answer)
+	defer cancel()
+	err = s.each(within, held, []any{instance}, func(rows *sql.Rows) error {
 		var id osb.ID
 		err := rows.Scan(&id)
 		ids = append(ids, id)
 		return err
 	})
-	return ids, err
+	return ids, away(session.Unanswered(ctx, err))
 }
 
 // each calls with each row of a query.

@@ -80,13 +80,14 @@ func (s *Store) prepare(ctx context.Context) error {
 	return s.migrate(ctx)
 }
 
-// Close closes the store, once all calls that have begun have ended. Later calls fail.
+// Close closes the store, once all calls that have begun have ended. Later calls fail. If the server doesn't answer,
+// Close returns 2 seconds later, and the idle sessions end by themselves.
 func (s *Store) Close() error {
 	s.turn.Lock()
 	s.isClosed = true
 	s.turn.Unlock()
 	s.running.Wait()
-	return s.db.Close()
+	return session.Close(s.db)
 }
 
 // enter begins a call that Close waits for, unless the store is closed. The caller calls s.running.Done at the end.
@@ -106,7 +107,15 @@ func (s *Store) query(call func(*sql.DB) error) error {
 		return err
 	}
 	defer s.running.Done()
-	return call(s.db)
+	return away(call(s.db))
+}
+
+// away is the error, as broker.ErrAway too if the server can't be used now.
+func away(err error) error {
+	if session.IsAway(err) {
+		return broker.Away(err)
+	}
+	return err
 }
 
 // transaction is session.Transaction on a connection of the store. It is tried again if it couldn't begin, since the
@@ -116,16 +125,17 @@ func (s *Store) transaction(ctx context.Context, key *broker.Key, work func(*sql
 		return err
 	}
 	defer s.running.Done()
+	until := time.Now().Add(session.Answer) // so that a silent server isn't waited for on one idle session after the other
 	for unbegun, undone := 0, 0; ; {
 		err := s.attempt(ctx, work)
 		switch {
-		case errors.Is(err, session.ErrNotBegun) && unbegun < s.most:
+		case errors.Is(err, session.ErrNotBegun) && unbegun < s.most && time.Now().Before(until):
 			unbegun++
 		case session.IsConflict(err) && undone < conflicts:
 			undone++
 			s.tellRetry(key, err)
 		default:
-			return err
+			return away(err)
 		}
 		if ctx.Err() != nil {
 			return ctx.Err()
@@ -134,12 +144,20 @@ func (s *Store) transaction(ctx context.Context, key *broker.Key, work func(*sql
 }
 
 func (s *Store) attempt(ctx context.Context, work func(*sql.Tx) (bool, error)) error {
-	conn, err := s.db.Conn(ctx)
+	conn, err := s.conn(ctx)
 	if err != nil {
 		return err
 	}
 	defer conn.Close()
 	return session.Transaction(ctx, conn, work)
+}
+
+// conn waits for a connection, and no longer than for a server that answers.
+func (s *Store) conn(ctx context.Context) (*sql.Conn, error) {
+	within, cancel := session.Within(ctx, session.Answer)
+	defer cancel()
+	conn, err := s.db.Conn(within)
+	return conn, session.Unanswered(ctx, err)
 }
 
 func (s *Store) tellRetry(key *broker.Key, err error) {

@@ -4,6 +4,7 @@ import (
 	"context"
 	"sync"
 	"testing"
+	"time"
 
 	"pippinterm/broker"
 	"pippinterm/broker/postgres"
@@ -31,6 +32,22 @@ func TestStore(t *testing.T) {
 	pgtest.URL(t)
 	all := &schemas{urls: map[string]string{}}
 	storetest.Run(t, func(t *testing.T) broker.NamedStore { return open(t, all.url(t)) })
+}
+
+// A server hangs while the store has idle sessions, whose statements are closed with them: each would be waited for a
+// minute.
+func TestClosingWhileTheServerHangs(t *testing.T) {
+	proxy, url := pgtest.NewProxy(t, pgtest.Schema(t, pgtest.URL(t), "osb_store_hangs"))
+	store := open(t, url)
+	openAll(t, store, 4)
+	proxy.Hang(true)
+	begun := time.Now()
+	if err := store.Close(); err != nil {
+		t.Error(err)
+	}
+	if took := time.Since(begun); took > 30*time.Second {
+		t.Errorf("it took %v", took)
+	}
 }
 
 func open(t *testing.T, url string) *postgres.Store {

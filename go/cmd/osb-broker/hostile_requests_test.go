@@ -44,6 +44,10 @@ func newInside(t *testing.T) *inside {
 	queue := logs.NewQueue(io.Discard)
 	t.Cleanup(func() { _ = queue.Close(ctx) })
 	r := &running{settings: s, log: logs.New(queue)}
+	var err error
+	if r.access, err = accessOf(s, r.log); err != nil {
+		t.Fatal(err)
+	}
 	if err := r.open(ctx, ctx, queue); err != nil {
 		t.Fatal(err)
 	}

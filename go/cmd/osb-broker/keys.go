@@ -2,8 +2,6 @@ package main
 
 import (
 	"context"
-	"crypto/rand"
-	"encoding/base64"
 	"errors"
 	"fmt"
 	"io"
@@ -46,21 +44,10 @@ password: each binding has a role and a password of its own.`,
 
 // keyCommand makes a key.
 func keyCommand() *cobra.Command {
-	return &cobra.Command{
-		Use:   "key",
-		Short: "Print a new key for the passwords of the databases",
-		Long: `Print a new random key for the passwords of the databases:
-
-    (umask 077; osb-broker key > key)`,
-		RunE: func(c *cobra.Command, _ []string) error {
-			var random [32]byte
-			if _, err := rand.Read(random[:]); err != nil {
-				return fmt.Errorf("no random bytes: %w", err)
-			}
-			_, err := fmt.Fprintln(c.OutOrStdout(), base64.RawURLEncoding.EncodeToString(random[:]))
-			return err
-		},
-	}
+	return program.KeyCommand("Make a new key for the passwords of the databases",
+		`Make a new random key for the passwords of the databases. It is printed, or written to the new file that --to
+names.`,
+		`  osb-broker key --to key`)
 }
 
 // rekeyCommand replaces the key.

@@ -45,7 +45,7 @@ environment:
 
 GET /healthz, /readyz and /metrics need no password. The log is lines of JSON on standard
 error. SIGTERM and SIGINT end the broker with status 0, once the running work has ended.
-SIGHUP reads the certificate again.
+SIGHUP reads the files of --users-file, --password-file and --tls-.. again.
 
 exit status: 0 done; 2 change something first: an argument, a file, a password or a right;
 75 the store or the backend is away, so try again; 70 any other error`

@@ -157,7 +157,7 @@ func TestExampleDatabases(t *testing.T) {
 		if err := json.Unmarshal([]byte(text), &bound); err != nil || bound.Credentials.Token == "" {
 			t.Errorf("the binding is %s, %v", text, err)
 		}
-		path := filepath.Join(state, "command", bound.Credentials.Database, "data.sqlite")
+		path := filepath.Join(state, "command", bound.Credentials.Database)
 		if _, err := os.Stat(path); err != nil {
 			t.Error(err)
 		}

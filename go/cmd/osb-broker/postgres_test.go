@@ -114,3 +114,31 @@ func TestStoreGoesAwayBeforeItIsTied(t *testing.T) {
 			osbBroker(environment, "serve", "--state", t.TempDir(), "--store", through))
 	}
 }
+
+// While the server of the store is away, requests are answered with 503, and the log says why. Once it is back, they
+// are carried out.
+func TestStoreGoesAway(t *testing.T) {
+	address, environment := postgresql(t)
+	pgtest.Schema(t, pgtest.URL(t), "osb_gone")
+	proxy, through := pgtest.NewProxy(t, pgtest.With(t, address, "search_path", "osb_gone"))
+	s := start(t, environment, "--state", t.TempDir(), "--store", through)
+	s.expect(201, "PUT", one, order)
+	proxy.Cut("\x00") // a byte of every message
+	for _, it := range [][3]string{
+		{"PUT", one, order}, {"PUT", "/v2/service_instances/two", order}, {"GET", one + "/last_operation", ""},
+		{"PUT", one + "/service_bindings/b", bind}, {"DELETE", one + names, ""},
+	} {
+		if body := s.expect(503, it[0], it[1], it[2]); !strings.Contains(body, "Send it again later.") {
+			t.Errorf("%s %s: %s", it[0], it[1], body)
+		}
+		if failed := s.event("request_failed"); failed["error"] == "" {
+			t.Errorf("the log has %v", failed)
+		}
+	}
+	s.expect(200, "GET", "/v2/catalog", "")
+	proxy.Cut("")
+	s.expect(200, "PUT", one, order)
+	s.expect(200, "DELETE", one+names, "")
+	s.expect(410, "GET", one+"/last_operation", "")
+	s.stop()
+}

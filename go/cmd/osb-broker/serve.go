@@ -9,7 +9,6 @@ import (
 	"os"
 	"os/signal"
 	"runtime/debug"
-	"strings"
 	"syscall"
 	"time"
 
@@ -20,7 +19,6 @@ import (
 	"pippinterm/program/limiter"
 	"pippinterm/program/logs"
 	"pippinterm/program/metrics"
-	"pippinterm/program/secrets"
 	"pippinterm/program/server"
 )
 
@@ -35,6 +33,7 @@ type running struct {
 	handler  *broker.Handler
 	health   *health.Handler
 	sweeper  *broker.Sweeper
+	access   *access
 	work     context.Context // of the work, which endWork breaks off
 	endWork  context.CancelFunc
 }
@@ -46,8 +45,6 @@ func serve(ctx context.Context, s *settings, stderr io.Writer) error {
 	}
 	debug.SetGCPercent(400) // it has little in memory, and makes much that is short-lived
 	syscall.Umask(0o077)
-	stop, forget := signal.NotifyContext(ctx, syscall.SIGTERM, syscall.SIGINT)
-	defer forget()
 	queue := logs.NewQueue(stderr)
 	defer func() {
 		until, cancel := context.WithTimeout(ctx, time.Second)
@@ -55,20 +52,35 @@ func serve(ctx context.Context, s *settings, stderr io.Writer) error {
 		_ = queue.Close(until)
 	}()
 	r := &running{settings: s, log: logs.New(queue)}
+	var err error
+	if r.access, err = accessOf(s, r.log); err != nil { // a file that can't be read for long: the signals still end it
+		return err
+	}
+	stop, forget := signal.NotifyContext(ctx, syscall.SIGTERM, syscall.SIGINT)
+	defer forget()
+	again := make(chan os.Signal, 1)
+	signal.Notify(again, syscall.SIGHUP)
+	defer signal.Stop(again)
 	if err := r.open(ctx, stop, queue); err != nil {
 		return err
 	}
 	defer r.parts.closeAll()
+	reloading, end := context.WithCancel(ctx)
+	ended := make(chan struct{})
+	go func() {
+		defer close(ended)
+		r.access.reloadAt(reloading, again)
+	}()
+	defer func() {
+		end()
+		_ = r.wait(ended, lastWait) // a file that is read again may be on a file system that hangs
+	}()
 	return r.serve(ctx, stop)
 }
 
-// open opens everything but what serve begins.
+// open opens everything but access, and what serve begins.
 func (r *running) open(ctx, stop context.Context, queue *logs.Queue) (err error) {
 	s := r.settings
-	users, err := usersOf(s, r.log)
-	if err != nil {
-		return err
-	}
 	r.metrics = metrics.New(metrics.Options{DroppedLines: queue.Dropped, Connections: r.connections})
 	r.observer = program.Observers(logs.Observer(r.log), r.metrics)
 	if r.parts, err = partsOf(stop, s, r.log, r.observer); err != nil {
@@ -88,12 +100,12 @@ func (r *running) open(ctx, stop context.Context, queue *logs.Queue) (err error)
 	if ids := inUpperCase(catalogue.Document()); len(ids) > 0 {
 		r.log.Warning("guid_in_upper_case").Strs("ids", ids).Send()
 	}
-	rules := broker.Rules{FirstPoll: s.firstPoll, WaitForPoll: s.waitForPoll}
+	rules := broker.Rules{FirstPoll: s.firstPoll, WaitForPoll: s.waitForPoll, LocksAtOnce: s.locksAtOnce()}
 	service := broker.NewService(catalogue, r.parts.store, r.parts.backend, r.parts.locks, rules, r.observer)
 	r.sweeper = broker.NewSweeper(service, r.observer)
 	r.work, r.endWork = context.WithCancel(ctx)
 	r.handler, err = broker.NewHandler(r.work, service, broker.Config{
-		Users: users, LongestBody: s.longestBody, AtOnce: s.threads, Limiter: limiter.New(), Touch: r.sweeper.Touch,
+		Users: r.access.users, LongestBody: s.longestBody, AtOnce: s.threads, Limiter: limiter.New(), Touch: r.sweeper.Touch,
 		Observer: r.observer,
 	})
 	return program.Unusable(err)
@@ -138,6 +150,7 @@ func (r *running) serve(ctx, stop context.Context) error {
 	if isCut || !hasEnded { // the work uses them still. It is taken up at the next start, as after a crash
 		r.parts.close = nil
 		r.endWork() // which kills what a command backend runs
+		_ = r.handler.Wait(lastWait)
 		_ = r.wait(swept, lastWait)
 	}
 	if isCut {
@@ -146,20 +159,20 @@ func (r *running) serve(ctx, stop context.Context) error {
 	return failed
 }
 
-// lastWait is how long work that was broken off may take to end.
+// lastWait is how long what was broken off may take to end.
 const lastWait = 2 * time.Second
 
-// wait waits for the sweeper, and returns whether it has ended in time.
-func (r *running) wait(swept <-chan struct{}, within time.Duration) bool {
+// wait waits for what ends, such as the sweeper, and returns whether it has ended in time.
+func (r *running) wait(ended <-chan struct{}, within time.Duration) bool {
 	late := time.NewTimer(within)
 	defer late.Stop()
 	select {
-	case <-swept:
+	case <-ended:
 		return true
 	case <-late.C:
 	}
 	select { // both may be the case
-	case <-swept:
+	case <-ended:
 		return true
 	default:
 		return false
@@ -168,11 +181,8 @@ func (r *running) wait(swept <-chan struct{}, within time.Duration) bool {
 
 // sites are where it listens, and what answers there.
 func (r *running) sites(ctx context.Context) ([]server.Site, error) {
-	s := r.settings
-	certificates, err := r.certificates(ctx)
-	if err != nil {
-		return nil, err
-	}
+	s, certificates := r.settings, r.access.certificates
+	var err error
 	r.main, err = server.Listen(ctx, s.listen, server.Options{
 		Connections: s.connections, Share: s.sharePort, Certificates: certificates, Observer: r.observer,
 	})
@@ -215,63 +225,11 @@ func (s *settings) files() uint64 {
 	return uint64(s.connections) + (uint64(s.threads)+uint64(s.workers))*each + otherFiles
 }
 
+// locksAtOnce is how many of the threads may wait for a lock at once: the others are for what needs none.
+func (s *settings) locksAtOnce() int { return s.threads - s.threads/4 }
+
 // isLoopback is whether only this machine reaches an address.
 func isLoopback(address net.Addr) bool {
 	tcp, ok := address.(*net.TCPAddr)
 	return ok && tcp.IP.IsLoopback()
-}
-
-// certificates are those of TLS, or nil. They are read again at SIGHUP.
-func (r *running) certificates(ctx context.Context) (*server.Certificates, error) {
-	s := r.settings
-	if s.certificate == "" && s.key == "" && s.clientCA == "" {
-		signal.Ignore(syscall.SIGHUP)
-		return nil, nil
-	}
-	made, err := server.LoadCertificates(server.CertificateFiles{
-		Certificate: s.certificate, Key: s.key, ClientCA: s.clientCA,
-	})
-	if err != nil {
-		return nil, program.Unusable(err)
-	}
-	again := make(chan os.Signal, 1)
-	signal.Notify(again, syscall.SIGHUP)
-	go func() {
-		defer signal.Stop(again)
-		made.ReloadAt(ctx, again, func(err error) {
-			if err != nil {
-				r.log.Error("certificates_not_reloaded").Err(err).Send()
-				return
-			}
-			r.log.Info("certificates_reloaded").Send()
-		})
-	}()
-	return made, nil
-}
-
-// usersOf are the users that may log in.
-func usersOf(s *settings, log *logs.Logger) (*broker.Users, error) {
-	all, warning, err := passwordsOf(s)
-	if err != nil {
-		return nil, program.Unusable(err)
-	}
-	if warning != "" {
-		log.Warning("secret").Str("warning", warning).Send()
-	}
-	users, err := broker.NewUsers(all)
-	return users, program.Unusable(err)
-}
-
-func passwordsOf(s *settings) (map[string][]string, string, error) {
-	if s.usersFile != "" {
-		if s.passwordFile != "" {
-			return nil, "", errors.New("give --users-file or --password-file, and not both")
-		}
-		return secrets.Users(s.usersFile)
-	}
-	if s.user == "" || strings.Contains(s.user, ":") {
-		return nil, "", errors.New("--user wants a name without a colon")
-	}
-	passwords, warning, err := secrets.Passwords("OSB_BROKER_PASSWORD", s.passwordFile)
-	return map[string][]string{s.user: passwords}, warning, wrapped("the platform's password", err)
 }

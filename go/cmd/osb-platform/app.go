@@ -9,6 +9,7 @@ import (
 
 	"pippinterm/platform"
 	"pippinterm/program"
+	"pippinterm/program/sqlite"
 )
 
 // The exit statuses besides those of package program.
@@ -43,7 +44,7 @@ func (a *app) judged(err error) error {
 		return program.Unusable(err)
 	case errors.As(err, &fault):
 		a.status = statusRejected
-	case errors.Is(err, platform.ErrAway):
+	case errors.Is(err, platform.ErrAway), sqlitefile.MayPass(err):
 		return program.Unavailable(err)
 	}
 	return err
@@ -64,12 +65,26 @@ type session struct {
 	orders *platform.Orders
 }
 
-// over is the RunE of a command over the store. If needsKey, the vault is opened, if there is a file with its key.
+// A need is what a command works with.
+type need int
+
+const (
+	needsStore need = iota // a store that exists
+	needsKey               // that, and the vault, if there is a file with its key
+	makesStore             // the same, but the store is created if there is none
+)
+
+// over is the RunE of a command over the store.
 func (a *app) over(
-	needsKey bool, do func(ctx context.Context, c *cobra.Command, s session, arguments []string) error,
+	needs need, do func(ctx context.Context, c *cobra.Command, s session, arguments []string) error,
 ) func(*cobra.Command, []string) error {
 	return func(c *cobra.Command, arguments []string) (err error) {
 		ctx := c.Context()
+		if needs != makesStore {
+			if err := a.places.checkStore(); err != nil {
+				return err
+			}
+		}
 		store, err := openStore(ctx, a.places.store, 1)
 		if err != nil {
 			return err
@@ -80,9 +95,13 @@ func (a *app) over(
 			}
 		}()
 		var vault platform.Vault
-		if needsKey {
-			if vault, err = openVault(ctx, a.places.keys(), store, warner(c.ErrOrStderr())); err != nil {
+		if needs != needsStore {
+			opened, err := openVault(ctx, a.places.keys(), store, warner(c.ErrOrStderr()))
+			if err != nil {
 				return a.judged(err)
+			}
+			if opened != nil {
+				vault = opened
 			}
 		}
 		s := session{store: store, vault: vault, orders: platform.NewOrders(store, vault)}

@@ -38,6 +38,7 @@ func brokerCommand(a *app) *cobra.Command {
 type login struct {
 	url, user, passwordFile string
 	stores, allowHTTP       bool
+	tls                     client.Files // for the catalogue that a command asks for. Workers have their own
 	settings                platform.Settings
 	set                     []*setting
 }
@@ -47,9 +48,10 @@ func (l *login) add(flags *pflag.FlagSet, user string) {
 	flags.StringVar(&l.user, "user", user, "the `name` with which the platform logs in")
 	flags.StringVar(&l.passwordFile, "password-file", "",
 		"a `file` with the password, which each worker reads again when it changes")
-	flags.BoolVar(&l.stores, "store-password", false, "keep the password in the store, sealed with the key of "+
+	flags.BoolVar(&l.stores, "store-password", false, "keep the password in the store, encrypted with the key of "+
 		"--key-file. It is taken from "+passwordVariable+", or from a line of standard input")
 	l.addSettings(flags)
+	addTLS(flags, &l.tls)
 	flags.BoolVar(&l.allowHTTP, "allow-http", false, "allow http:// for a broker that isn't on this machine. 'run' "+
 		"needs it too")
 }
@@ -74,6 +76,21 @@ func (l *login) addSettings(flags *pflag.FlagSet) {
 	}
 }
 
+// isOfLogin is whether an option was given about how the platform logs in.
+func (l *login) isOfLogin() bool {
+	return l.url != "" || l.user != "" || l.passwordFile != "" || l.stores
+}
+
+// isGiven is whether any option was given.
+func (l *login) isGiven() bool {
+	for _, it := range l.set {
+		if it.changed {
+			return true
+		}
+	}
+	return l.isOfLogin()
+}
+
 // change writes the settings that were given.
 func (l *login) change(to *platform.Settings) {
 	for at, of := range []**time.Duration{&to.Hold, &to.FirstPace, &to.LongestPace, &to.LongestPoll} {
@@ -84,12 +101,16 @@ func (l *login) change(to *platform.Settings) {
 }
 
 // password is the password that the store is to keep, or nil.
-func (l *login) password(stdin io.Reader, warn func(string)) ([]byte, error) {
+func (l *login) password(stdin io.Reader, vault platform.Vault, warn func(string)) ([]byte, error) {
 	if !l.stores {
 		return nil, nil
 	}
 	if l.passwordFile != "" {
 		return nil, program.Unusable(errors.New("give --password-file or --store-password, and not both"))
+	}
+	if vault == nil {
+		return nil, program.Unusable(errors.New("--store-password: name the file with the key that encrypts the " +
+			"password: --key-file FILE, here and for 'run'. 'osb-platform key' makes a key"))
 	}
 	if os.Getenv(passwordVariable) != "" {
 		text, warning, err := secrets.Secret(passwordVariable, "")
@@ -130,27 +151,31 @@ func addCommand(a *app) *cobra.Command {
 		Use:   "add NAME URL",
 		Short: "Add a broker",
 		Long: `Add a broker, by a name of your own and its URL up to before /v2. Its catalogue is asked for, and with it
-'create' can name services and plans. If the broker doesn't answer, 'run' asks again.`,
+'create' can name services and plans. If the broker doesn't answer, 'run' asks again. The options --tls-.. and
+--allow-http aren't stored: give them to 'run', too.`,
 		Example: `  osb-platform broker add shop https://broker.example/postgres --password-file password
   OSB_PLATFORM_PASSWORD=secret osb-platform broker add local http://127.0.0.1:8080 --user platform --store-password`,
-		Args: cobra.ExactArgs(2),
-		RunE: a.over(true, func(ctx context.Context, c *cobra.Command, s session, arguments []string) error {
+		Args: wants("NAME", "URL"),
+		RunE: a.over(makesStore, func(ctx context.Context, c *cobra.Command, s session, arguments []string) error {
 			broker := platform.Broker{Name: arguments[0], URL: arguments[1], User: l.user, Settings: l.settings}
-			if err := client.CheckURL(broker.URL, l.allowHTTP); err != nil {
-				return program.Unusable(err)
-			}
+			s.orders.AllowHTTP(l.allowHTTP)
 			warn := warner(c.ErrOrStderr())
-			password, err := l.password(c.InOrStdin(), warn)
+			password, err := l.password(c.InOrStdin(), s.vault, warn)
 			if err != nil {
 				return err
 			}
 			if broker.PasswordFile, err = absolute(l.passwordFile); err != nil {
 				return err
 			}
+			asking, err := l.client(s.vault, warn)
+			if err != nil {
+				return err
+			}
+			defer asking.Close()
 			if err := s.orders.AddBroker(ctx, broker, password); err != nil {
 				return err
 			}
-			return s.askCatalogue(ctx, broker.Name, l.allowHTTP, warn)
+			return s.askCatalogue(ctx, broker.Name, asking, warn)
 		}),
 	}
 	l.add(made.Flags(), "platform")
@@ -163,14 +188,24 @@ func setCommand(a *app) *cobra.Command {
 		Use:   "set NAME",
 		Short: "Change a broker",
 		Long: `Change a broker: what no option names stays. Seconds may be the word default. Workers notice the change.
+After a change of the URL, the user or the password the catalogue is asked for. If the broker doesn't answer it, that
+is a warning. The options --tls-.. and --allow-http aren't stored: give them to 'run', too.
+
+To replace a password, have the broker accept both the old and the new one, change it here, and then have the broker
+forget the old one. If a password is in a file, change the file: workers read it again. After a 401 a worker sends
+nothing more to the broker until the catalogue is answered again, and orders that weren't sent yet wait.
 
 --url is for the same broker at another address. Another broker would answer that each instance is gone.`,
 		Example: `  osb-platform broker set shop --url https://broker-2.example --hold 900
   osb-platform broker set shop --store-password <password`,
-		Args: cobra.ExactArgs(1),
-		RunE: a.over(true, func(ctx context.Context, c *cobra.Command, s session, arguments []string) error {
+		Args: wants("NAME"),
+		RunE: a.over(needsKey, func(ctx context.Context, c *cobra.Command, s session, arguments []string) error {
+			if !l.isGiven() {
+				return program.Unusable(errors.New("give an option that says what to change (see " +
+					"osb-platform broker set --help)"))
+			}
 			warn := warner(c.ErrOrStderr())
-			password, err := l.password(c.InOrStdin(), warn)
+			password, err := l.password(c.InOrStdin(), s.vault, warn)
 			if err != nil {
 				return err
 			}
@@ -178,11 +213,14 @@ func setCommand(a *app) *cobra.Command {
 			if err != nil {
 				return err
 			}
-			return s.orders.SetBroker(ctx, arguments[0], func(of *platform.Broker) error {
+			asking, err := l.client(s.vault, warn)
+			if err != nil {
+				return err
+			}
+			defer asking.Close()
+			s.orders.AllowHTTP(l.allowHTTP)
+			err = s.orders.SetBroker(ctx, arguments[0], func(of *platform.Broker) error {
 				if l.url != "" {
-					if err := client.CheckURL(l.url, l.allowHTTP); err != nil {
-						return program.Unusable(err)
-					}
 					of.URL = l.url
 				}
 				if l.user != "" {
@@ -194,6 +232,10 @@ func setCommand(a *app) *cobra.Command {
 				l.change(&of.Settings)
 				return nil
 			}, password)
+			if err != nil || !l.isOfLogin() {
+				return err
+			}
+			return s.askCatalogue(ctx, arguments[0], asking, warn)
 		}),
 	}
 	made.Flags().StringVar(&l.url, "url", "", "the new `URL`, up to before /v2")
@@ -208,7 +250,7 @@ func brokersCommand(a *app) *cobra.Command {
 		Long: `List the brokers. The columns are name, url, user, since when the catalogue is as it is, and
 why the broker didn't answer it last. They are separated by tabs.`,
 		Example: `  osb-platform broker list`,
-		RunE: a.over(false, func(ctx context.Context, c *cobra.Command, s session, _ []string) error {
+		RunE: a.over(needsStore, func(ctx context.Context, c *cobra.Command, s session, _ []string) error {
 			brokers, err := s.store.Brokers(ctx)
 			if err != nil {
 				return err
@@ -238,8 +280,8 @@ func dropCommand(a *app) *cobra.Command {
 		Use:     "drop NAME",
 		Short:   "Drop a broker of which nothing was ever ordered",
 		Example: `  osb-platform broker drop shop`,
-		Args:    cobra.ExactArgs(1),
-		RunE: a.over(false, func(ctx context.Context, _ *cobra.Command, s session, arguments []string) error {
+		Args:    wants("NAME"),
+		RunE: a.over(needsStore, func(ctx context.Context, _ *cobra.Command, s session, arguments []string) error {
 			return s.orders.DropBroker(ctx, arguments[0])
 		}),
 	}

@@ -1,6 +1,9 @@
 package main
 
 import (
+	"encoding/pem"
+	"net/http"
+	"net/http/httptest"
 	"path/filepath"
 	"strings"
 	"testing"
@@ -34,14 +37,17 @@ plan	database	large	s-1	p-2	not bindable`, ``},
 		{"broker add two http://127.0.0.1:1 --store-password --password-file " + password, 2, ``, `.*not both`},
 		{"broker add two http://127.0.0.1:1 --store-password --key-file " + key, 2, ``, `osb-platform: set OSB_PL.*`},
 		{"broker add two http://127.0.0.1:1/ --hold 9 --password-file " + password, 0, ``, `osb-platform: warning: .*`},
-		{"broker set two --first-pace 0.5 --url http://127.0.0.1:2", 0, ``, ``},
+		{"create --broker two --plan small", 1, ``, `.*has given no catalogue yet \(.*refused\): run the platform.*`},
+		{"broker set two", 2, ``, `osb-platform: give an option .*`},
+		{"broker set two --first-pace 0.5 --url http://127.0.0.1:2", 0, ``, `osb-platform: warning: .*refused.*`},
 		{"broker show two", 0, `name	two
 url	http://127.0.0.1:2
 user	platform
 password	in the file .*/password
 hold	9
 first pace	0.5
-.*catalogue since	none`, ``},
+.*catalogue since	none
+last reason	20[^ ]* the catalogue of two: .*refused`, ``},
 		{"broker set two --hold default", 0, ``, ``},
 		{"broker show two", 0, `.*hold	default
 first pace	0.5
@@ -59,14 +65,14 @@ first pace	0.5
 func TestStoredPassword(t *testing.T) {
 	store, key := newStore(t), newKey(t)
 	add := []string{"--store", store, "broker", "add", "two", "http://127.0.0.1:1", "--store-password"}
-	if got := callWith(t, "hunter2\n", add...); got.status != 1 || !strings.Contains(got.failed, "no key") {
+	if got := callWith(t, "hunter2\n", add...); got.status != 2 || !strings.Contains(got.failed, "--key-file FILE") {
 		t.Errorf("without a key: %+v", got)
 	}
 	if got := callWith(t, "hunter2\n", append(add, "--key-file", key)...); got.status != 0 {
 		t.Errorf("with a key: %+v", got)
 	}
 	got := call(t, "--store", store, "broker", "show", "two")
-	if !strings.Contains(got.out, "password\tin the store, sealed\n") || strings.Contains(got.out, "hunter2") {
+	if !strings.Contains(got.out, "password\tin the store, encrypted\n") || strings.Contains(got.out, "hunter2") {
 		t.Errorf("%+v", got)
 	}
 	other := newKey(t)
@@ -79,4 +85,47 @@ func TestStoredPassword(t *testing.T) {
 	if got.status != 0 {
 		t.Errorf("with both keys: %+v", got)
 	}
+}
+
+// With the authority of its certificate, the catalogue of a broker is read at once.
+func TestAddOverTLS(t *testing.T) {
+	server := httptest.NewTLSServer(http.HandlerFunc(func(w http.ResponseWriter, r *http.Request) {
+		w.Header().Set("Content-Type", "application/json")
+		_, _ = w.Write([]byte(catalogue))
+	}))
+	defer server.Close()
+	folder, store := t.TempDir(), newStore(t)
+	ca, password := filepath.Join(folder, "ca"), filepath.Join(folder, "password")
+	write(t, ca, string(pem.EncodeToMemory(&pem.Block{Type: "CERTIFICATE", Bytes: server.Certificate().Raw})))
+	write(t, password, "secret\n")
+	add := " " + server.URL + " --password-file " + password
+	check(t, store, []line{
+		{"broker add one" + add, 0, ``, `osb-platform: warning: .*certificate.*`},
+		{"broker add two" + add + " --tls-ca " + ca, 0, ``, ``},
+		{"broker add three" + add + " --tls-ca /nowhere/ca", 2, ``, `osb-platform: .*/nowhere/ca.*`},
+		{"broker show three", 1, ``, `osb-platform: the broker "three" is unknown`},
+		{"broker set one --url " + server.URL + "/x --tls-ca " + ca, 0, ``, ``},
+		{"broker show one", 0, ".*\nplan\tdatabase\tsmall\t.*", ``},
+	})
+}
+
+// After a change of how the platform logs in, the catalogue is asked for: a wrong password is noticed at once, and with
+// the right one instances can be ordered before a worker runs.
+func TestSetAsksForCatalogue(t *testing.T) {
+	s, store, folder := newSite(t), filepath.Join(t.TempDir(), "store"), t.TempDir()
+	t.Setenv("XDG_STATE_HOME", t.TempDir())
+	wrong, right := filepath.Join(folder, "wrong"), filepath.Join(folder, "right")
+	write(t, wrong, "hunter2\n")
+	write(t, right, "secret\n")
+	check(t, store, []line{
+		{"broker add shop " + s.url + " --password-file " + wrong, 0, ``, `osb-platform: warning: .*\(401\).*`},
+		{"broker list", 0, "shop\t.*\tnone\tthe broker shop rejects the user or the password \\(401\\): give it .*", ``},
+		{"create --plan at-once", 1, ``, `.*no catalogue yet \(.*rejects the user or the password \(401\).*`},
+		{"broker set shop --hold 3", 0, ``, ``},
+		{"broker set shop --password-file " + right, 0, ``, ``},
+		{"broker list", 0, "shop\t.*\t" + since + "\t", ``},
+		{"create --plan at-once --id one", 0, `one`, ``},
+		{"broker set shop --password-file " + wrong, 0, ``, `osb-platform: warning: .*\(401\).*`},
+		{"create --plan at-once --id two", 0, `two`, ``}, // the catalogue that was answered last counts
+	})
 }

@@ -5,12 +5,14 @@ import (
 	"fmt"
 	"io"
 	"strconv"
+	"strings"
 	"time"
 
 	"github.com/spf13/cobra"
 
 	"pippinterm/platform"
 	"pippinterm/platform/client"
+	"pippinterm/program"
 )
 
 // showBrokerCommand shows a broker and what it sells.
@@ -21,8 +23,8 @@ func showBrokerCommand(a *app) *cobra.Command {
 		Long: `Show a broker, each fact on a line with its name before a tab. Then come the plans of its catalogue,
 with the names of the service and the plan, their ids, and whether the plan is bindable.`,
 		Example: `  osb-platform broker show shop`,
-		Args:    cobra.ExactArgs(1),
-		RunE: a.over(false, func(ctx context.Context, c *cobra.Command, s session, arguments []string) error {
+		Args:    wants("NAME"),
+		RunE: a.over(needsStore, func(ctx context.Context, c *cobra.Command, s session, arguments []string) error {
 			broker, err := brokerOf(ctx, s.store, arguments[0])
 			if err != nil {
 				return err
@@ -70,7 +72,7 @@ func passwordOf(b platform.Broker) string {
 	case b.PasswordFile != "":
 		return "in the file " + printable(b.PasswordFile)
 	case b.Password != nil:
-		return "in the store, sealed"
+		return "in the store, encrypted"
 	}
 	return "none: that of 'run --broker', from " + passwordVariable
 }
@@ -105,34 +107,54 @@ func showPlans(to io.Writer, b platform.Broker) error {
 	return nil
 }
 
-// askTime is for how long a command asks for a catalogue.
-const askTime = 10 * time.Second
+const (
+	askTime       = 10 * time.Second // for how long a command asks for a catalogue
+	longestReason = 1000             // how long a reason may be that is kept, in bytes
+)
+
+// first are at most so many bytes of a text, at its beginning.
+func first(text string, most int) string {
+	if len(text) > most {
+		text = strings.ToValidUTF8(text[:most], "")
+	}
+	return text
+}
+
+// client is what asks for a catalogue.
+func (l *login) client(vault platform.Vault, warn func(string)) (*client.Client, error) {
+	asking, err := client.New(client.Options{
+		Password: client.NewPasswords(vault, warn).Of, TLS: l.tls, AllowHTTP: l.allowHTTP, CatalogueTime: askTime,
+	})
+	return asking, program.Unusable(err)
+}
 
 // askCatalogue asks a broker for its catalogue once, and keeps it, so that orders can name its services at once. If the
-// broker doesn't answer it, that is a warning: a worker asks again.
-func (s session) askCatalogue(ctx context.Context, name string, allowHTTP bool, warn func(string)) error {
+// broker doesn't answer it, that is a warning, and the reason is kept: a worker asks again.
+func (s session) askCatalogue(ctx context.Context, name string, asking *client.Client, warn func(string)) error {
 	broker, err := brokerOf(ctx, s.store, name)
 	if err != nil {
 		return err
 	}
-	asking, err := client.New(client.Options{
-		Password: client.NewPasswords(s.vault, warn).Of, AllowHTTP: allowHTTP, CatalogueTime: askTime,
-	})
-	if err != nil {
-		return err
-	}
-	defer asking.Close()
-	document, _, err := asking.Catalogue(ctx, broker)
+	document, status, err := asking.Catalogue(ctx, broker)
 	if err == nil {
 		_, err = platform.ReadCatalogue(document)
 	}
-	if err != nil {
-		warn(fmt.Sprintf("%v. The broker is added: 'run' asks for the catalogue again", err))
-		return nil
-	}
 	now := time.Now().UTC().Truncate(time.Millisecond)
+	reason := platform.Reason{}
+	if err != nil {
+		warn(fmt.Sprintf("%v. What was given is written: 'run' asks for the catalogue again", err))
+		lost := first(err.Error(), longestReason)
+		reason = platform.Reason{At: now, Kind: kindOfCatalogue, Status: status, Lost: lost}
+	}
 	return s.store.ChangeBroker(ctx, name, func(it platform.Broker) (*platform.Broker, error) {
-		it.Catalogue, it.CatalogueAt = document, now
+		switch {
+		case it.URL != broker.URL || it.User != broker.User: // changed meanwhile by somebody else
+			return nil, nil
+		case err == nil:
+			it.Catalogue, it.CatalogueAt, it.Reason = document, now, reason
+		case it.Catalogue == nil: // else a worker may have reached it
+			it.Reason = reason
+		}
 		return &it, nil
 	})
 }

@@ -49,7 +49,7 @@ func TestKilledWorker(t *testing.T) {
 			run := []string{"run", "--store", store, "--broker", s.url, "--worker", "one", "--first-pace", "0.01"}
 			check(t, store, []line{
 				{"run --once --broker " + s.url, 0, ``, `.*`},
-				{"create --plan by-worker --id one", 0, "one", ``},
+				{"create --plan by-worker --id one --tries 3", 0, "one", ``},
 			})
 			wantKilled(t, point, osbPlatform([]string{"OSB_PLATFORM_PASSWORD=secret", "OSB_CRASH_AT=" + point}, run...))
 			endsWell(t, s, store)

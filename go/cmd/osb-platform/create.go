@@ -3,6 +3,7 @@ package main
 import (
 	"context"
 	"encoding/json"
+	"errors"
 	"fmt"
 
 	"github.com/spf13/cobra"
@@ -24,18 +25,19 @@ func createCommand(a *app) *cobra.Command {
 		Long: `Write down an instance to create, and print its id. 'run' sends the request.
 
 If the creation fails for a reason that may pass, such as a timeout or a 503, it is tried again under another id,
---tries times in all. 'show' has the ids of all tries.`,
+--tries times in all. With --id it is tried once, unless --tries says otherwise. 'show' has the ids of all tries.`,
 		Example: `  osb-platform create --broker shop --service database --plan small
-  osb-platform create --service database --plan small --parameters '{"size": 3}' --wait=600`,
-		RunE: a.over(false, func(ctx context.Context, c *cobra.Command, s session, _ []string) error {
+  osb-platform create --service database --plan small --parameters '{"size": 3}'
+  id=$(osb-platform create --service database --plan small --wait=600)`,
+		Args: wants(),
+		RunE: a.over(needsStore, func(ctx context.Context, c *cobra.Command, s session, _ []string) error {
 			entry, err := s.orders.Create(ctx, wanted)
 			if err != nil {
 				return err
 			}
-			if _, err := fmt.Fprintln(c.OutOrStdout(), printable(idOf(entry))); err != nil {
-				return err
-			}
-			return wait.wait(ctx, c, s, entry.Key, true, created)
+			ctx, forget := wait.interruptible(ctx)
+			defer forget()
+			return wait.ordered(ctx, c, s, entry, true)
 		}),
 	}
 	flags := made.Flags()
@@ -48,9 +50,9 @@ If the creation fails for a reason that may pass, such as a timeout or a 503, it
 		platform.DefaultOrganization+")")
 	flags.StringVar(&wanted.Space, "space", "", "the `text` sent as space_guid (default "+platform.DefaultSpace+")")
 	addObjects(made, flags, &wanted.Parameters, &wanted.Context, &wanted.Identity)
-	flags.Var(program.Count(&wanted.Tries, platform.DefaultTries, 1, mostTries), "tries",
-		"how often it is tried, under another id each time")
-	wait.add(flags, "ready")
+	flags.Var(program.Count(&wanted.Tries, 0, 1, mostTries), "tries", fmt.Sprintf("how often it is tried at most, under "+
+		"another id each time (default: %d, or 1 with --id)", platform.DefaultTries))
+	wait.add(flags, "ready", "Standard error gets the id at once, and standard output the id of the last try at the end")
 	return made
 }
 
@@ -69,21 +71,24 @@ func bindCommand(a *app) *cobra.Command {
 		Use:   "bind INSTANCE",
 		Short: "Create a binding of an instance that is ready, and print its id",
 		Long: `Write down a binding to create, and print its id: that of the instance, a slash, and its own. 'run' sends
-the request. Once the binding is ready, 'credentials' prints its credentials. They are kept sealed with the key of
---key-file.`,
+the request. Once the binding is ready, 'credentials' prints its credentials. They are kept in the store, encrypted with
+the key of --key-file.`,
 		Example: `  osb-platform bind 5f1b7c0e-2f0b-4d0a-9d3e-6a3f0e1f2a3b --wait
   osb-platform bind my-database --resource '{"app_guid": "one"}'`,
-		Args: cobra.ExactArgs(1),
-		RunE: a.over(true, func(ctx context.Context, c *cobra.Command, s session, arguments []string) error {
+		Args: wants("INSTANCE"),
+		RunE: a.over(needsKey, func(ctx context.Context, c *cobra.Command, s session, arguments []string) error {
+			if s.vault == nil {
+				return program.Unusable(errors.New("name the file with the key that encrypts the credentials: " +
+					"--key-file FILE, here and for 'run'. 'osb-platform key' makes a key"))
+			}
 			wanted.Instance = arguments[0]
 			entry, err := s.orders.Bind(ctx, wanted)
 			if err != nil {
 				return err
 			}
-			if _, err := fmt.Fprintln(c.OutOrStdout(), printable(idOf(entry))); err != nil {
-				return err
-			}
-			return wait.wait(ctx, c, s, entry.Key, false, created)
+			ctx, forget := wait.interruptible(ctx)
+			defer forget()
+			return wait.ordered(ctx, c, s, entry, false)
 		}),
 	}
 	flags := made.Flags()
@@ -92,6 +97,6 @@ the request. Once the binding is ready, 'credentials' prints its credentials. Th
 	flags.Var(objectValue(&wanted.BindResource, made.InOrStdin), "resource",
 		"an object sent as bind_resource, or @ and a file with it")
 	addObjects(made, flags, &wanted.Parameters, &wanted.Context, &wanted.Identity)
-	wait.add(flags, "ready")
+	wait.add(flags, "ready", "Standard error gets the id at once, and standard output gets it at the end")
 	return made
 }

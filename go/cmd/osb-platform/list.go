@@ -1,10 +1,13 @@
 package main
 
 import (
+	"bufio"
 	"context"
+	"errors"
 	"fmt"
 	"io"
 	"strings"
+	"syscall"
 	"time"
 
 	"github.com/spf13/cobra"
@@ -27,7 +30,7 @@ type listing struct {
 	state                        string
 	filter                       platform.Filter
 	bindings, reasons, inJSON    bool
-	waiting, stuck               int
+	waiting, stuck, unreadable   int
 	oldestWaiting, oldestOfStuck time.Time
 }
 
@@ -38,17 +41,21 @@ func listCommand(a *app) *cobra.Command {
 		Use:   "list",
 		Short: "List the instances, and with --bindings their bindings too",
 		Long: `List the instances, and with --bindings their bindings too, by state, and in each state the longest in it
-first. The columns are id, state, since, service, plan, broker, and with --reasons the reason. On a terminal they are
-below a head. Elsewhere they are separated by tabs, without a head. What needs attention is printed on standard error.
+first, or with --latest the latest.
+
+The columns are ` + namesOfColumns() + `.
+On a terminal they are below a head. Elsewhere they are separated by tabs, without a head. What needs attention is
+printed on standard error.
 
 --json prints an object on each line.`,
 		Example: `  osb-platform list --state unsettled --reasons
+  osb-platform list --state ready --latest | head
   osb-platform list --broker shop --bindings --json`,
-		RunE: a.over(false, func(ctx context.Context, c *cobra.Command, s session, _ []string) error {
+		RunE: a.over(needsStore, func(ctx context.Context, c *cobra.Command, s session, _ []string) error {
 			if err := l.prepare(); err != nil {
 				return err
 			}
-			if err := l.list(ctx, s.store, c.OutOrStdout()); err != nil {
+			if err := l.listTo(ctx, s.store, c.OutOrStdout()); err != nil {
 				return err
 			}
 			_, err := io.WriteString(c.ErrOrStderr(), l.attention())
@@ -60,9 +67,16 @@ below a head. Elsewhere they are separated by tabs, without a head. What needs a
 	flags.StringVar(&l.state, "state", "", "only those in this `state`: "+joined(allStates))
 	flags.StringVar(&l.filter.Broker, "broker", "", "only those of the broker of this `name`")
 	flags.BoolVar(&l.bindings, "bindings", false, "the bindings too")
+	flags.BoolVar(&l.filter.Latest, "latest", false, "in the opposite order: in each state the latest first")
 	flags.BoolVar(&l.reasons, "reasons", false, "what the broker, or the way to it, has reported last")
 	flags.BoolVar(&l.inJSON, "json", false, "an object of JSON on each line")
+	_ = made.RegisterFlagCompletionFunc("state", completeState) // there is this flag
 	return made
+}
+
+// completeState are the states, for a shell that completes the command line.
+func completeState(*cobra.Command, []string, string) ([]string, cobra.ShellCompDirective) {
+	return strings.Split(joined(allStates), ", "), cobra.ShellCompDirectiveNoFileComp
 }
 
 func joined(states []platform.State) string {
@@ -91,11 +105,24 @@ func (l *listing) prepare() error {
 	return program.Unusable(fmt.Errorf("--state %q: want one of %s", l.state, joined(allStates)))
 }
 
+// listTo prints the rows. It is no error if the reader of the output has gone, such as head after enough lines.
+func (l *listing) listTo(ctx context.Context, store platform.Store, out io.Writer) error {
+	to := bufio.NewWriter(out)
+	err := l.list(ctx, store, to, !l.inJSON && isTerminal(out))
+	if failed := to.Flush(); err == nil {
+		err = failed
+	}
+	if errors.Is(err, syscall.EPIPE) {
+		return nil
+	}
+	return err
+}
+
 // list prints the rows.
-func (l *listing) list(ctx context.Context, store platform.Store, to io.Writer) error {
-	isHeaded := !l.inJSON && isTerminal(to)
+func (l *listing) list(ctx context.Context, store platform.Store, to io.Writer, isHeaded bool) error {
+	shown := shownColumns(l.reasons)
 	if isHeaded {
-		if err := l.print(to, headOf(l.reasons), true); err != nil {
+		if err := printHead(to, shown); err != nil {
 			return err
 		}
 	}
@@ -107,7 +134,12 @@ func (l *listing) list(ctx context.Context, store platform.Store, to io.Writer) 
 		}
 		for _, row := range rows {
 			l.count(row)
-			if err := l.row(to, row, isHeaded); err != nil {
+			if l.inJSON {
+				err = printJSON(to, jsonOf(row))
+			} else {
+				err = printRow(to, shown, row, isHeaded)
+			}
+			if err != nil {
 				return err
 			}
 		}
@@ -119,54 +151,14 @@ func (l *listing) list(ctx context.Context, store platform.Store, to io.Writer) 
 	}
 }
 
-func (l *listing) row(to io.Writer, e platform.Entry, isAligned bool) error {
-	if l.inJSON {
-		return printJSON(to, jsonOf(e))
-	}
-	return l.print(to, cellsOf(e, l.reasons), isAligned)
-}
-
-// widths are the least widths of the columns on a terminal.
-var widths = []int{36, 16, 20, 36, 36, 12, 0}
-
-func (l *listing) print(to io.Writer, cells []string, isAligned bool) error {
-	line := strings.Join(cells, "\t")
-	if isAligned {
-		padded := make([]string, len(cells))
-		for at, cell := range cells {
-			padded[at] = fmt.Sprintf("%-*s", widths[at], cell)
-		}
-		line = strings.TrimRight(strings.Join(padded, " "), " ")
-	}
-	_, err := fmt.Fprintln(to, line)
-	return err
-}
-
-func headOf(withReasons bool) []string {
-	head := []string{"id", "state", "since", "service", "plan", "broker"}
-	if withReasons {
-		head = append(head, "reason")
-	}
-	return head
-}
-
-func cellsOf(e platform.Entry, withReasons bool) []string {
-	cells := []string{
-		printable(idOf(e)), string(e.State), moment(e.Since), printable(e.Names.Service), printable(e.Names.Plan),
-		printable(e.Broker),
-	}
-	if withReasons {
-		cells = append(cells, reasonOf(e))
-	}
-	return cells
-}
-
 // longCleaning is after how long a deletion that doesn't end needs attention.
 const longCleaning = time.Hour
 
 // count counts what needs attention.
 func (l *listing) count(e platform.Entry) {
 	switch {
+	case e.Unreadable != "":
+		l.unreadable++
 	case e.State == platform.Unsettled && e.Removal == platform.NotRemoved && e.Rests():
 		l.waiting++
 		l.oldestWaiting = earlierOf(l.oldestWaiting, e.Since)
@@ -186,10 +178,14 @@ func earlierOf(one, other time.Time) time.Time {
 // attention is what needs attention among the rows that were listed, and what to do.
 func (l *listing) attention() string {
 	text := ""
+	if l.unreadable > 0 {
+		text += fmt.Sprintf("%s can't be read. Nothing is sent for such a record. 'osb-platform list --reasons' shows "+
+			"why.\n", counted(l.unreadable, "record"))
+	}
 	if l.waiting > 0 {
 		text += fmt.Sprintf("%d unsettled (oldest: %s). For each, run 'osb-platform show ID', and ask the broker for "+
-			"its last operation. Run 'osb-platform remove ID' only if the broker answers 200 for your service and "+
-			"plan: that deletes it at the broker.\n", l.waiting, moment(l.oldestWaiting))
+			"its last operation. Run 'osb-platform remove ID' if the broker answers 410, or if it answers 200 for "+
+			"your service and plan and the instance is yours: that deletes it at the broker.\n", l.waiting, moment(l.oldestWaiting))
 	}
 	if l.stuck > 0 {
 		text += fmt.Sprintf("%d being deleted for more than an hour (oldest: %s). For each, run 'osb-platform show "+

@@ -22,6 +22,8 @@ func main() {
 
 const environment = `
 environment:
+  OSB_PLATFORM_STORE     the store, if --store isn't given
+  OSB_PLATFORM_KEY_FILE  the file with the key, if --key-file isn't given
   OSB_PLATFORM_PASSWORD  the password at a broker, for 'run --broker URL' and for
                          --store-password
   PGPASSWORD, PGPASSFILE and PostgreSQL's other variables: how its server is reached. A URL
@@ -29,8 +31,9 @@ environment:
 
 exit status: 0 done; 1 rejected: an id or a broker is unknown, used already, or in a state
 that doesn't allow it; 2 change something first: an argument, a file, a password or a right;
-3 --wait: it has ended otherwise than asked for; 4 --wait: the time is over and it goes on;
-75 the store is away, so try again; 70 any other error`
+3 --wait: it has ended otherwise than asked for; 4 --wait: the time is over, or the wait was
+interrupted, and it goes on; 75 the store is away, its disk is full, or another worker has
+the name, so try again; 70 any other error`
 
 func rootCommand(a *app) *cobra.Command {
 	root := &cobra.Command{
@@ -61,8 +64,9 @@ docs/platform-guide.md says how to run it.
 	}
 	add("orders", createCommand(a), bindCommand(a), unbindCommand(a), credentialsCommand(a), removeCommand(a),
 		retryCommand(a), abandonCommand(a), listCommand(a), showCommand(a))
-	add("run", brokerCommand(a), runCommand(a), serveCommand(a), keyCommand())
-	root.CompletionOptions.DisableDefaultCmd = true
+	add("run", brokerCommand(a), runCommand(a), serveCommand(a), keyCommand(), rekeyCommand(a))
+	root.SetHelpCommandGroupID("run")
+	root.SetCompletionCommandGroupID("run")
 	a.places.add(root.PersistentFlags())
 	wrapUsage(root)
 	return root

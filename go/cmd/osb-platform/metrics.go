@@ -19,6 +19,9 @@ const prefix = "osb_platform_"
 // Metrics are a platform.Observer that counts events, for Prometheus:
 //
 //	osb_platform_requests_total{broker,kind,status}   answered requests; the status is lost if no answer was taken
+//	osb_platform_rejections_total{broker,kind,status,error}
+//	                                                  answers of 400 or more. The error is the answer's, if the standard
+//	                                                  has it, and else other, or none
 //	osb_platform_request_seconds{kind}                durations of requests, a histogram
 //	osb_platform_in_flight                            requests of this worker that aren't answered yet
 //	osb_platform_failures_total{event}                failures, by their event in the log
@@ -28,14 +31,15 @@ const prefix = "osb_platform_"
 //
 // and those of a storeCollector, of the process (process_*) and of Go's runtime (go_*).
 type metrics struct {
-	registry *prometheus.Registry
-	requests *prometheus.CounterVec
-	seconds  *prometheus.HistogramVec
-	inFlight prometheus.Gauge
-	failures *prometheus.CounterVec
-	lost     prometheus.Counter
-	orphans  *prometheus.CounterVec
-	names    names
+	registry   *prometheus.Registry
+	requests   *prometheus.CounterVec
+	rejections *prometheus.CounterVec
+	seconds    *prometheus.HistogramVec
+	inFlight   prometheus.Gauge
+	failures   *prometheus.CounterVec
+	lost       prometheus.Counter
+	orphans    *prometheus.CounterVec
+	names      names
 }
 
 func newMetrics(dropped func() uint64) *metrics {
@@ -45,6 +49,8 @@ func newMetrics(dropped func() uint64) *metrics {
 	m := &metrics{
 		registry: prometheus.NewRegistry(),
 		requests: vector("requests_total", "Answered requests.", "broker", "kind", "status"),
+		rejections: vector("rejections_total", "Answers of 400 or more, by their error.", "broker", "kind", "status",
+			"error"),
 		seconds: prometheus.NewHistogramVec(prometheus.HistogramOpts{
 			Name: prefix + "request_seconds", Help: "Durations of requests, in seconds.",
 			Buckets: []float64{.001, .0025, .005, .01, .025, .05, .1, .25, .5, 1, 2.5, 5, 10, 30, 60},
@@ -58,7 +64,7 @@ func newMetrics(dropped func() uint64) *metrics {
 		}),
 		orphans: vector("orphans_total", "Answers to last deletions.", "result"),
 	}
-	m.registry.MustRegister(m.requests, m.seconds, m.inFlight, m.failures, m.lost, m.orphans,
+	m.registry.MustRegister(m.requests, m.rejections, m.seconds, m.inFlight, m.failures, m.lost, m.orphans,
 		prometheus.NewCounterFunc(prometheus.CounterOpts{
 			Name: prefix + "log_lines_dropped_total", Help: "Dropped lines of the log.",
 		}, func() float64 { return float64(dropped()) }),
@@ -85,8 +91,29 @@ func (m *metrics) Answered(of platform.Exchange) {
 	if of.Lost == nil && of.Status >= 100 && of.Status <= 599 {
 		status = strconv.Itoa(of.Status)
 	}
-	m.requests.WithLabelValues(m.names.name(of.Broker), of.Kind, status).Inc()
+	broker := m.names.name(of.Broker)
+	m.requests.WithLabelValues(broker, of.Kind, status).Inc()
+	if of.Status >= 400 && of.Status <= 599 {
+		m.rejections.WithLabelValues(broker, of.Kind, strconv.Itoa(of.Status), errorLabel(of.Error)).Inc()
+	}
 	m.seconds.WithLabelValues(of.Kind).Observe(of.Duration.Seconds())
+}
+
+// knownErrors are the errors that the standard has, and the one that osb-broker answers besides.
+var knownErrors = map[string]bool{
+	"AsyncRequired": true, "ConcurrencyError": true, "RequiresApp": true, "MaintenanceInfoConflict": true,
+	"QuotaExceeded": true,
+}
+
+// errorLabel is the error of an answer as the value of a label: a broker can answer any text.
+func errorLabel(code string) string {
+	switch {
+	case code == "":
+		return "none"
+	case knownErrors[code]:
+		return code
+	}
+	return other
 }
 
 // Changed counts nothing: the collector counts states.

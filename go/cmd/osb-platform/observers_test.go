@@ -93,8 +93,16 @@ func TestMetrics(t *testing.T) {
 	for n := 0; n < mostNames+10; n++ {
 		m.Answered(platform.Exchange{Broker: fmt.Sprint("b", n), Kind: "poll", Status: 200})
 	}
+	for _, code := range []string{"QuotaExceeded", "", "its own", "its other"} {
+		m.Answered(platform.Exchange{Broker: "shop", Kind: "provision", Status: 422, Error: code})
+	}
+	m.Answered(platform.Exchange{Broker: "shop", Kind: "provision", Status: 201, Error: "QuotaExceeded"})
 	text := textOfMetrics(t, m)
 	for _, want := range []string{
+		`rejections_total{broker="shop",error="QuotaExceeded",kind="provision",status="422"} 1`,
+		`rejections_total{broker="shop",error="none",kind="provision",status="422"} 1`,
+		`rejections_total{broker="shop",error="other",kind="provision",status="422"} 2`,
+		`rejections_total{broker="shop",error="other",kind="bind",status="503"} 1`,
 		`requests_total{broker="shop",kind="bind",status="lost"} 1`, `request_seconds_count{kind="bind"} 1`,
 		`requests_total{broker="other",kind="poll",status="200"} 11`, `failures_total{event="lease_lost"} 1`,
 		"leases_lost_total 1", `orphans_total{result="found"} 1`, `orphans_total{result="unknown"} 1`,
@@ -105,6 +113,9 @@ func TestMetrics(t *testing.T) {
 		if !strings.Contains(text, "\n"+prefix+want+"\n") {
 			t.Errorf("%s isn't in %s", want, text)
 		}
+	}
+	if strings.Contains(text, `status="201",error=`) || strings.Contains(text, "its own") {
+		t.Error(text)
 	}
 }
 

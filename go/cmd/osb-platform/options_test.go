@@ -81,6 +81,21 @@ func TestHelp(t *testing.T) {
 	}
 }
 
+// A shell completes commands, and the states of a list.
+func TestCompletion(t *testing.T) {
+	for _, it := range []struct {
+		arguments []string
+		want      string
+	}{
+		{[]string{"completion", "bash"}, "# bash completion"}, {[]string{"__complete", "cre"}, "create\t"},
+		{[]string{"__complete", "list", "--state", ""}, "ordered\nwithdrawn\n"},
+	} {
+		if got := call(t, it.arguments...); got.status != 0 || !strings.HasPrefix(got.out, it.want) {
+			t.Errorf("%v: %+v", it.arguments, got)
+		}
+	}
+}
+
 func TestValues(t *testing.T) {
 	for text, want := range map[string]time.Duration{"0.5": 500 * time.Millisecond, "0": 0, "31622400": longestTime} {
 		if got, err := secondsOf(text, 0); err != nil || got != want {

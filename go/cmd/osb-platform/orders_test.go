@@ -40,13 +40,21 @@ func TestOrders(t *testing.T) {
 		{"show two", 1, ``, `osb-platform: the instance two is unknown`},
 		{"retry one", 0, ``, ``},
 		{"abandon one --because gone", 1, ``, `osb-platform: .*wasn't sent yet: remove it`},
-		{"abandon one", 2, ``, `osb-platform: give a reason.*`},
-		{"bind one", 1, ``, `osb-platform: there is no key to keep credentials with.*`},
+		{"abandon one", 2, ``, `osb-platform: --because is missing: give the reason.*`},
+		{"bind one", 2, ``, `osb-platform: name the file with the key .*--key-file FILE.*`},
+		{"bind", 2, ``, `osb-platform: it takes INSTANCE, and there are 0 arguments \(see .*`},
+		{"show one two", 2, ``, `osb-platform: it takes ID, and there are 2 arguments \(see .*`},
+		{"list one", 2, ``, `osb-platform: unknown command "one".*`},
+		{"create one", 2, ``, `osb-platform: it takes no argument, and "one" is one \(see .*`},
+		{"create --plan small --wait 600", 2, ``, `osb-platform: too many arguments: .*--wait=600 \(see .*`},
+		{"remove one --wait 600", 2, ``, `osb-platform: too many arguments: .*--wait=600 \(see .*`},
+		{"show /two", 2, ``, `osb-platform: the id "" can't be used: an id has 1 to 255 bytes of UTF-8`},
 		{"unbind one", 2, ``, `osb-platform: "one" is an instance: want INSTANCE/BINDING, or use remove`},
 		{"unbind one/two", 1, ``, `osb-platform: the binding one/two is unknown`},
 		{"credentials one", 2, ``, `osb-platform: .*is an instance.*`},
-		{"create --plan small --id two --wait=0.1", 4, "two\ntwo\tordered", `.*: two is still ordered \(not .*`},
-		{"remove one --wait", 0, "one\twithdrawn", ``},
+		{"create --plan small --id two --wait=0.1", 4, `two`, `ordered two\nosb-platform: two is still ordered \(not .*`},
+		{"remove one --wait", 0, ``, `one is withdrawn`},
+		{"remove one --wait", 0, ``, `one is withdrawn`},
 		{"remove one", 0, `it is withdrawn already`, ``},
 		{"list --state withdrawn", 0, "one\twithdrawn\t.*", ``},
 		{"retry one", 1, ``, `osb-platform: .*nothing is to be done for it`},
@@ -67,13 +75,13 @@ func TestParameters(t *testing.T) {
 			t.Fatal(text, got)
 		}
 		over(t, store, func(ctx context.Context, in platform.Store) error {
-			key, err := keyOf(id)
+			key, err := platform.ParseKey(id)
 			if err != nil {
 				return err
 			}
 			e, err := in.Read(ctx, key)
 			if !isSame(t, string(e.Body), `{"parameters": {"size": 3}, "context": {"platform": "here"}}`) ||
-				e.Identity != "here eyJ1c2VyIjoxfQ==" || e.Organization != "o" || e.Tries != 3 {
+				e.Identity != "here eyJ1c2VyIjoxfQ==" || e.Organization != "o" || e.Tries != 1 {
 				t.Errorf("%s: %s, %s, %s, %d", text, e.Body, e.Identity, e.Organization, e.Tries)
 			}
 			return err
@@ -160,5 +168,9 @@ func TestHostileTexts(t *testing.T) {
 		if got.status != 0 || strings.Contains(got.out, "\x1b") || !strings.Contains(got.out, "[2Jb") {
 			t.Errorf("%v: %q %q", command, got.out, got.failed)
 		}
+	}
+	got = call(t, "--store", store, "abandon", id, "--because", "it")
+	if got.status != 1 || strings.Contains(got.failed, "\x1b") || !strings.Contains(got.failed, "[2Jb wasn't sent") {
+		t.Errorf("%+v", got)
 	}
 }

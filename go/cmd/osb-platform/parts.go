@@ -11,6 +11,7 @@ import (
 	"pippinterm/platform"
 	"pippinterm/platform/api"
 	"pippinterm/platform/page"
+	"pippinterm/platform/vault"
 	"pippinterm/program"
 	"pippinterm/program/health"
 	"pippinterm/program/limiter"
@@ -25,6 +26,10 @@ const (
 	apiConnections    = 256
 )
 
+// pageSilence is how long a new connection to the page may send nothing. Anybody may open connections to the page, and
+// further ones wait while all are taken.
+const pageSilence = 2 * time.Second
+
 // slowest is how long a client may take to accept one write of an answer.
 const slowest = 10 * time.Second
 
@@ -32,6 +37,7 @@ const slowest = 10 * time.Second
 type part struct {
 	option, address string // the option that names the address, which is empty if the part isn't wanted
 	connections     int
+	silence         time.Duration        // how long a new connection may send nothing, or 0 for the usual
 	certificates    *server.Certificates // or nil for HTTP
 	make            func() (http.Handler, error)
 	url             *string // where it is, once it listens
@@ -48,7 +54,10 @@ func (r *running) parts(work context.Context, whenStopping func(func())) []part 
 	}
 	s := r.settings.sites
 	return []part{
-		{option: "--page", address: s.page, connections: pageConnections, make: r.page, url: &r.pageURL},
+		{
+			option: "--page", address: s.page, connections: pageConnections, silence: pageSilence, make: r.page,
+			url: &r.pageURL,
+		},
 		{
 			option: "--api", address: s.api, connections: apiConnections, certificates: r.apiTLS, make: r.api,
 			url: &r.apiURL,
@@ -81,33 +90,61 @@ func (r *running) page() (http.Handler, error) {
 	if options.Host, _, err = net.SplitHostPort(s.page); err != nil {
 		return nil, err
 	}
-	if s.pageUsers != "" {
-		var warning string
-		if options.Users, warning, err = secrets.Users(s.pageUsers); err != nil {
+	if s.pageUsers == "" {
+		return page.NewHandler(r.store, options)
+	}
+	options.Limiter = limiter.New()
+	return r.reloadable("users_reloaded", "users_not_reloaded", func() (http.Handler, error) {
+		users, err := r.pageUsers()
+		if err != nil {
 			return nil, fmt.Errorf("--page-users: %w", err)
 		}
-		if len(options.Users) == 0 { // the page would ask for no password
-			return nil, fmt.Errorf("--page-users: %s has no user", s.pageUsers)
-		}
-		if warning != "" {
-			r.log.warn(warning)
-		}
-		options.Limiter = limiter.New()
-	}
-	return page.NewHandler(r.store, options)
+		with := options
+		with.Users = users
+		return page.NewHandler(r.store, with)
+	})
 }
 
-// api makes the API.
-func (r *running) api() (http.Handler, error) {
-	tokens, warning, err := api.ReadTokens(r.settings.sites.apiTokens)
-	if err != nil {
-		return nil, fmt.Errorf("--api-tokens: %w", err)
+// pageUsers reads the users of the page. Without any it is an error: the page would ask for no password.
+func (r *running) pageUsers() (map[string][]string, error) {
+	file := r.settings.sites.pageUsers
+	users, warning, err := secrets.Users(file)
+	if err == nil && len(users) == 0 {
+		err = fmt.Errorf("%s has no user", file)
 	}
 	if warning != "" {
 		r.log.warn(warning)
 	}
+	return users, err
+}
+
+// api makes the API.
+func (r *running) api() (http.Handler, error) {
 	orders := platform.NewOrders(r.store, r.vault)
-	return api.NewHandler(orders, r.store, api.Options{Tokens: tokens, Observe: r.log.apiRequest})
+	orders.AllowHTTP(r.settings.allowHTTP)
+	return r.reloadable("tokens_reloaded", "tokens_not_reloaded", func() (http.Handler, error) {
+		tokens, warning, err := api.ReadTokens(r.settings.sites.apiTokens)
+		if err != nil {
+			return nil, fmt.Errorf("--api-tokens: %w", err)
+		}
+		if warning != "" {
+			r.log.warn(warning)
+		}
+		return api.NewHandler(orders, r.store, api.Options{
+			Tokens: tokens, CheckKey: r.checkKeyOfAPI, Observe: r.log.apiRequest,
+		})
+	})
+}
+
+// checkKeyOfAPI is a platform.Fault if the key of the store was replaced since it was opened. 'rekey' rejects to run
+// beside a worker, but a 'serve' may go on with the old key.
+func (r *running) checkKeyOfAPI(ctx context.Context) error {
+	err := r.checkKeys(ctx)
+	if errors.Is(err, vault.ErrStoreKey) || errors.Is(err, vault.ErrRotating) {
+		return &platform.Fault{Kind: platform.Conflict, Text: "the key of the store was replaced, or is being replaced: " +
+			"start this program again with the new key, and repeat the request"}
+	}
+	return err
 }
 
 // warnOf warns of a part that others than this machine reach, and that isn't protected.
@@ -154,7 +191,7 @@ func (r *running) site(work context.Context, of part) (server.Site, error) {
 		return server.Site{}, err
 	}
 	listener, err := server.Listen(work, of.address, server.Options{
-		Connections: of.connections, Write: slowest, Certificates: of.certificates,
+		Connections: of.connections, Silent: of.silence, Write: slowest, Certificates: of.certificates,
 		Observer: serverObserver{to: r.observer},
 	})
 	if err != nil {

@@ -5,6 +5,7 @@ import (
 	"net"
 	"net/url"
 	"os"
+	"path/filepath"
 	"strings"
 	"sync"
 	"syscall"
@@ -170,16 +171,65 @@ func TestSessionsThatAreEnded(t *testing.T) {
 	}
 	p := start(t, address, environment, "--broker", s.url, "--worker", "one")
 	p.event("broker_reached")
-	db := pgtest.DB(t, pgtest.URL(t))
-	pgtest.Exec(t, db, "SELECT pg_terminate_backend(pid) FROM pg_stat_activity "+
-		"WHERE application_name = 'osb_program_ended'")
+	endSessions(t, "osb_program_ended")
 	p.event("worker_name_lost")
 	check(t, address, []line{
-		{"create --plan at-once --id one --wait=60", 0, "one\none\tready", ``},
-		{"remove one --wait=60", 0, "one\tgone", ``},
+		{"create --plan at-once --id one --wait=60", 0, `one`, `ordered one`},
+		{"remove one --wait=60", 0, ``, `one is gone`},
 		{"list", 0, "one\tgone\t.*", ``},
 	})
 	p.stop()
+}
+
+func endSessions(t *testing.T, name string) {
+	t.Helper()
+	pgtest.Exec(t, pgtest.DB(t, pgtest.URL(t)), "SELECT pg_terminate_backend(pid) FROM pg_stat_activity "+
+		"WHERE application_name = '"+name+"'")
+}
+
+// If a worker loses its name while a request is in flight, the answer is written, and nothing more is sent for the order.
+// Then the worker goes on under its name.
+func TestSessionsThatAreEndedInFlight(t *testing.T) {
+	for schema, options := range map[string][]string{
+		"osb_program_flight": nil, "osb_program_flight_once": {"--once"},
+	} {
+		t.Run(schema, func(t *testing.T) {
+			s := newSite(t)
+			_, address, environment := newWire(t, schema)
+			for _, it := range environment {
+				name, value, _ := strings.Cut(it, "=")
+				t.Setenv(name, value)
+			}
+			password := filepath.Join(t.TempDir(), "password")
+			write(t, password, "secret")
+			check(t, address, []line{
+				{"broker add shop " + s.url + " --hold 0 --first-pace 0.01 --password-file " + password, 0, ``, ``},
+				{"create --plan at-once --id one", 0, `one`, ``},
+			})
+			release := s.hold()
+			defer release()
+			p := start(t, address, environment, append(options, "--worker", "one")...)
+			s.await(t, 1)
+			endSessions(t, schema)
+			p.event("worker_name_lost")
+			release()
+			if changed := p.event("state_changed"); changed["after"] != "ready" {
+				t.Errorf("the order has come to %v", changed)
+			}
+			want := 1
+			if len(options) > 0 {
+				p.ended()
+			} else {
+				want = 2
+				check(t, address, []line{{"create --plan at-once --id two --wait=60", 0, `two`, `ordered two`}})
+				p.stop()
+			}
+			check(t, address, []line{{"show one", 0, `.*\nstate\tready\n.*`, ``}})
+			if s.requests() != want {
+				t.Errorf("%d requests were sent", s.requests())
+			}
+		})
+	}
 }
 
 // A database that is away ends the program with the status 75, and a URL with a password with 2.

@@ -20,18 +20,23 @@ func removeCommand(a *app) *cobra.Command {
 		Long: `Write down that an instance is to be deleted. 'run' sends the request. An order that wasn't sent yet is
 withdrawn: it never will be sent. If the instance is gone or withdrawn already, that is printed.
 
+If the creation was tried again under other ids, the last try is removed. Standard error has its id.
+
 An instance with bindings can't be removed, unless --bindings has them removed first.`,
 		Example: `  osb-platform remove 5f1b7c0e-2f0b-4d0a-9d3e-6a3f0e1f2a3b --bindings --wait`,
-		Args:    cobra.ExactArgs(1),
-		RunE: a.over(false, func(ctx context.Context, c *cobra.Command, s session, arguments []string) error {
+		Args:    wants("ID"),
+		RunE: a.over(needsStore, func(ctx context.Context, c *cobra.Command, s session, arguments []string) error {
 			return remove(ctx, c, s, arguments[0], withBindings, wait)
 		}),
 	}
 	made.Flags().SortFlags = false
 	made.Flags().BoolVar(&withBindings, "bindings", false, "remove its bindings first")
-	wait.add(made.Flags(), "gone")
+	wait.add(made.Flags(), "gone", printsEnd)
 	return made
 }
+
+// printsEnd is what a command that removes something prints if it waits.
+const printsEnd = "Standard error gets the state at the end"
 
 // unbindCommand has a binding deleted.
 func unbindCommand(a *app) *cobra.Command {
@@ -41,10 +46,10 @@ func unbindCommand(a *app) *cobra.Command {
 		Short:   "Have a binding deleted",
 		Long:    "Write down that a binding is to be deleted. 'run' sends the request. Its credentials stop working.",
 		Example: `  osb-platform unbind my-database/5f1b7c0e-2f0b-4d0a-9d3e-6a3f0e1f2a3b --wait`,
-		Args:    cobra.ExactArgs(1),
-		RunE: a.over(false, func(ctx context.Context, c *cobra.Command, s session, arguments []string) error {
+		Args:    wants("INSTANCE/BINDING"),
+		RunE: a.over(needsStore, func(ctx context.Context, c *cobra.Command, s session, arguments []string) error {
 			id := arguments[0]
-			key, err := keyOf(id)
+			key, err := platform.ParseKey(id)
 			if err == nil && !key.IsBinding {
 				err = program.Unusable(fmt.Errorf("%q is an instance: want INSTANCE/BINDING, or use remove", id))
 			}
@@ -54,25 +59,61 @@ func unbindCommand(a *app) *cobra.Command {
 			return remove(ctx, c, s, id, false, wait)
 		}),
 	}
-	wait.add(made.Flags(), "gone")
+	wait.add(made.Flags(), "gone", printsEnd)
 	return made
 }
 
 func remove(ctx context.Context, c *cobra.Command, s session, id string, withBindings bool, wait *waiting) error {
-	before, err := readEntry(ctx, s.store, id)
+	named, err := readEntry(ctx, s.store, id)
 	if err != nil {
 		return err
 	}
-	if _, err := s.orders.Remove(ctx, before.Key, withBindings); err != nil {
-		return hinted(err, before, withBindings)
+	before, err := removeLast(ctx, c, s, named, withBindings)
+	if err != nil {
+		return err
 	}
 	if wait.isOn {
-		return wait.wait(ctx, c, s, before.Key, false, deleted)
+		ctx, forget := wait.interruptible(ctx)
+		defer forget()
+		last, err := wait.wait(ctx, c, s, before, false, deleted)
+		if err == nil {
+			fmt.Fprintf(c.ErrOrStderr(), "%s is %s\n", printable(idOf(last)), last.State)
+		}
+		return err
 	}
 	if before.State == platform.Gone || before.State == platform.Withdrawn {
 		_, err = fmt.Fprintf(c.OutOrStdout(), "it is %s already\n", before.State)
 	}
 	return err
+}
+
+// removeLast removes the last try of an order, and returns it as it was before. If another try than the one that is
+// given is removed, standard error has its id.
+func removeLast(
+	ctx context.Context, c *cobra.Command, s session, named platform.Entry, withBindings bool,
+) (platform.Entry, error) {
+	for shown := named.Key; ; {
+		last, err := lastTry(ctx, s.store, named)
+		if err != nil {
+			return last, err
+		}
+		if last.Key != shown {
+			shown = last.Key
+			fmt.Fprintf(c.ErrOrStderr(), "%s was tried again as %s: removing that one\n", printable(idOf(named)),
+				printable(idOf(last)))
+		}
+		after, err := s.orders.Remove(ctx, last.Key, withBindings)
+		if err != nil {
+			return last, hinted(err, last, withBindings)
+		}
+		if after.State != platform.Gone {
+			return last, nil
+		}
+		// a further try may have been ordered just now
+		if further, err := lastTry(ctx, s.store, last); err != nil || further.Key == last.Key {
+			return last, err
+		}
+	}
 }
 
 // hinted names the option with which an instance is removed that has bindings, if these are why it can't be removed.
@@ -81,7 +122,7 @@ func hinted(err error, before platform.Entry, withBindings bool) error {
 	isConflict := errors.As(err, &fault) && fault.Kind == platform.Conflict
 	isAbandoned := before.State == platform.Abandoned // the other reason for a conflict
 	if !isConflict || isAbandoned || withBindings || before.Key.IsBinding {
-		return named(err, before)
+		return err
 	}
 	text := fmt.Sprintf("the instance %s has bindings: unbind them first, or remove them with it by --bindings",
 		printable(idOf(before)))
@@ -96,14 +137,14 @@ func retryCommand(a *app) *cobra.Command {
 		Long: `Send the next request of an instance or a binding at once. If the broker has accepted a deletion,
 and polling it doesn't end, the deletion is sent again.`,
 		Example: `  osb-platform retry 5f1b7c0e-2f0b-4d0a-9d3e-6a3f0e1f2a3b`,
-		Args:    cobra.ExactArgs(1),
-		RunE: a.over(false, func(ctx context.Context, _ *cobra.Command, s session, arguments []string) error {
+		Args:    wants("ID"),
+		RunE: a.over(needsStore, func(ctx context.Context, _ *cobra.Command, s session, arguments []string) error {
 			entry, err := readEntry(ctx, s.store, arguments[0])
 			if err != nil {
 				return err
 			}
 			_, err = s.orders.Retry(ctx, entry.Key)
-			return named(err, entry)
+			return err
 		}),
 	}
 }
@@ -117,14 +158,18 @@ func abandonCommand(a *app) *cobra.Command {
 		Long: `End the record of an instance or a binding as abandoned. Nothing more is sent. Nobody knows whether the
 resource exists: first have the operator of the broker look. 'list' keeps it, with the reason.`,
 		Example: `  osb-platform abandon my-database --because 'the broker was shut down, ticket 4711'`,
-		Args:    cobra.ExactArgs(1),
-		RunE: a.over(false, func(ctx context.Context, _ *cobra.Command, s session, arguments []string) error {
+		Args:    wants("ID"),
+		RunE: a.over(needsStore, func(ctx context.Context, _ *cobra.Command, s session, arguments []string) error {
+			if text == "" {
+				return program.Unusable(errors.New("--because is missing: give the reason, for whoever reads the " +
+					"record later"))
+			}
 			entry, err := readEntry(ctx, s.store, arguments[0])
 			if err != nil {
 				return err
 			}
 			_, err = s.orders.Abandon(ctx, entry.Key, text)
-			return named(err, entry)
+			return err
 		}),
 	}
 	made.Flags().StringVar(&text, "because", "", "the reason, a `text` for whoever reads it later")

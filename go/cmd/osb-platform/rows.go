@@ -4,11 +4,8 @@ import (
 	"context"
 	"errors"
 	"fmt"
-	"strconv"
-	"strings"
 
 	"pippinterm/platform"
-	"pippinterm/program"
 )
 
 // idOf is the id of a row as it was ordered.
@@ -19,15 +16,9 @@ func idOf(e platform.Entry) string {
 	return e.Names.Instance
 }
 
-// keyOf is the key of an id of the command line.
-func keyOf(text string) (platform.Key, error) {
-	key, err := platform.ParseKey(text)
-	return key, program.Unusable(err)
-}
-
 // readEntry is the row of an id of the command line. If there is none, the error is a Fault.
 func readEntry(ctx context.Context, store platform.Store, id string) (platform.Entry, error) {
-	key, err := keyOf(id)
+	key, err := platform.ParseKey(id)
 	if err != nil {
 		return platform.Entry{}, err
 	}
@@ -38,16 +29,6 @@ func readEntry(ctx context.Context, store platform.Store, id string) (platform.E
 		}
 	}
 	return entry, err
-}
-
-// named is the error of a call about a row, with the id as it was ordered in place of its numbers.
-func named(err error, e platform.Entry) error {
-	var fault *platform.Fault
-	if !errors.As(err, &fault) {
-		return err
-	}
-	text := strings.ReplaceAll(fault.Text, e.Key.String(), printable(idOf(e)))
-	return &platform.Fault{Kind: fault.Kind, Text: text}
 }
 
 // triesOf are all tries of the order of a row, the first one first.
@@ -69,32 +50,4 @@ func triesOf(ctx context.Context, store platform.Store, e platform.Entry) ([]pla
 		}
 	}
 	return sorted, nil
-}
-
-// reasonOf is why a row is as it is, in one line, or empty: of what is gone, why its creation has failed, if it has.
-func reasonOf(e platform.Entry) string {
-	switch {
-	case e.Because != "":
-		return printable(e.Because)
-	case e.State == platform.Gone && e.Failure != (platform.Reason{}):
-		return textOf(e.Failure)
-	}
-	return textOf(e.Last)
-}
-
-// textOf is a reason in one line.
-func textOf(r platform.Reason) string {
-	if r == (platform.Reason{}) {
-		return ""
-	}
-	parts := []string{r.Kind}
-	if r.Status != 0 {
-		parts = append(parts, strconv.Itoa(r.Status))
-	}
-	for _, it := range []string{r.Error, r.Description, r.Lost} {
-		if it != "" {
-			parts = append(parts, printable(it))
-		}
-	}
-	return strings.Join(parts, " ")
 }

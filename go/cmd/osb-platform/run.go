@@ -4,13 +4,13 @@ import (
 	"context"
 	"fmt"
 	"io"
-	"os"
 	"os/signal"
 	"syscall"
 	"time"
 
 	"pippinterm/platform"
 	"pippinterm/platform/client"
+	"pippinterm/platform/vault"
 	"pippinterm/program"
 	"pippinterm/program/logs"
 	"pippinterm/program/server"
@@ -30,12 +30,12 @@ type running struct {
 	metrics  *metrics
 	store    platform.Store
 	client   *client.Client
-	vault    platform.Vault // or nil
+	keys     *vault.Vault   // or nil
+	vault    platform.Vault // the keys, or nil
 	engine   *platform.Engine
 	names    *orderedIDs
 	opened   chan struct{} // is closed once the store is open
-	// reload are what reads files again at SIGHUP.
-	reload []func() error
+	reload   []reloading   // what SIGHUP does
 	// apiTLS are the certificates of the API, or nil for HTTP.
 	apiTLS *server.Certificates
 	// notServed has why the sites are served no more.
@@ -129,14 +129,14 @@ func (r *running) serve(work, stop context.Context) (err error) {
 	if r.client != nil {
 		defer r.client.Close()
 	}
-	defer r.reloads(work)()
 	endServing, err := r.serveSites(work, stop)
 	if err != nil {
 		return err
 	}
 	defer endServing()
-	r.logStart()
+	defer r.reloads(work)()
 	if r.settings.servesOnly {
+		r.logStart()
 		return r.serveOnly(stop)
 	}
 	return r.work(work, stop)
@@ -174,10 +174,12 @@ func (r *running) open(ctx context.Context) (err error) {
 	if err != nil {
 		return err
 	}
-	if r.vault, err = openVault(ctx, r.places.keys(), r.store, r.log.warn); err != nil {
+	if r.keys, err = openVault(ctx, r.places.keys(), r.store, r.log.warn); err != nil {
 		return err
 	}
-	if r.vault == nil {
+	if r.keys != nil {
+		r.vault = r.keys
+	} else {
 		consequence := "bindings don't become ready"
 		if r.settings.servesOnly {
 			consequence = "credentials aren't answered, and no broker's password can be given"
@@ -191,7 +193,7 @@ func (r *running) open(ctx context.Context) (err error) {
 		if r.apiTLS, err = server.LoadCertificates(r.settings.sites.apiTLS); err != nil {
 			return program.Unusable(fmt.Errorf("--api-tls-..: %w", err))
 		}
-		r.reload = append(r.reload, r.apiTLS.Reload)
+		r.reload = append(r.reload, certificatesOf(r.apiTLS.Reload))
 	}
 	if !r.settings.servesOnly {
 		if err := r.openEngine(ctx, own); err != nil {
@@ -221,13 +223,17 @@ func (r *running) openEngine(ctx context.Context, own string) (err error) {
 		return program.Unusable(err)
 	}
 	if s.tls != (client.Files{}) {
-		r.reload = append(r.reload, r.client.Reload)
+		r.reload = append(r.reload, certificatesOf(r.client.Reload))
 	}
 	store := namingStore{Store: r.store, names: r.names}
-	r.engine = platform.NewEngine(store, r.client, r.vault, platform.Options{
+	with, options, err := forStorm(r.client, store, platform.Options{
 		Worker: string(s.worker), AtOnce: s.atOnce, Exchange: s.seconds, Look: s.look,
 		Unsettled: platform.Policy(s.unsettled),
-	}, r.observer)
+	})
+	if err != nil {
+		return err
+	}
+	r.engine = platform.NewEngine(store, with, r.vault, options, r.observer)
 	return nil
 }
 
@@ -244,39 +250,4 @@ func (r *running) showCounts(work context.Context, to io.Writer) (end func()) {
 		}
 	}()
 	return func() { cancel(); <-done }
-}
-
-// reloads reads the files of certificates again at each SIGHUP, until the function that it returns is called. If none
-// is named, SIGHUP does nothing.
-func (r *running) reloads(work context.Context) (end func()) {
-	if len(r.reload) == 0 {
-		signal.Ignore(syscall.SIGHUP)
-		return func() {}
-	}
-	ctx, cancel := context.WithCancel(work)
-	again, done := make(chan os.Signal, 1), make(chan struct{})
-	signal.Notify(again, syscall.SIGHUP)
-	go func() {
-		defer close(done)
-		for {
-			select {
-			case <-ctx.Done():
-				return
-			case <-again:
-			}
-			r.readAgain()
-		}
-	}()
-	return func() { signal.Stop(again); cancel(); <-done }
-}
-
-// readAgain reads the files of certificates again. What can't be read stays as it was.
-func (r *running) readAgain() {
-	for _, it := range r.reload {
-		if err := it(); err != nil {
-			r.log.at(errorLevel, "certificates_not_reloaded").Err(err).Send()
-			continue
-		}
-		r.log.at(infoLevel, "certificates_reloaded").Send()
-	}
 }

@@ -126,16 +126,16 @@ func TestWholeWay(t *testing.T) {
 	})
 	p := start(t, store, nil, "--key-file", key, "--health-listen", "127.0.0.1:0", "--log-level", "debug")
 	check(t, store, []line{
-		{"create --plan by-worker --id one --wait=60", 0, "one\none\tready", ``},
-		{"bind one --id two --wait=60 --key-file " + key, 0, "one/two\none/two\tready", ``},
-		{"credentials one/two", 1, ``, `osb-platform: there is no key.*`},
+		{"create --plan by-worker --id one --wait=60", 0, `one`, `ordered one`},
+		{"bind one --id two --wait=60 --key-file " + key, 0, `one/two`, `ordered one/two`},
+		{"credentials one/two", 2, ``, `osb-platform: name the file with the key .*--key-file FILE`},
 		{"credentials one/two --key-file " + key, 0, `{"credentials":{"folder":".*","token":".*"}}`, ``},
 		{"credentials one/two --to " + secret + " --key-file " + key, 0, ``, ``},
 		{"credentials one/two --to " + secret + " --key-file " + key, 2, ``, `osb-platform: .* exists already.*`},
 		{"list --bindings", 0, "one\tready\t.*\none/two\tready\t.*|one/two\tready\t.*\none\tready\t.*", ``},
 		{"show one/two", 0, ".*\nlast reason\t" + since + " bind 20.*\nwas\t" + since + " ordered\n.*", ``},
 		{"remove one", 1, ``, `osb-platform: the instance one has bindings: .*--bindings`},
-		{"remove one --bindings --wait=60", 0, "one\tgone", ``},
+		{"remove one --bindings --wait=60", 0, ``, `one is gone`},
 		{"show one/two", 0, ".*state\tgone.*", ``},
 		{"remove one", 0, `it is gone already`, ``},
 		{"credentials one/two --key-file " + key, 1, ``, `osb-platform: the binding one/two is gone.*`},
@@ -178,7 +178,7 @@ func TestLogAndMetrics(t *testing.T) {
 		"--worker", "one", "--log-level", "debug")
 	p.event("broker_reached")
 	check(t, store, []line{
-		{"create --broker default --plan at-once --id one --wait=60", 0, "one\none\tready", ``},
+		{"create --broker default --plan at-once --id one --wait=60", 0, `one`, `ordered one`},
 		{"broker drop shop", 0, ``, ``},
 	})
 	sent, answered := p.event("request_sent"), p.event("request")
@@ -198,7 +198,7 @@ func TestHealth(t *testing.T) {
 	t.Setenv("XDG_STATE_HOME", t.TempDir())
 	p := start(t, store, []string{"OSB_PLATFORM_PASSWORD=secret"}, "--broker", s.url, "--health-listen", "127.0.0.1:0")
 	p.event("broker_reached")
-	check(t, store, []line{{"create --plan at-once --id one --wait=60", 0, "one\none\tready", ``}})
+	check(t, store, []line{{"create --plan at-once --id one --wait=60", 0, `one`, `ordered one`}})
 	for path, text := range map[string]string{
 		"/healthz": `"ok"`, "/readyz": `"ok"`,
 		"/metrics": `osb_platform_requests_total{broker="default",kind="provision",status="201"} 1`,
@@ -220,7 +220,8 @@ func TestHealth(t *testing.T) {
 	p.stop()
 }
 
-// An order is tried again under another id after a passing reason. One that is refused isn't.
+// An order is tried again under another id after a passing reason, but not without --tries if it names its id. One that
+// is refused isn't.
 func TestTries(t *testing.T) {
 	s, store := newSite(t), filepath.Join(t.TempDir(), "store")
 	t.Setenv("XDG_STATE_HOME", t.TempDir())
@@ -229,35 +230,46 @@ func TestTries(t *testing.T) {
 	p.event("broker_reached")
 	s.answer(503)
 	check(t, store, []line{
-		{"create --plan at-once --id one --wait=60", 0, "one\n" + guid + "\tready", ``},
+		{"create --plan at-once --id one --tries 3 --wait=60", 0, guid,
+			"ordered one\none has failed: tried again as " + guid},
 		{"show one", 0, ".*\nfailure\t" + since + ` provision 503 Odd "no \\x1b\[2J place"` +
 			"\ntry 1 of 3\tone gone\ntry 2 of 3\t" + guid + " ready\n.*", ``},
 	})
+	s.answer(503)
+	check(t, store, []line{
+		{"create --plan at-once --wait=60", 0, guid, "ordered " + guid + "\n" + guid + " has failed: tried again as " + guid},
+	})
+	s.answer(503)
+	check(t, store, []line{
+		{"create --plan at-once --id only --wait=60", 3, `only`,
+			`ordered only\nosb-platform: only is gone: provision 503 Odd "no \\x1b\[2J place"`},
+	})
 	s.answer(400)
 	check(t, store, []line{
-		{"create --plan at-once --id two --wait=60", 3, "two\ntwo\tgone",
-			`osb-platform: two is gone: provision 400 Odd "no \\x1b\[2J place"`},
-		{"list --state gone --reasons", 0, "(one|two)\tgone\t.*\tdefault\tprovision (503|400) Odd .*", ``},
+		{"create --plan at-once --id two --tries 3 --wait=60", 3, `two`,
+			`ordered two\nosb-platform: two is gone: provision 400 Odd "no \\x1b\[2J place"`},
+		{"list --state gone --reasons", 0, "(.*\tgone\t.*\tdefault\tprovision (503|400) Odd .*\n?){4}", ``},
 	})
 	s.answer(409)
-	check(t, store, []line{{"create --plan at-once --id three --wait=60", 3, "three\nthree\tunsettled",
-		`.*: three is unsettled: provision 409 Odd .*`}})
+	check(t, store, []line{{"create --plan at-once --id three --wait=60", 3, `three`,
+		`ordered three\n.*: three is unsettled: provision 409 Odd .*`}})
 	if got := call(t, "--store", store, "list"); !strings.HasPrefix(got.failed, "1 unsettled (oldest: 20") {
 		t.Errorf("%+v", got)
 	}
 	s.answer(409)
 	check(t, store, []line{
-		{"create --plan at-once --tries 1 --wait=60", 3, guid + "\n" + guid + "\tgone", `.*: provision 409 Odd .*`},
-		{"remove three --wait=60", 0, "three\tgone", ``},
+		{"create --plan at-once --tries 1 --wait=60", 3, guid, `ordered .*\n.*: provision 409 Odd .*`},
+		{"remove three --wait=60", 0, ``, `three is gone`},
 	})
 	s.answer(409)
 	check(t, store, []line{
-		{"create --plan at-once --id four --wait=60", 3, "four\nfour\tunsettled", `.*`},
+		{"create --plan at-once --id four --wait=60", 3, `four`, `ordered four\n.*`},
 		{"abandon four --because shut", 0, ``, ``},
 		{"list --state abandoned --reasons", 0, "four\tabandoned\t.*\tdefault\tshut", ``},
 		{"show four", 0, ".*\nabandoned because\tshut\n.*was\t" + since + " unsettled", ``},
 		{"retry four", 1, ``, `osb-platform: the instance four is abandoned.*`},
 		{"remove four", 1, ``, `osb-platform: the instance four is abandoned.*`},
+		{"remove four --wait", 1, ``, `osb-platform: the instance four is abandoned.*`},
 		{"abandon four --because again", 1, ``, `osb-platform: the instance four is abandoned already`},
 	})
 	p.stop()
@@ -295,7 +307,7 @@ func TestWorkers(t *testing.T) {
 	t.Setenv(passwordVariable, "secret")
 	p := start(t, store, []string{"OSB_PLATFORM_PASSWORD=secret"}, "--broker", s.url, "--worker", "one")
 	check(t, store, []line{
-		{"run --worker one --once", 2, ``, `.*osb-platform: a worker one runs already.*`},
+		{"run --worker one --once", 75, ``, `.*osb-platform: a worker one runs already.*`},
 		{"run --worker a/b", 2, ``, `osb-platform: .*a worker's name.*`},
 	})
 	p.stop()
@@ -306,7 +318,7 @@ func TestWorkers(t *testing.T) {
 	}{
 		{[]string{"--broker", s.url, "--once"}, 0, `"broker_reached"`},
 		{[]string{"--broker", s.url + "/elsewhere", "--once"}, 2, "--moved"},
-		{[]string{"--broker", "http://127.0.0.1:1", "--moved", "--once", "--seconds", "0.3"}, 1, "weren't reached"},
+		{[]string{"--broker", "http://127.0.0.1:1", "--moved", "--once", "--seconds", "0.3"}, 1, "refused\n"},
 		{[]string{"--broker", s.url, "--moved", "--late-for", "0", "--pace", "0.5", "--threads", "2", "--once"}, 0, ""},
 	} {
 		command := osbPlatform([]string{"OSB_PLATFORM_PASSWORD=secret"}, append([]string{"run", "--store", store},

@@ -29,7 +29,6 @@ type runSettings struct {
 	once       bool
 	unsettled  policy
 	level      level
-	tls        client.Files
 	sites      siteSettings
 	servesOnly bool // whether it is the command serve, and sends nothing
 }
@@ -46,10 +45,18 @@ has answered its catalogue. Any number of workers run over one store, each under
 from OSB_PLATFORM_PASSWORD, which isn't stored, or from --password-file.
 
 The log is lines of JSON on standard error. On standard output there is a line for each instance or binding that has
-come to another state: time, id, state. On a terminal it shows how many are in each state. SIGTERM ends the program
-with status 0 within 10 seconds. A request that isn't answered by then is given up, and what it has done is found out
-at the next start. SIGHUP reads the files of --tls-.. and --api-tls-.. again. GET
-/healthz, /readyz and /metrics need no password. The page and the API are served too, if --page and --api name where.`,
+come to another state: time, id, state. On a terminal it shows how many are in each state.
+
+SIGTERM ends the program with status 0 within 10 seconds. A request that isn't answered by then times out, and at the
+next start the worker finds out what it has done. The other exit statuses are in 'osb-platform --help'.
+
+SIGHUP reads the files of --tls-.., --api-tls-.., --api-tokens and --page-users again.
+
+If a broker answers 401 or 403, nothing more is sent to it until it answers its catalogue. A worker notices a new
+password in the file of --password-file, and one of 'broker set', without a restart.
+
+The page and the API are served too, if --page and --api name where. GET /healthz, /readyz and /metrics of
+--health-listen need no password.`,
 		Example: `  osb-platform run
   OSB_PLATFORM_PASSWORD=secret osb-platform run --broker http://127.0.0.1:8080 --health-listen 127.0.0.1:8091
   osb-platform run --page 127.0.0.1:8090 --api 127.0.0.1:8092 --api-tokens tokens
@@ -72,19 +79,26 @@ func (s *runSettings) addWork(flags *pflag.FlagSet) {
 	flags.Var(program.Count(&s.atOnce, 16, 1, 1024), "at-once", "requests that are in flight at once")
 	flags.Var(program.Seconds(&s.seconds, time.Minute), "seconds", "for a request to be sent and answered")
 	flags.BoolVar(&s.once, "once", false,
-		"send what is due, wait for the answers, and end. The exit status is 1 if a broker isn't reached")
+		"send what is due, wait for the answers, and end. The exit status is 1 if a broker isn't reached, or if rows that "+
+			"are due stay locked")
 	flags.Var(&s.unsettled, "unsettled", "what becomes of what is unsettled under an id that was made up here: "+
-		"remove deletes it, wait leaves it to you (`remove|wait`)")
+		"remove deletes it, wait leaves it to you. What is unsettled already stays (`remove|wait`)")
 	flags.Var(&s.level, "log-level", "the least `level` that is logged: debug, info, warning, error")
 	flags.Var(program.Seconds(&s.look, time.Second), "look-seconds", "between two looks for what others have written")
 	flags.Var(program.Seconds(&s.stop, defaultStop), "stop-seconds",
 		"for requests in flight to be answered after SIGTERM")
-	flags.StringVar(&s.tls.Authorities, "tls-ca", "",
-		"a `file` with the authorities of brokers' certificates, in place of the system's")
-	flags.StringVar(&s.tls.Certificate, "tls-certificate", "", "a `file` with the platform's own certificates")
-	flags.StringVar(&s.tls.Key, "tls-key", "", "the `file` with the key of --tls-certificate")
+	addTLS(flags, &s.tls)
 	flags.BoolVar(&s.allowHTTP, "allow-http", false,
-		"allow http:// for brokers that aren't on this machine: everybody on the way reads their passwords")
+		"allow http:// for brokers that aren't on this machine, also for those that the API adds: everybody on the way "+
+			"reads their passwords")
+}
+
+// addTLS adds the options about the certificates of brokers.
+func addTLS(flags *pflag.FlagSet, files *client.Files) {
+	flags.StringVar(&files.Authorities, "tls-ca", "",
+		"a `file` with the authorities of brokers' certificates, in place of the system's")
+	flags.StringVar(&files.Certificate, "tls-certificate", "", "a `file` with the platform's own certificates")
+	flags.StringVar(&files.Key, "tls-key", "", "the `file` with the key of --tls-certificate")
 }
 
 func (s *runSettings) addBroker(flags *pflag.FlagSet) {

@@ -18,8 +18,8 @@ func serveCommand(a *app) *cobra.Command {
 		Long: `Serve the API and the page over a store, until SIGTERM or SIGINT. Nothing is sent to a broker: that does
 'run', on this machine or another one. Any number of both run over one store.
 
-The log is lines of JSON on standard error. SIGHUP reads the files of --api-tls-.. again. The files with tokens and with
-users are read at the start. GET /healthz, /readyz and /metrics of --health-listen need no password.`,
+The log is lines of JSON on standard error. SIGHUP reads the files of --api-tls-.., --api-tokens and --page-users again.
+GET /healthz, /readyz and /metrics of --health-listen need no password.`,
 		Example: `  osb-platform serve --api 127.0.0.1:8092 --api-tokens tokens --page 127.0.0.1:8090
   osb-platform serve --store postgresql://platform@db/platform --page 127.0.0.1:8090`,
 		RunE: func(c *cobra.Command, _ []string) error {
@@ -29,6 +29,8 @@ users are read at the start. GET /healthz, /readyz and /metrics of --health-list
 	flags := made.Flags()
 	flags.SortFlags = false
 	s.sites.add(flags)
+	flags.BoolVar(&s.allowHTTP, "allow-http", false,
+		"let the API add brokers by http:// that aren't on this machine. 'run' needs it too")
 	flags.Var(&s.level, "log-level", "the least `level` that is logged: debug, info, warning, error")
 	flags.Var(program.Seconds(&s.stop, defaultStop), "stop-seconds", "for requests to be answered after SIGTERM")
 	return made

@@ -28,7 +28,7 @@ func takePassword() (string, error) {
 
 // putDefault writes the broker of `run --broker` into the store, unless it stands there as it is.
 func (s *runSettings) putDefault(ctx context.Context, store platform.Store, hasPassword bool) error {
-	if err := client.CheckURL(s.url, s.allowHTTP); err != nil {
+	if err := platform.CheckURL(s.url, s.allowHTTP); err != nil {
 		return program.Unusable(fmt.Errorf("--broker: %w", err))
 	}
 	file, err := absolute(s.passwordFile)

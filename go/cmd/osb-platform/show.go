@@ -21,8 +21,8 @@ func showCommand(a *app) *cobra.Command {
 among others the reasons, the states it was in, and the ids of all tries of its order. Parameters and
 credentials aren't shown.`,
 		Example: `  osb-platform show 5f1b7c0e-2f0b-4d0a-9d3e-6a3f0e1f2a3b --json`,
-		Args:    cobra.ExactArgs(1),
-		RunE: a.over(false, func(ctx context.Context, c *cobra.Command, s session, arguments []string) error {
+		Args:    wants("ID"),
+		RunE: a.over(needsStore, func(ctx context.Context, c *cobra.Command, s session, arguments []string) error {
 			all, err := readWhole(ctx, s.store, arguments[0])
 			if err != nil {
 				return err
@@ -93,7 +93,10 @@ func (w whole) facts() [][2]string {
 	}
 	add("worker", printable(e.Lease.Worker))
 	add("leased until", momentOf(e.Lease.Until))
-	if e.IsSent {
+	switch {
+	case e.Unreadable != "":
+		add("record", unreadable(e))
+	case e.IsSent:
 		add("record", e.Record.String())
 	}
 	add("dashboard", printable(e.Dashboard))
@@ -148,6 +151,7 @@ type row struct {
 	Last         *platform.Reason `json:"last_reason,omitempty"`
 	Failure      *platform.Reason `json:"failure,omitempty"`
 	Because      string           `json:"abandoned_because,omitempty"`
+	Unreadable   string           `json:"unreadable,omitempty"`
 	Dashboard    string           `json:"dashboard_url,omitempty"`
 	Metadata     json.RawMessage  `json:"metadata,omitempty"`
 	Try          int              `json:"try"`
@@ -160,7 +164,7 @@ func jsonOf(e platform.Entry) row {
 		Broker: e.Broker, Service: e.Names.Service, Plan: e.Names.Plan, Organization: e.Organization, Space: e.Space,
 		Asked: asked[e.Removal], Due: timeOf(e.Due), PolledSince: timeOf(e.PolledSince), Operation: e.Operation,
 		Worker: e.Lease.Worker, LeasedUntil: timeOf(e.Lease.Until), Last: reason(e.Last), Failure: reason(e.Failure),
-		Because: e.Because, Dashboard: e.Dashboard, Metadata: e.Metadata, Try: e.Try, Tries: e.Tries,
+		Because: e.Because, Unreadable: e.Unreadable, Dashboard: e.Dashboard, Metadata: e.Metadata, Try: e.Try, Tries: e.Tries,
 	}
 }
 

@@ -25,6 +25,9 @@ type site struct {
 	instead []int         // statuses with which the next requests are answered, in place of the broker's answers
 	held    chan struct{} // if it isn't nil, answers about instances and bindings wait until it is closed
 	asked   int           // requests about instances and bindings
+	// password is the one that is accepted, and refused is how many requests about instances and bindings had another.
+	password string
+	refused  int
 }
 
 // newSite starts a broker with the standard catalogue of osb-broker.
@@ -71,7 +74,7 @@ func newSite(t *testing.T) *site {
 		defer close(swept)
 		sweeper.Run(ctx, stop, 2, 20*time.Millisecond)
 	}()
-	s := &site{}
+	s := &site{password: "secret"}
 	server := httptest.NewServer(s.before(handler))
 	s.url = server.URL
 	t.Cleanup(func() {
@@ -106,13 +109,44 @@ func (s *site) hold() (release func()) {
 	}
 }
 
+// setPassword has another password accepted, and the one before refused.
+func (s *site) setPassword(password string) {
+	s.mutex.Lock()
+	defer s.mutex.Unlock()
+	s.password = password
+}
+
+// refusals is how many requests about instances and bindings had a wrong password.
+func (s *site) refusals() int {
+	s.mutex.Lock()
+	defer s.mutex.Unlock()
+	return s.refused
+}
+
+// admit is whether a request has the password. It gives the broker the one that it knows.
+func (s *site) admit(r *http.Request) bool {
+	user, password, _ := r.BasicAuth()
+	s.mutex.Lock()
+	defer s.mutex.Unlock()
+	if password != s.password {
+		return false
+	}
+	r.SetBasicAuth(user, "secret")
+	return true
+}
+
+// requests is how many requests there were about instances and bindings.
+func (s *site) requests() int {
+	s.mutex.Lock()
+	defer s.mutex.Unlock()
+	return s.asked
+}
+
 // await waits for so many requests about instances and bindings.
 func (s *site) await(t *testing.T, count int) {
 	t.Helper()
 	for late := time.Now().Add(deadline); ; time.Sleep(5 * time.Millisecond) {
-		s.mutex.Lock()
-		asked := s.asked
-		s.mutex.Unlock()
+		asked := s.requests()
 		if asked >= count {
 			return
 		}
@@ -125,12 +159,19 @@ func (s *site) await(t *testing.T, count int) {
 // before counts requests, answers some of them, and holds answers.
 func (s *site) before(next http.Handler) http.Handler {
 	return http.HandlerFunc(func(w http.ResponseWriter, r *http.Request) {
+		isAdmitted := s.admit(r)
+		if !isAdmitted {
+			r.SetBasicAuth("platform", "wrong")
+		}
 		if r.URL.Path == "/v2/catalog" {
 			next.ServeHTTP(w, r)
 			return
 		}
 		s.mutex.Lock()
 		s.asked++
+		if !isAdmitted {
+			s.refused++
+		}
 		held, status := s.held, 0
 		if len(s.instead) > 0 {
 			status, s.instead = s.instead[0], s.instead[1:]

@@ -16,7 +16,7 @@ func newOne(t *testing.T, s *site, arguments ...string) (p *process, store strin
 	all := append([]string{"--broker", s.url, "--first-pace", "0.01", "--hold", "0", "--worker", "one"}, arguments...)
 	p = start(t, store, []string{"OSB_PLATFORM_PASSWORD=secret"}, all...)
 	p.event("broker_reached")
-	check(t, store, []line{{"create --plan at-once --id one", 0, "one", ``}})
+	check(t, store, []line{{"create --plan at-once --id one --tries 3", 0, "one", ``}})
 	s.await(t, 1)
 	return p, store
 }

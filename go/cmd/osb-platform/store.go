@@ -36,12 +36,24 @@ func stateFolder() string {
 	return filepath.Join(home, "osb-platform")
 }
 
+// The variables of the environment that stand for options which aren't given.
+const (
+	storeVariable   = "OSB_PLATFORM_STORE"
+	keyFileVariable = "OSB_PLATFORM_KEY_FILE"
+)
+
 func (p *places) add(flags *pflag.FlagSet) {
-	flags.StringVar(&p.store, "store", filepath.Join(stateFolder(), "instances.sqlite"),
-		"where records are kept: a `file` of SQLite, or postgresql://..")
+	standard := filepath.Join(stateFolder(), "instances.sqlite")
+	given := os.Getenv(storeVariable)
+	if given == "" {
+		given = standard
+	}
+	flags.StringVar(&p.store, "store", given, "where records are kept: a `file` of SQLite, or postgresql://.. "+
+		"(default: that of "+storeVariable+", or "+standard+")")
+	flags.Lookup("store").DefValue = "" // the variable may have a password, which is rejected later
 	flags.StringArrayVar(&p.keyFiles, "key-file", nil,
-		"a `file` with the key that seals credentials and passwords in the store (default: "+standardKey()+
-			", if it exists). While a key is replaced, name the new file first, and then the old one")
+		"a `file` with the key that encrypts credentials and passwords in the store (default: that of "+
+			keyFileVariable+", or "+standardKey()+", if it exists). 'osb-platform rekey' replaces the key")
 }
 
 func standardKey() string { return filepath.Join(stateFolder(), "key") }
@@ -51,10 +63,26 @@ func (p *places) keys() []string {
 	if len(p.keyFiles) > 0 {
 		return p.keyFiles
 	}
+	if file := os.Getenv(keyFileVariable); file != "" {
+		return []string{file}
+	}
 	if _, err := os.Stat(standardKey()); errors.Is(err, fs.ErrNotExist) {
 		return nil
 	}
 	return []string{standardKey()}
+}
+
+// checkStore returns an error if the store is a file that doesn't exist. A command that only reads or orders would
+// otherwise create it, and answer from an empty store if its name is misspelt.
+func (p *places) checkStore() error {
+	if pgsession.IsAddress(p.store) {
+		return nil
+	}
+	if _, err := os.Stat(p.store); errors.Is(err, fs.ErrNotExist) {
+		return program.Unusable(fmt.Errorf("there is no store %s: name the right one with --store or in %s. "+
+			"'osb-platform broker add' and 'osb-platform run' create a new one", p.store, storeVariable))
+	}
+	return nil
 }
 
 // openStore opens the store, with so many connections at most.
@@ -81,16 +109,23 @@ func openStore(ctx context.Context, place string, most int) (platform.Store, err
 
 func openFile(ctx context.Context, path string) (platform.Store, error) {
 	if err := os.MkdirAll(filepath.Dir(path), 0o700); err != nil {
-		return nil, program.Unusable(fmt.Errorf("the store can't be used: %w", err))
+		return nil, ofFile(err)
 	}
 	store, err := sqlite.Open(ctx, path)
-	switch {
-	case errors.Is(err, sqlitefile.ErrBusy):
-		return nil, program.Unavailable(fmt.Errorf("the store can't be used: %w", err))
-	case err != nil:
-		return nil, program.Unusable(fmt.Errorf("the store can't be used: %w", err))
+	if err != nil {
+		return nil, ofFile(err)
 	}
 	return store, nil
+}
+
+// ofFile is the error of a file: an operator has to change something, unless it may be over later.
+func ofFile(err error) error {
+	mayPass := sqlitefile.MayPass(err)
+	err = fmt.Errorf("the store can't be used: %w", err)
+	if mayPass {
+		return program.Unavailable(err)
+	}
+	return program.Unusable(err)
 }
 
 // away is the error of PostgreSQL: it may be back later, unless an operator has to change something.
@@ -113,7 +148,7 @@ func away(err error) error {
 // been used with one of them, or with none yet.
 func openVault(
 	ctx context.Context, files []string, store platform.Store, warn func(string),
-) (platform.Vault, error) {
+) (*vault.Vault, error) {
 	if len(files) == 0 {
 		return nil, nil
 	}
@@ -124,15 +159,26 @@ func openVault(
 	for _, it := range warnings {
 		warn(it)
 	}
-	known, err := store.Fingerprint(ctx, opened.Fingerprint())
-	switch {
-	case err != nil:
+	if err := checkVault(ctx, store, opened); err != nil {
 		return nil, err
-	case !opened.Knows(known):
-		return nil, program.Unusable(errors.New(
-			"the store was used with another key, which opens what is sealed in it: name its file with --key-file too"))
 	}
 	return opened, nil
+}
+
+// checkVault returns an error unless a vault can be used over a store.
+func checkVault(ctx context.Context, store platform.Store, opened *vault.Vault) error {
+	written, err := store.Fingerprint(ctx, opened.Fingerprint())
+	if err != nil {
+		return err
+	}
+	switch err := opened.Fits(written); {
+	case errors.Is(err, vault.ErrRotating):
+		return program.Unusable(fmt.Errorf("%w: run 'osb-platform rekey' again with the files that it was given. "+
+			"Until it has succeeded, name both: --key-file NEW --key-file OLD", err))
+	case err != nil:
+		return program.Unusable(fmt.Errorf("%w: name the file with that key by --key-file", err))
+	}
+	return nil
 }
 
 // warner prints warnings.

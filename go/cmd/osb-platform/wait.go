@@ -3,7 +3,8 @@ package main
 import (
 	"context"
 	"fmt"
-	"io"
+	"os/signal"
+	"syscall"
 	"time"
 
 	"github.com/spf13/cobra"
@@ -42,10 +43,26 @@ func (w *waiting) Set(text string) error {
 	return nil
 }
 
-func (w *waiting) add(flags *pflag.FlagSet, end string) {
-	flags.Var(w, "wait", "wait until it is "+end+", for so many seconds at most, and print its id and state. "+
-		"The exit status is 0 then, 3 if it has ended otherwise, and 4 if it goes on")
+func (w *waiting) add(flags *pflag.FlagSet, end, prints string) {
+	flags.Var(w, "wait", "wait until it is "+end+", for so many seconds at most. "+prints+". The exit status is 0 "+
+		"then, 3 if it has ended otherwise, and 4 if it goes on. It goes on after SIGINT, too")
 	flags.Lookup("wait").NoOptDefVal = withoutLimit
+}
+
+// ordered prints the id of an order. With --wait, that id is printed on standard error at once. At the end, standard
+// output has the id of the last try. If isChain, the order may be tried again under other ids.
+//
+// Errors: those of wait.
+func (w *waiting) ordered(ctx context.Context, c *cobra.Command, s session, entry platform.Entry, isChain bool) error {
+	var err error
+	if w.isOn {
+		fmt.Fprintf(c.ErrOrStderr(), "ordered %s\n", printable(idOf(entry)))
+		entry, err = w.wait(ctx, c, s, entry, isChain, created)
+	}
+	if _, failed := fmt.Fprintln(c.OutOrStdout(), printable(idOf(entry))); err == nil {
+		err = failed
+	}
+	return err
 }
 
 // The times between two looks at a row that is waited for.
@@ -81,41 +98,64 @@ func deleted(e platform.Entry) (hasEnded, isGood bool) {
 	return false, false
 }
 
-// wait waits for the end of a row, and prints its id and its state. If isChain, it goes on with the next try of an
-// order that has failed.
-//
-// Errors: an endError; those of the store.
-func (w *waiting) wait(ctx context.Context, c *cobra.Command, s session, key platform.Key, isChain bool, is end) error {
+// interruptible is a context that SIGINT and SIGTERM end, if something is to be waited for.
+func (w *waiting) interruptible(ctx context.Context) (interrupted context.Context, forget func()) {
 	if !w.isOn {
-		return nil
+		return ctx, func() {}
 	}
+	return signal.NotifyContext(ctx, syscall.SIGINT, syscall.SIGTERM)
+}
+
+// wait waits for the end of a row, and returns the row as it was read last. If isChain, it goes on with the next try of
+// an order that has failed, and reports that on standard error.
+//
+// Errors: an endError, also if ctx ends; those of the store.
+func (w *waiting) wait(
+	ctx context.Context, c *cobra.Command, s session, entry platform.Entry, isChain bool, is end,
+) (platform.Entry, error) {
 	shown := newProgress(c.ErrOrStderr())
 	defer shown.end()
-	started := time.Now()
+	key, started := entry.Key, time.Now()
 	for rest := firstLook; ; rest = twice(rest, longestLook) {
-		entry, err := s.store.Read(ctx, key)
+		read, err := s.store.Read(ctx, key)
 		if err == nil && isChain {
-			entry, err = lastTry(ctx, s.store, entry)
+			read, err = lastTry(ctx, s.store, read)
 		}
-		if err != nil {
-			return err
+		switch {
+		case ctx.Err() != nil:
+			return entry, interrupted(entry)
+		case err != nil:
+			return entry, err
+		case read.Unreadable != "":
+			return read, fmt.Errorf("%s: %s", printable(idOf(read)), unreadable(read))
+		case read.Key != entry.Key:
+			shown.end()
+			fmt.Fprintf(c.ErrOrStderr(), "%s has failed: tried again as %s\n", printable(idOf(entry)),
+				printable(idOf(read)))
 		}
+		entry = read
 		hasEnded, isGood := is(entry)
 		passed := time.Since(started)
 		isOver := w.limit > 0 && passed >= w.limit
 		if hasEnded || isOver {
 			shown.end()
-			return ended(ctx, c.OutOrStdout(), s.store, entry, hasEnded, isGood)
+			return entry, ended(ctx, s.store, entry, hasEnded, isGood)
 		}
 		shown.show(fmt.Sprintf("%s: %s, %d s%s", printable(idOf(entry)), entry.State, int(passed.Seconds()),
 			hint(entry, 5*time.Second)))
 		if w.limit > 0 && rest > w.limit-passed {
 			rest = w.limit - passed
 		}
-		if err := sleep(ctx, rest); err != nil {
-			return err
+		if sleep(ctx, rest) != nil {
+			return entry, interrupted(entry)
 		}
 	}
+}
+
+// interrupted is the end of a wait by SIGINT or SIGTERM.
+func interrupted(e platform.Entry) error {
+	text := fmt.Sprintf("interrupted: %s is %s, and goes on", printable(idOf(e)), e.State)
+	return &endError{status: statusGoesOn, text: text}
 }
 
 func sleep(ctx context.Context, rest time.Duration) error {
@@ -150,13 +190,8 @@ func lastTry(ctx context.Context, store platform.Store, entry platform.Entry) (p
 	return entry, nil
 }
 
-// ended prints the end of a wait.
-func ended(
-	ctx context.Context, to io.Writer, store platform.Store, e platform.Entry, hasEnded, isGood bool,
-) error {
-	if _, err := fmt.Fprintf(to, "%s\t%s\n", printable(idOf(e)), e.State); err != nil {
-		return err
-	}
+// ended is how a wait has ended: nil, or an endError.
+func ended(ctx context.Context, store platform.Store, e platform.Entry, hasEnded, isGood bool) error {
 	switch {
 	case isGood:
 		return nil

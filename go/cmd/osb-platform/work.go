@@ -10,6 +10,12 @@ import (
 	"pippinterm/program"
 )
 
+// A right is that of a worker to its name.
+type right struct {
+	end  func()
+	lost <-chan struct{}
+}
+
 // work steps what is due until stop is done. If the right to the name of the worker is lost, as after an outage of
 // PostgreSQL, it takes it again.
 func (r *running) work(work, stop context.Context) error {
@@ -17,89 +23,91 @@ func (r *running) work(work, stop context.Context) error {
 	if err != nil {
 		return err
 	}
-	if end == nil {
-		return program.Unusable(fmt.Errorf("a worker %s runs already over this store: name this one with --worker",
-			r.settings.worker))
+	if end == nil { // such as a worker that lost its power, and whose session the server hasn't ended yet
+		return program.Unavailable(fmt.Errorf("a worker %s runs already over this store, or its session hasn't ended "+
+			"yet. If it is another worker, name this one with --worker", r.settings.worker))
 	}
-	for {
-		isLost, err := r.workAs(work, stop, end, lost)
-		if !isLost {
-			return err
-		}
-		r.log.at(warningLevel, "worker_name_lost").Str("worker", string(r.settings.worker)).Send()
-		if end, lost, err = r.nameAgain(stop); err != nil {
-			return err
-		}
+	r.logStart()
+	for name := (&right{end, lost}); name != nil; {
+		name, err = r.workAs(work, stop, name)
 	}
+	return err
 }
 
-// nameAgain takes the name of the worker again. The server may need a moment to notice that the session has ended.
-func (r *running) nameAgain(stop context.Context) (end func(), lost <-chan struct{}, err error) {
-	for {
-		end, lost, err = r.store.Only(stop, string(r.settings.worker))
-		if err == nil && end != nil {
-			return end, lost, nil
-		}
-		if err := sleep(stop, time.Second); err != nil {
-			return nil, nil, err
-		}
-	}
-}
-
-// workAs works under the name of the worker, until stop is done or the name is lost.
-func (r *running) workAs(
-	work, stop context.Context, end func(), lost <-chan struct{},
-) (isLost bool, err error) {
-	defer end()
-	working, cancel := context.WithCancel(work)
-	watched := make(chan struct{})
+// workAs works under the name of the worker until stop is done. If the name is lost, no further requests are begun, and
+// workAs returns the name, taken again, once those in flight are answered and written. Otherwise it returns nil and the
+// error.
+func (r *running) workAs(work, stop context.Context, name *right) (again *right, err error) {
+	held, cancel := context.WithCancel(stop)
+	taken := make(chan *right, 1)
 	go func() {
-		defer close(watched)
 		select {
-		case <-lost:
-			isLost = true
+		case <-name.lost:
 			cancel()
-		case <-working.Done():
+			r.log.at(warningLevel, "worker_name_lost").Str("worker", string(r.settings.worker)).Send()
+			name.end()
+			taken <- r.nameAgain(stop)
+		case <-held.Done():
+			taken <- nil
 		}
 	}()
-	err = r.engineRuns(working, stop)
+	err = r.engineRuns(work, held)
 	cancel()
-	<-watched
-	return isLost && stop.Err() == nil, err
+	if again = <-taken; again == nil {
+		name.end()
+	} else if stop.Err() != nil {
+		again.end()
+		again = nil
+	}
+	return again, err
 }
 
-func (r *running) engineRuns(working, stop context.Context) error {
-	if err := r.free(working, stop); err != nil {
-		return err
+// nameAgain takes the name of the worker again, or returns nil if stop is done before. The server may need a moment to
+// notice that the session has ended.
+func (r *running) nameAgain(stop context.Context) *right {
+	for {
+		end, lost, err := r.store.Only(stop, string(r.settings.worker))
+		if err == nil && end != nil {
+			return &right{end, lost}
+		}
+		if sleep(stop, time.Second) != nil {
+			return nil
+		}
+	}
+}
+
+// engineRuns has the engine run until stop is done, and what was in flight is answered and written, or until work is
+// done.
+func (r *running) engineRuns(work, stop context.Context) error {
+	for _, begin := range []func(context.Context) error{r.checkKeys, r.free} {
+		err := begin(work)
+		for errors.Is(err, platform.ErrAway) && sleep(stop, time.Second) == nil {
+			err = begin(work)
+		}
+		if err != nil {
+			return err
+		}
 	}
 	if !r.settings.once {
-		return r.engine.Run(working, stop.Done())
+		return r.engine.Run(work, stop.Done())
 	}
-	once, cancel := context.WithCancel(working)
-	defer cancel()
-	ended := make(chan struct{})
-	defer func() { <-ended }()
-	go func() {
-		defer close(ended)
-		select {
-		case <-stop.Done():
-			cancel()
-		case <-once.Done():
-		}
-	}()
-	err := r.engine.RunOnce(once)
-	cancel()
-	if errors.Is(err, platform.ErrUnreached) {
-		return &endError{status: statusRejected, text: err.Error() + ". The log has the reason"}
+	err := r.engine.RunOnceUntil(work, stop.Done())
+	if errors.Is(err, platform.ErrUnreached) || errors.Is(err, platform.ErrLocked) {
+		return &endError{status: statusRejected, text: err.Error()}
 	}
 	return err
 }
 
-// free gives up what an earlier worker of this name has left in flight.
-func (r *running) free(working, stop context.Context) error {
-	err := r.store.Free(working, string(r.settings.worker))
-	for errors.Is(err, platform.ErrAway) && sleep(stop, time.Second) == nil {
-		err = r.store.Free(working, string(r.settings.worker))
+// checkKeys returns an error if the key of the store was replaced since it was opened. Once the worker has its name,
+// the key isn't replaced any more.
+func (r *running) checkKeys(ctx context.Context) error {
+	if r.keys == nil {
+		return nil
 	}
-	return err
+	return checkVault(ctx, r.store, r.keys)
+}
+
+// free gives up what an earlier worker of this name has left in flight. Nothing of this one is in flight.
+func (r *running) free(ctx context.Context) error {
+	return r.store.Free(ctx, string(r.settings.worker))
 }

@@ -8,7 +8,6 @@ import (
 	"errors"
 	"fmt"
 	"log"
-	"net"
 	"net/http"
 	"os"
 	"os/exec"
@@ -16,6 +15,8 @@ import (
 	"strings"
 	"syscall"
 	"testing"
+
+	"pippinterm/program/server"
 )
 
 const (
@@ -29,7 +30,7 @@ func TestMain(m *testing.M) {
 	if state == "" {
 		os.Exit(m.Run())
 	}
-	listener, err := net.Listen("tcp", "127.0.0.1:0")
+	listener, err := server.Listen(context.Background(), "127.0.0.1:0", server.Options{})
 	if err != nil {
 		log.Fatal(err)
 	}

@@ -4,11 +4,8 @@ package main
 import (
 	"context"
 	_ "embed"
-	"errors"
 	"flag"
 	"log"
-	"net"
-	"net/http"
 	"os"
 	"os/signal"
 	"path/filepath"
@@ -18,6 +15,7 @@ import (
 	"pippinterm/broker"
 	"pippinterm/broker/filelock"
 	"pippinterm/broker/sqlite"
+	"pippinterm/program/server"
 )
 
 //go:embed catalogue.json
@@ -28,9 +26,10 @@ func main() {
 	flag.Parse()
 	stop, cancel := signal.NotifyContext(context.Background(), os.Interrupt, syscall.SIGTERM)
 	defer cancel()
-	listener, err := net.Listen("tcp", "127.0.0.1:"+os.Getenv("PORT"))
+	ctx := context.Background()
+	listener, err := server.Listen(ctx, "127.0.0.1:"+os.Getenv("PORT"), server.Options{Observer: observer{}})
 	if err == nil {
-		err = serve(context.Background(), stop, listener, *state, os.Getenv("BROKER_PASSWORD"))
+		err = serve(ctx, stop, listener, *state, os.Getenv("BROKER_PASSWORD"))
 	}
 	if err != nil {
 		log.Fatal(err)
@@ -38,7 +37,7 @@ func main() {
 }
 
 // serve answers requests until stop is done. What has begun then goes on to its end, with ctx.
-func serve(ctx, stop context.Context, listener net.Listener, state, password string) error {
+func serve(ctx, stop context.Context, listener *server.Listener, state, password string) error {
 	users, err := broker.NewUsers(map[string][]string{"platform": {password}})
 	if err != nil {
 		return err
@@ -62,19 +61,15 @@ func serve(ctx, stop context.Context, listener net.Listener, state, password str
 	if err != nil {
 		return err
 	}
-	server := &http.Server{Handler: handler, ReadTimeout: 30 * time.Second}
 	stop, end := context.WithCancel(stop)
 	served := make(chan error, 1)
 	go func() {
 		defer end()
-		served <- server.Serve(listener)
+		sites := []server.Site{{Listener: listener, Handler: handler}}
+		served <- server.Server{Sites: sites}.Serve(stop) // waits for the requests that are being answered
 	}()
 	sweeper.Run(ctx, stop, 4, 5*time.Second) // goes on with unfinished work, also of a process that was killed
-	err = server.Shutdown(ctx)               // waits for the requests that are being answered
-	if failed := <-served; !errors.Is(failed, http.ErrServerClosed) {
-		err = failed
-	}
-	return err
+	return <-served
 }
 
 func newService(store broker.Store, state string) (*broker.Service, error) {

@@ -13,6 +13,7 @@ import (
 	"time"
 
 	"pippinterm/osb"
+	"pippinterm/program/server"
 )
 
 const (
@@ -33,7 +34,7 @@ type served struct {
 // start starts the broker.
 func start(t *testing.T, state string) *served {
 	t.Helper()
-	listener, err := net.Listen("tcp", "127.0.0.1:0")
+	listener, err := server.Listen(context.Background(), "127.0.0.1:0", server.Options{})
 	if err != nil {
 		t.Fatal(err)
 	}
@@ -190,6 +191,28 @@ func TestAsynchronous(t *testing.T) {
 		t.Fatalf("%d %s", status, body)
 	}
 	s.sells()
+	s.end()
+}
+
+// A request line that is cut is answered with 408, and not with the 400 of net/http: a 4xx that says that the broker has
+// rejected the request has to depend on the request alone.
+func TestCutRequest(t *testing.T) {
+	s := start(t, t.TempDir())
+	connection, err := net.Dial("tcp", strings.TrimPrefix(s.url, "http://"))
+	if err != nil {
+		t.Fatal(err)
+	}
+	defer connection.Close()
+	if _, err := io.WriteString(connection, "PUT /v2/service_inst"); err != nil {
+		t.Fatal(err)
+	}
+	if err := connection.(*net.TCPConn).CloseWrite(); err != nil {
+		t.Fatal(err)
+	}
+	answer, err := io.ReadAll(connection)
+	if err != nil || !strings.HasPrefix(string(answer), "HTTP/1.1 408 ") {
+		t.Errorf("it is answered with %q, %v", answer, err)
+	}
 	s.end()
 }
 

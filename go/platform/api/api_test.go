@@ -73,6 +73,26 @@ func TestInFlight(t *testing.T) {
 	})
 }
 
+// A row that can't be read is shown with the others, and why it can't be read.
+func TestUnreadable(t *testing.T) {
+	store := newFake()
+	r := newRig(t, store)
+	id, other := r.ordered(), r.ordered()
+	e := store.rows[keyOfIDs(t, id)]
+	e.Unreadable = "the record: it is wrong"
+	store.rows[e.Key] = e
+	shown := r.call("GET", "/v1/instances/"+id, "").want(200, "")
+	if shown.at("unreadable") != e.Unreadable || shown.at("state") != "ordered" {
+		t.Errorf("it shows %s", shown.text)
+	}
+	if all := r.call("GET", "/v1/instances", "").want(200, ""); len(all.items()) != 2 {
+		t.Errorf("it lists %s", all.text)
+	}
+	if shown := r.call("GET", "/v1/instances/"+other, "").want(200, ""); strings.Contains(shown.text, "unreadable") {
+		t.Errorf("it shows %s", shown.text)
+	}
+}
+
 func TestRemoveRetryAbandon(t *testing.T) {
 	each(t, func(r *rig) {
 		id := r.ordered()
@@ -217,7 +237,8 @@ func TestFilters(t *testing.T) {
 		for _, query := range []string{
 			"state=lost", "limit=0", "limit=1001", "limit=x", "prefix=xyz", "prefix=-", "after=x", "after=e30",
 			"nothing=1", "broker=a&broker=b", "limit=1;after=2", "first=" + strings.Repeat("x", 256),
-			"prefix=" + strings.Repeat("a", 33),
+			"prefix=" + strings.Repeat("a", 33), "broker=%00", "broker=%ff", "broker=A",
+			"latest=1", "latest=",
 		} {
 			r.call("GET", "/v1/instances?"+query, "").want(400, "malformed")
 		}
@@ -249,6 +270,8 @@ func TestBrokers(t *testing.T) {
 		}
 		r.call("PUT", "/v1/brokers/third", `{"url": "https://x", "user": "me"}`).want(400, "invalid")
 		r.call("PUT", "/v1/brokers/NO", put).want(400, "invalid")
+		r.call("PUT", path, `{"url": "https://x", "user": "m\u0000e", "password": "p"}`).want(400, "invalid")
+		r.call("DELETE", "/v1/brokers/%00", "").want(404, "not_found")
 		r.call("PUT", path, `{"url": "ftp://x", "user": "me", "password": "p"}`).want(400, "invalid")
 		for _, it := range []string{"-1", "1e300", "40000000"} {
 			body := `{"url": "https://x", "user": "me", "password": "p", "settings": {"hold_seconds": ` + it + `}}`
@@ -453,7 +476,7 @@ func TestAtOnce(t *testing.T) {
 	store := newFake()
 	reading, letGo := make(chan struct{}), make(chan struct{})
 	h, err := NewHandler(platform.NewOrders(store, nil), slow{store, reading, letGo}, Options{
-		Tokens: []Token{tokenOfText("all", all, Read)}, AtOnce: 1, Timeout: 50 * time.Millisecond,
+		Tokens: []Token{tokenOfText("all", all, Read)}, AtOnce: 1, Timeout: time.Second,
 	})
 	must(t, err)
 	ask := func() int {
@@ -466,9 +489,13 @@ func TestAtOnce(t *testing.T) {
 		}
 		return recorder.Code
 	}
-	first := make(chan int)
+	first := make(chan int, 1)
 	go func() { first <- ask() }()
-	<-reading
+	select {
+	case <-reading:
+	case got := <-first:
+		t.Fatalf("the first one hasn't come to the store: %d", got)
+	}
 	if got := ask(); got != 503 {
 		t.Errorf("while one is carried out: %d", got)
 	}

@@ -5,6 +5,7 @@ import (
 	"errors"
 	"net/http"
 	"net/url"
+	"regexp"
 	"strings"
 	"time"
 
@@ -114,6 +115,9 @@ func (a *asked) putBroker() (answer, error) {
 	var password []byte
 	if given.Password != "" {
 		password = []byte(given.Password)
+		if err := a.CheckKey(a.Context()); err != nil {
+			return answer{}, err
+		}
 	}
 	before, err := a.broker()
 	if err != nil {
@@ -129,6 +133,9 @@ func (a *asked) putBroker() (answer, error) {
 		err = a.orders.SetBroker(a.Context(), name, func(broker *platform.Broker) error {
 			return given.change(broker, wanted)
 		}, password)
+	}
+	if err == nil && password != nil { // the key may have been replaced meanwhile, and this password left out
+		err = a.CheckKey(a.Context())
 	}
 	if err != nil {
 		return answer{}, err
@@ -159,7 +166,13 @@ func (s newSeller) change(broker *platform.Broker, wanted platform.Settings) err
 	return nil
 }
 
+// brokerName is how the name of a broker looks. PostgreSQL rejects a text that isn't UTF-8, or has a NUL.
+var brokerName = regexp.MustCompile(`^[a-z0-9-]{1,63}$`)
+
 func (a *asked) dropBroker() (answer, error) {
+	if !brokerName.MatchString(a.values["name"]) {
+		return answer{}, newProblem(http.StatusNotFound, "not_found", "there is no broker of this name")
+	}
 	if err := a.orders.DropBroker(a.Context(), a.values["name"]); err != nil {
 		return answer{}, err
 	}

@@ -93,6 +93,9 @@ func (f *fake) Change(_ context.Context, key platform.Key, step platform.Step) e
 		f.lives[key] = append(f.lives[key], platform.Stay{State: before.State, Since: before.Since})
 	}
 	f.rows[key] = change.Entry
+	if change.Next != nil {
+		f.rows[change.Next.Key] = *change.Next
+	}
 	for it, e := range f.rows {
 		if change.RemoveBindings && it.IsBinding && it.Instance == key.Instance && e.State == platform.Ready {
 			e.Removal, e.Due = platform.Removed, f.now
@@ -126,6 +129,14 @@ func less(a, b platform.Place) bool {
 	return a.Key.String() < b.Key.String()
 }
 
+// comesBefore is whether a place comes before another one in the order of a filter.
+func comesBefore(filter platform.Filter, a, b platform.Place) bool {
+	if filter.Latest {
+		a, b = b, a
+	}
+	return less(a, b)
+}
+
 func placeIn(e platform.Entry) platform.Place {
 	return platform.Place{State: e.State, Since: e.Since, Key: e.Key}
 }
@@ -141,7 +152,7 @@ func (f *fake) List(_ context.Context, filter platform.Filter) (found []platform
 			found = append(found, e)
 		}
 	}
-	sort.Slice(found, func(a, b int) bool { return less(placeIn(found[a]), placeIn(found[b])) })
+	sort.Slice(found, func(a, b int) bool { return comesBefore(filter, placeIn(found[a]), placeIn(found[b])) })
 	if filter.Most > 0 && len(found) > filter.Most {
 		found = found[:filter.Most]
 	}
@@ -159,7 +170,7 @@ func isChosen(filter platform.Filter, e platform.Entry) bool {
 		(filter.Bindings == nil || e.Key.IsBinding == *filter.Bindings) &&
 		(len(number) >= len(filter.Prefix) && number[:len(filter.Prefix)] == filter.Prefix) &&
 		(filter.First == nil || e.First == *filter.First) &&
-		(filter.After == nil || less(*filter.After, placeIn(e)))
+		(filter.After == nil || comesBefore(filter, *filter.After, placeIn(e)))
 }
 
 func (f *fake) Life(_ context.Context, key platform.Key) ([]platform.Stay, error) {

@@ -29,6 +29,10 @@ type Options struct {
 	// AtOnce is how many requests are carried out at once, after their bodies have arrived. It is 64 by default.
 	// Further ones wait.
 	AtOnce int
+	// CheckKey returns an error if the vault of the orders doesn't have the key of the store, which may have been
+	// replaced since. It is called before a password or credentials are read or written, and after a password was
+	// written. It may be nil.
+	CheckKey func(context.Context) error
 	// Observe is called once for each request, when its answer is known. It returns at once. It may be nil.
 	Observe func(Exchange)
 }
@@ -75,6 +79,9 @@ func NewHandler(orders *platform.Orders, store platform.Store, options Options) 
 	}
 	if options.AtOnce == 0 {
 		options.AtOnce = 64
+	}
+	if options.CheckKey == nil {
+		options.CheckKey = func(context.Context) error { return nil }
 	}
 	if options.Observe == nil {
 		options.Observe = func(Exchange) {}
@@ -163,7 +170,8 @@ func (a *asked) carryOut(found *route) (answer, error) {
 	select {
 	case a.slots <- struct{}{}:
 		defer func() { <-a.slots }()
-		return found.call(a)
+		given, err := found.call(a)
+		return given, a.named(err)
 	case <-a.Context().Done():
 		return answer{}, newProblem(http.StatusServiceUnavailable, "busy", "too many ask at once: nothing was done")
 	}

@@ -50,7 +50,7 @@ type reasonGiven struct {
 
 func (a *asked) listInstances() (answer, error) {
 	isBinding := false
-	filter := platform.Filter{Broker: a.query.Get("broker"), Bindings: &isBinding}
+	filter := platform.Filter{Bindings: &isBinding}
 	if prefix := a.query.Get("prefix"); prefix != "" {
 		var isPrefix bool
 		if filter.Prefix, isPrefix = prefixOf(prefix); !isPrefix {
@@ -78,6 +78,11 @@ func (a *asked) listBindings() (answer, error) {
 	return a.list(platform.Filter{Instance: &key.Instance})
 }
 
+func (a *asked) listAllBindings() (answer, error) {
+	isBinding := true
+	return a.list(platform.Filter{Bindings: &isBinding})
+}
+
 // list answers with the rows of a filter that the query asks for. One more than these is read, to see whether there is
 // one.
 func (a *asked) list(filter platform.Filter) (answer, error) {
@@ -87,9 +92,15 @@ func (a *asked) list(filter platform.Filter) (answer, error) {
 		}
 		filter.States = append(filter.States, platform.State(it))
 	}
+	if filter.Broker = a.query.Get("broker"); filter.Broker != "" && !brokerName.MatchString(filter.Broker) {
+		return answer{}, malformed("the name of a broker has 1 to 63 characters: a-z, 0-9 and hyphens")
+	}
+	var err error
+	if filter.Latest, err = a.flag("latest"); err != nil {
+		return answer{}, err
+	}
 	limit := usualLimit
 	if text := a.query.Get("limit"); text != "" {
-		var err error
 		if limit, err = strconv.Atoi(text); err != nil || limit < 1 || limit > mostLimit {
 			return answer{}, malformed("limit is a number from 1 to " + strconv.Itoa(mostLimit))
 		}
@@ -167,8 +178,7 @@ func (a *asked) create() (answer, error) {
 }
 
 func (a *asked) bind() (answer, error) {
-	key, err := a.key()
-	if err != nil {
+	if _, err := a.key(); err != nil {
 		return answer{}, err
 	}
 	var given newBinding
@@ -176,7 +186,7 @@ func (a *asked) bind() (answer, error) {
 		return answer{}, err
 	}
 	e, err := a.orders.Bind(a.Context(), platform.NewBinding{
-		Instance: key.Instance.String(), ID: given.ID, Parameters: given.Parameters, Context: given.Context,
+		Instance: a.values["id"], ID: given.ID, Parameters: given.Parameters, Context: given.Context,
 		BindResource: given.BindResource, Identity: given.Identity,
 	})
 	if err != nil {
@@ -199,18 +209,57 @@ func (a *asked) remove() (answer, error) {
 	if err != nil {
 		return answer{}, err
 	}
-	withBindings := false
-	if values, isGiven := a.query["bindings"]; isGiven {
-		if values[0] != "true" && values[0] != "false" {
-			return answer{}, malformed("bindings is true or false")
-		}
-		withBindings = values[0] == "true"
+	withBindings, err := a.flag("bindings")
+	if err != nil {
+		return answer{}, err
 	}
-	e, err := a.orders.Remove(a.Context(), key, withBindings)
+	e, err := a.removeLast(key, withBindings)
 	if err != nil {
 		return answer{}, err
 	}
 	return answer{status: http.StatusAccepted, body: rowOf(e)}, nil
+}
+
+// flag is a value of the query that is true or false, and false if it isn't given.
+func (a *asked) flag(name string) (bool, error) {
+	values, isGiven := a.query[name]
+	if isGiven && values[0] != "true" && values[0] != "false" {
+		return false, malformed(name + " is true or false")
+	}
+	return isGiven && values[0] == "true", nil
+}
+
+// removeLast removes the last try of the order of a row. If that is gone, a further one may have been ordered just now.
+func (a *asked) removeLast(key platform.Key, withBindings bool) (platform.Entry, error) {
+	for {
+		last, err := a.lastTry(key)
+		if err != nil {
+			return platform.Entry{}, err
+		}
+		e, err := a.orders.Remove(a.Context(), last, withBindings)
+		if err != nil || e.State != platform.Gone {
+			return e, err
+		}
+		if further, err := a.lastTry(last); err != nil || further == last {
+			return e, err
+		}
+	}
+}
+
+// lastTry is the key of the last try of the order of a row.
+func (a *asked) lastTry(key platform.Key) (platform.Key, error) {
+	e, err := a.store.Read(a.Context(), key)
+	if err != nil || key.IsBinding || e.Tries <= 1 {
+		return key, err
+	}
+	isBinding := false
+	tries, err := a.store.List(a.Context(), platform.Filter{First: &e.First, Bindings: &isBinding})
+	for _, it := range tries {
+		if it.Try > e.Try {
+			e = it
+		}
+	}
+	return e.Key, err
 }
 
 func (a *asked) retry() (answer, error) {
@@ -245,6 +294,9 @@ func (a *asked) abandon() (answer, error) {
 func (a *asked) credentials() (answer, error) {
 	key, err := a.key()
 	if err != nil {
+		return answer{}, err
+	}
+	if err := a.CheckKey(a.Context()); err != nil {
 		return answer{}, err
 	}
 	object, err := a.orders.Credentials(a.Context(), key)

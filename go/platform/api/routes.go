@@ -2,9 +2,11 @@ package api
 
 import (
 	"encoding/json"
+	"errors"
 	"net/http"
 	"net/url"
 	"sort"
+	"strconv"
 	"strings"
 
 	"pippinterm/osb"
@@ -24,11 +26,13 @@ const (
 	instances = "/v1/instances"
 	bindings  = instances + "/{id}/bindings"
 	brokers   = "/v1/brokers"
+
+	allBindings = "/v1/bindings"
 )
 
 var routes = []route{
 	{
-		"GET", instances, Read, []string{"state", "broker", "prefix", "first", "limit", "after"}, false,
+		"GET", instances, Read, []string{"state", "broker", "prefix", "first", "latest", "limit", "after"}, false,
 		(*asked).listInstances,
 	},
 	{"POST", instances, Write, nil, true, (*asked).create},
@@ -36,7 +40,8 @@ var routes = []route{
 	{"DELETE", instances + "/{id}", Write, []string{"bindings"}, false, (*asked).remove},
 	{"POST", instances + "/{id}/retry", Write, nil, false, (*asked).retry},
 	{"POST", instances + "/{id}/abandon", Write, nil, true, (*asked).abandon},
-	{"GET", bindings, Read, []string{"state", "limit", "after"}, false, (*asked).listBindings},
+	{"GET", allBindings, Read, []string{"state", "broker", "latest", "limit", "after"}, false, (*asked).listAllBindings},
+	{"GET", bindings, Read, []string{"state", "latest", "limit", "after"}, false, (*asked).listBindings},
 	{"POST", bindings, Write, nil, true, (*asked).bind},
 	{"GET", bindings + "/{bid}", Read, nil, false, (*asked).show},
 	{"DELETE", bindings + "/{bid}", Write, nil, false, (*asked).remove},
@@ -99,7 +104,7 @@ func match(pattern, path string) (values map[string]string, isIt bool) {
 func (a *asked) key() (platform.Key, error) {
 	instance, err := osb.IDOfText(a.values["id"])
 	if err != nil {
-		return platform.Key{}, newProblem(http.StatusNotFound, "not_found", "there is no instance of this id")
+		return platform.Key{}, platform.ErrUnknown
 	}
 	text, isBinding := a.values["bid"]
 	if !isBinding {
@@ -107,7 +112,25 @@ func (a *asked) key() (platform.Key, error) {
 	}
 	binding, err := osb.IDOfText(text)
 	if err != nil {
-		return platform.Key{}, newProblem(http.StatusNotFound, "not_found", "there is no binding of this id")
+		return platform.Key{}, platform.ErrUnknown
 	}
 	return platform.BindingKey(instance, binding), nil
 }
+
+// named is an error with the id of the path, if that names nothing.
+func (a *asked) named(err error) error {
+	var fault *platform.Fault
+	isUnknown := errors.Is(err, platform.ErrUnknown) || errors.As(err, &fault) && fault.Kind == platform.NotFound
+	id, isOfOne := a.values["id"]
+	if !isUnknown || !isOfOne {
+		return err
+	}
+	detail := "the instance " + strconv.Quote(cut(id, longestID)) + " is unknown"
+	if binding, isBinding := a.values["bid"]; isBinding {
+		detail = "the binding " + strconv.Quote(cut(id+"/"+binding, 2*longestID)) + " is unknown"
+	}
+	return newProblem(http.StatusNotFound, "not_found", detail)
+}
+
+// longestID is how long an id may be, in bytes.
+const longestID = 255

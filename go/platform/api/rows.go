@@ -40,7 +40,9 @@ type row struct {
 	Dashboard string          `json:"dashboard_url,omitempty"`
 	Metadata  json.RawMessage `json:"metadata,omitempty"`
 	Because   string          `json:"because,omitempty"`
-	Life      []stay          `json:"life,omitempty"`
+	// Unreadable is platform.Entry.Unreadable.
+	Unreadable string `json:"unreadable,omitempty"`
+	Life       []stay `json:"life,omitempty"`
 }
 
 // A flight is the request in flight, and who has it.
@@ -80,6 +82,7 @@ func rowOf(e platform.Entry) row {
 		Operation: e.Operation, PolledSince: timeOf(e.PolledSince), Unchanged: e.Unchanged, InFlight: flightOf(e),
 		Try: e.Try, Tries: e.Tries, First: e.First, Last: saidOf(e.Last), Failure: saidOf(e.Failure),
 		Dashboard: e.Dashboard, Metadata: e.Metadata, Because: e.Because,
+		Unreadable: e.Unreadable,
 	}
 	if e.Key.IsBinding {
 		r.ID, r.InstanceID = e.Names.Binding, e.Names.Instance

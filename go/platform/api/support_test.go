@@ -51,6 +51,7 @@ type rig struct {
 	handler   http.Handler
 	document  *openAPI
 	exchanges []Exchange
+	checkKey  func(context.Context) error // or nil
 }
 
 // each runs a test over a fake and over SQLite.
@@ -77,7 +78,13 @@ func newRig(t *testing.T, store platform.Store) *rig {
 			tokenOfText("opener", opening, Credentials), tokenOfText("all", all, Read|Write|Credentials),
 		},
 		LongestBody: 4096,
-		Observe:     func(e Exchange) { r.exchanges = append(r.exchanges, e) },
+		CheckKey: func(ctx context.Context) error {
+			if r.checkKey == nil {
+				return nil
+			}
+			return r.checkKey(ctx)
+		},
+		Observe: func(e Exchange) { r.exchanges = append(r.exchanges, e) },
 	})
 	must(t, err)
 	broker := platform.Broker{Name: "shelf", URL: "https://shelf.example", User: "me"}

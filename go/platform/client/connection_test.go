@@ -158,7 +158,7 @@ func TestUnreached(t *testing.T) {
 		out := ordered(c, url, osb.KindProvision, ofInstance)
 		out.Until = c.Clock().Add(300 * time.Millisecond)
 		in := c.Exchange(context.Background(), out)
-		if !errors.Is(in.Lost, ErrNotSent) || in.Duration > patience/2 {
+		if !errors.Is(in.Lost, ErrNotSent) || !errors.Is(in.Lost, platform.ErrUnreachable) || in.Duration > patience/2 {
 			t.Errorf("%s: %v after %v", url, in.Lost, in.Duration)
 		}
 	}
@@ -247,7 +247,8 @@ func TestCancelledBefore(t *testing.T) {
 	cancel()
 	for range [20]int{} {
 		in := c.Exchange(ctx, ordered(c, server.url, osb.KindProvision, ofInstance))
-		if !errors.Is(in.Lost, context.Canceled) || !errors.Is(in.Lost, ErrNotSent) {
+		if !errors.Is(in.Lost, context.Canceled) || !errors.Is(in.Lost, ErrNotSent) ||
+			errors.Is(in.Lost, platform.ErrUnreachable) {
 			t.Errorf("%+v", in)
 		}
 	}

@@ -5,6 +5,8 @@ import (
 	"errors"
 	"io"
 	"net"
+
+	"pippinterm/platform"
 )
 
 var (
@@ -32,6 +34,15 @@ func (e notSent) Error() string { return ErrNotSent.Error() + ": " + e.reason.Er
 func (e notSent) Is(target error) bool { return target == ErrNotSent }
 
 func (e notSent) Unwrap() error { return e.reason }
+
+// unreachable is an error of a connection that couldn't be made.
+type unreachable struct{ reason error }
+
+func (e unreachable) Error() string { return e.reason.Error() }
+
+func (e unreachable) Is(target error) bool { return target == platform.ErrUnreachable }
+
+func (e unreachable) Unwrap() error { return e.reason }
 
 // readError is why an answer couldn't be read. The errors of package net/http may have a part of what was read, which
 // may be credentials, so no other error than those of the connection is passed on.

@@ -140,7 +140,11 @@ func (c *Client) ask(ctx context.Context, to *broker, of platform.Broker, sent s
 	defer to.leave()
 	conn, err := c.connection(within, to, sent)
 	if err != nil {
-		return received{}, notSent{because(ctx, within, err)}
+		reason := because(ctx, within, err)
+		if ctx.Err() == nil {
+			reason = unreachable{reason}
+		}
+		return received{}, notSent{reason}
 	}
 	got, err := c.on(within, conn, request, sent)
 	switch {

@@ -30,8 +30,11 @@ type asked struct {
 	state    string // one of states, or inFlight, or empty for all
 	find     string // what numbers begin with, or a whole id; if it isn't empty, no state counts
 	bindings bool   // bindings, and not instances
+	isOldest bool   // those first that are longest in their state, and not the newest
 	after    *place // the page that begins behind this place
-	skipped  int    // how many rows are before it, as the page before says
+	before   *place // the page that ends before this place
+	isLast   bool   // the last page
+	skipped  int    // how many rows come before the place, as the page with the link says
 	isStill  bool   // whether the page stays as it is, and isn't refreshed of itself
 }
 
@@ -42,7 +45,16 @@ type place struct {
 }
 
 // isFirst is whether the first page is asked for, with what waits and what is in flight.
-func (a asked) isFirst() bool { return a == asked{isStill: a.isStill} }
+func (a asked) isFirst() bool { return a == asked{isStill: a.isStill, isOldest: a.isOldest} }
+
+// isPaged is whether the rows are listed by time, on pages.
+func (a asked) isPaged() bool { return a.find == "" && a.state != inFlight }
+
+// first asks for the first page of the same list.
+func (a asked) first() asked {
+	a.after, a.before, a.isLast, a.skipped = nil, nil, false, 0
+	return a
+}
 
 // readAsked reads the query of a list. Errors: errNoPage.
 func readAsked(query url.Values) (asked, error) {
@@ -54,6 +66,15 @@ func readAsked(query url.Values) (asked, error) {
 		if err := a.take(name, values[0]); err != nil {
 			return a, errNoPage
 		}
+	}
+	places := 0
+	for _, it := range []bool{a.after != nil, a.before != nil, a.isLast} {
+		if it {
+			places++
+		}
+	}
+	if places > 1 {
+		return a, errNoPage
 	}
 	return a, nil
 }
@@ -76,8 +97,20 @@ func (a *asked) take(name, value string) (err error) {
 		if !a.bindings {
 			return errNoPage
 		}
+	case "order":
+		a.isOldest = value == "oldest"
+		if !a.isOldest {
+			return errNoPage
+		}
 	case "after":
 		a.after, err = placeOf(value)
+	case "before":
+		a.before, err = placeOf(value)
+	case "page":
+		a.isLast = value == "last"
+		if !a.isLast {
+			return errNoPage
+		}
 	case "from":
 		a.skipped, err = strconv.Atoi(value)
 		if a.skipped < 0 || a.skipped > 1<<40 {
@@ -125,9 +158,17 @@ func (a asked) target() string {
 	if a.bindings {
 		query.Set("kind", "bindings")
 	}
-	if a.after != nil {
-		query.Set("after", a.after.String())
-		query.Set("from", strconv.Itoa(a.skipped))
+	if a.isOldest {
+		query.Set("order", "oldest")
+	}
+	for name, at := range map[string]*place{"after": a.after, "before": a.before} {
+		if at != nil {
+			query.Set(name, at.String())
+			query.Set("from", strconv.Itoa(a.skipped))
+		}
+	}
+	if a.isLast {
+		query.Set("page", "last")
 	}
 	if a.isStill {
 		query.Set("still", "1")
@@ -139,11 +180,15 @@ func (a asked) target() string {
 }
 
 // targetOf is the target of a row's own page.
-func targetOf(key platform.Key) string {
+func targetOf(key platform.Key, isStill bool) string {
+	target := "/instance/" + key.Instance.String()
 	if key.IsBinding {
-		return "/instance/" + key.Instance.String() + "/binding/" + key.Binding.String()
+		target += "/binding/" + key.Binding.String()
 	}
-	return "/instance/" + key.Instance.String()
+	if isStill {
+		target += "?still=1"
+	}
+	return target
 }
 
 // keyOf reads the path of a row's own page. Errors: errNoPage.

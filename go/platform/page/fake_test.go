@@ -74,6 +74,14 @@ func less(a, b platform.Place) bool {
 	return a.Key.String() < b.Key.String()
 }
 
+// comesBefore is whether a place comes before another one in the order of a filter.
+func comesBefore(filter platform.Filter, a, b platform.Place) bool {
+	if filter.Latest {
+		a, b = b, a
+	}
+	return less(a, b)
+}
+
 func placeIn(e platform.Entry) platform.Place {
 	return platform.Place{State: e.State, Since: e.Since, Key: e.Key}
 }
@@ -84,7 +92,7 @@ func (f *fake) List(_ context.Context, filter platform.Filter) (found []platform
 			found = append(found, e)
 		}
 	}
-	sort.Slice(found, func(a, b int) bool { return less(placeIn(found[a]), placeIn(found[b])) })
+	sort.Slice(found, func(a, b int) bool { return comesBefore(filter, placeIn(found[a]), placeIn(found[b])) })
 	if filter.Most > 0 && len(found) > filter.Most {
 		found = found[:filter.Most]
 	}
@@ -100,5 +108,5 @@ func isChosen(filter platform.Filter, e platform.Entry) bool {
 		(filter.Instance == nil || e.Key.IsBinding && *filter.Instance == e.Key.Instance) &&
 		(filter.First == nil || *filter.First == e.First) &&
 		strings.HasPrefix(e.Key.ID().String(), filter.Prefix) &&
-		(filter.After == nil || less(*filter.After, placeIn(e)))
+		(filter.After == nil || comesBefore(filter, *filter.After, placeIn(e)))
 }

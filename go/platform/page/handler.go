@@ -168,11 +168,11 @@ func (h *handler) page(ctx context.Context, w http.ResponseWriter, r *http.Reque
 	name, shown, err := h.read(ctx, r.URL, frame)
 	switch {
 	case errors.Is(err, errNoPage), errors.Is(err, platform.ErrUnknown):
-		return h.rejected(http.StatusNotFound, "There is no such page, and no instance or binding of this id.")
+		return h.failed(http.StatusNotFound, "There is no such page, and no instance or binding of this id.")
 	case err != nil:
 		h.Failed(err)
 		w.Header().Set("Retry-After", "5")
-		return h.rejected(http.StatusServiceUnavailable, "The store can't be read now. The program's log has more.")
+		return h.failed(http.StatusServiceUnavailable, "The store can't be read now. The program's log has more.")
 	}
 	var out bytes.Buffer
 	if err := h.shown.ExecuteTemplate(&out, name, shown); err != nil {
@@ -182,10 +182,20 @@ func (h *handler) page(ctx context.Context, w http.ResponseWriter, r *http.Reque
 	return http.StatusOK, out.Bytes()
 }
 
-// rejected is a page that shows nothing of the store, of the program and of the request.
+// rejected is a page that shows nothing of the store, of the program and of the request: nobody knows who has asked.
 func (h *handler) rejected(status int, sentence string) (int, []byte) {
+	return h.message("message", frame{Title: http.StatusText(status)}, status, sentence)
+}
+
+// failed is a page for a user of the page. It shows nothing of the store and of the request.
+func (h *handler) failed(status int, sentence string) (int, []byte) {
+	whole := frame{Style: h.head, Script: h.foot, Title: http.StatusText(status)}
+	return h.message("failed", whole, status, sentence)
+}
+
+func (h *handler) message(template string, f frame, status int, sentence string) (int, []byte) {
 	var out bytes.Buffer
-	err := h.shown.ExecuteTemplate(&out, "message", struct{ Title, Text string }{http.StatusText(status), sentence})
+	err := h.shown.ExecuteTemplate(&out, template, message{frame: f, Text: sentence})
 	if err != nil {
 		h.Failed(err)
 	}

@@ -3,7 +3,6 @@ package page
 import (
 	"net/url"
 	"strconv"
-	"strings"
 
 	"pippinterm/platform"
 )
@@ -23,17 +22,13 @@ func (l look) one(path string, query url.Values, f frame) (*one, error) {
 	if err != nil {
 		return nil, err
 	}
-	isStill, turned := query.Has("still"), targetOf(key)
-	if !isStill {
-		turned += "?still=1"
-	}
-	f.still(isStill, turned)
+	f.still(l.isStill, targetOf(key, !l.isStill))
 	o := &one{
 		frame: f, ID: nameOf(e), Heading: "Instance", State: plain(string(e.State)), Since: l.moment(e.Since),
 		Known: l.known(e),
 	}
 	o.Title = o.State + ": " + o.ID
-	o.Todo, o.Command = todo(e)
+	o.Todo = todo(e)
 	if err := l.whole(o, e); err != nil {
 		return nil, err
 	}
@@ -48,16 +43,21 @@ func (l look) one(path string, query url.Values, f frame) (*one, error) {
 	return o, err
 }
 
-// todo is what a person has to do, with the command that does it.
-func todo(e platform.Entry) (sentence, command string) {
+// todo is what a person has to do. A Key has none of the `, around which commands stand.
+func todo(e platform.Entry) []words {
+	remove := "osb-platform remove "
+	if e.Key.IsBinding {
+		remove = "osb-platform unbind "
+	}
 	switch e.State {
 	case platform.Unsettled:
-		return "It waits for an operator: nobody can say whether the broker holds it, and another may have its id. " +
-			"Ask the broker what it has of it. If it is yours, remove it:", "./osb-platform remove " + e.Key.String()
+		return marked("It needs attention: nobody knows whether the broker holds it, or another one under the same " +
+			"id. Ask the broker for its last operation. Run `" + remove + e.Key.String() + "` only if the broker " +
+			"answers 200 for your service and plan: that deletes it at the broker.")
 	case platform.Abandoned:
-		return "It was abandoned. Nothing is sent for it any more, and nobody knows whether the broker holds it.", ""
+		return marked("It was abandoned. Nothing is sent for it any more, and nobody knows whether the broker holds it.")
 	}
-	return "", ""
+	return nil
 }
 
 // whole is a life as a table: a row for each state, with how long it lasted.
@@ -145,20 +145,26 @@ func (l look) known(e platform.Entry) (all []known) {
 	if e.Key.IsBinding {
 		all = append(all, known{
 			Name: "Instance", Text: plain(e.Names.Instance), Anchor: "instance",
-			Href: targetOf(platform.InstanceKey(e.Key.Instance)),
+			Href: targetOf(platform.InstanceKey(e.Key.Instance), l.isStill),
 		})
 	}
+	text("Record", unreadable(e))
 	text("In flight", inWords(flightOf(e, l.now)))
 	when("Next step", momentOf(e.Due, l.now))
 	text("Asked for", removals[e.Removal])
 	text("Abandoned", e.Because)
-	text("Last said", strings.Join(reasonOf(e.Last), ", "))
-	text("Why it failed", strings.Join(reasonOf(e.Failure), ", "))
+	said := func(name string, reason platform.Reason) {
+		if text := inOne(reason); text != "" {
+			all = append(all, known{Name: name, Text: text, When: momentOf(reason.At, l.now)})
+		}
+	}
+	said("Last answer", e.Last)
+	said("Why it failed", e.Failure)
 	if e.State == platform.Polling || e.State == platform.CleaningPolling {
 		when("Polled since", momentOf(e.PolledSince, l.now))
 	}
 	if e.IsSent {
-		text("Sent until now", counted(int(e.Record.Attempt()), "request"))
+		text("Sent", counted(int(e.Record.Attempt()), "request"))
 	}
 	if e.Unchanged > 0 {
 		text("Nothing changed by", "the last "+counted(e.Unchanged, "request"))

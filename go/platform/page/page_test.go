@@ -2,6 +2,7 @@ package page
 
 import (
 	"fmt"
+	"html"
 	"strings"
 	"testing"
 	"time"
@@ -18,8 +19,9 @@ func TestFirstPage(t *testing.T) {
 		`<strong>1</strong> <span class="state in-flight">`,
 		`id="go-binding-ready"><strong>1</strong>`, `data-refresh="5"`, "As of <time", "2026-01-03 03:04:05")
 	waiting := part(t, text, "waiting")
-	has(t, waiting, "unsettled: 1, the longest first", "abandoned: 1, the longest first", "cleaning: 1",
-		"cleaning-polling: 1", `id="waits-`+idOf(9).String()+`"`,
+	has(t, waiting, "<h3>1 unsettled</h3>", "1, the longest first", "<h3>Being deleted for over 1 h</h3>",
+		"2, the longest first", "<code>osb-platform remove ID</code>", `id="waits-`+idOf(9).String()+`"`,
+		`id="waits-`+idOf(6).String()+`"`, `id="waits-`+idOf(7).String()+`"`,
 		"2026-01-02 03:04:05</time> <span class=\"ago\">(1 day ago)",
 		"The broker shut rejects the user or the password")
 	if strings.Contains(waiting, "The broker shelf") {
@@ -46,13 +48,51 @@ func TestLifeInALine(t *testing.T) {
 		store.lives[key] = append(store.lives[key], platform.Stay{State: platform.Cleaning, Since: began})
 	}
 	has(t, got(t, pageOf(t, store, Options{}), "/?state=ready"), "<li>17 states before</li>")
-	has(t, got(t, pageOf(t, store, Options{}), targetOf(key)), "24 states", `<th scope="row" role="rowheader">24</th>`)
+	has(t, got(t, pageOf(t, store, Options{}), pageOn(key)), "24 states", `<th scope="row" role="rowheader">24</th>`)
+}
+
+// A row that can't be read is shown with the others, and why it can't be read.
+func TestUnreadableRow(t *testing.T) {
+	store := shelf()
+	store.rows[4].Unreadable = "the record: <b>"
+	h := pageOf(t, store, Options{})
+	const why = "its record can't be read: the record: <b>"
+	for _, target := range []string{"/", "/?state=ready", pageOn(store.rows[4].Key)} {
+		if text := html.UnescapeString(got(t, h, target)); strings.Count(text, why) != 1 {
+			t.Errorf("%s: %s", target, mainOf(text))
+		}
+	}
+	if all := listed(got(t, h, "/")); len(all) != len(states) {
+		t.Errorf("it lists %v", all)
+	}
+}
+
+// A row that can't be read needs attention if something is to be done for it.
+func TestUnreadableRowNeedsAttention(t *testing.T) {
+	store := shelf()
+	for at, it := range store.rows {
+		if it.State == platform.Unsettled || it.State == platform.Ordered || it.State == platform.Gone {
+			store.rows[at].Unreadable = "the record: <b>"
+		}
+	}
+	waiting := html.UnescapeString(part(t, got(t, pageOf(t, store, Options{}), "/"), "waiting"))
+	_, waiting, _ = strings.Cut(waiting, "<h3>Records that can't be read</h3>")
+	waiting, _, isFollowed := strings.Cut(waiting, "<h3>1 unsettled</h3>")
+	has(t, waiting, "2, the longest first", "Nothing is sent for such a record.",
+		"<code>osb-platform show ID</code>")
+	if strings.Count(waiting, "its record can't be read: the record: <b>") != 2 || !isFollowed ||
+		strings.Count(waiting, ` id="unreadable-`) != 2 {
+		t.Errorf("it is %s", waiting)
+	}
 }
 
 func TestEmptyStore(t *testing.T) {
 	text := got(t, pageOf(t, &fake{now: now}, Options{}), "/")
-	has(t, text, "Nothing waits.", "No request is in flight.", "There is none yet.", "There are none yet.",
-		"0 instances")
+	has(t, text, "Nothing needs attention.", "No request is in flight.", "There are no brokers yet.",
+		"There are no instances yet. To create one, run <code>osb-platform create</code>.", "0 instances")
+	for _, it := range states {
+		has(t, text, `<strong>0</strong> <span class="state `+string(it)+`">`+string(it)+`</span>`)
+	}
 	if strings.Contains(text, "go-binding-") {
 		t.Error("there are links to bindings")
 	}
@@ -65,7 +105,7 @@ func TestShortCleaning(t *testing.T) {
 	if strings.Contains(text, "cleaning") {
 		t.Errorf("what is cleaned for a day waits: %s", text)
 	}
-	has(t, text, "unsettled: 1")
+	has(t, text, "1 unsettled")
 }
 
 func TestMuchWaits(t *testing.T) {
@@ -75,10 +115,11 @@ func TestMuchWaits(t *testing.T) {
 		store.rows = append(store.rows, flying(entryOf(platform.InstanceKey(idOf(0x200+n)), platform.Cleaning)))
 	}
 	text := got(t, pageOf(t, store, Options{}), "/")
-	has(t, part(t, text, "waiting"), "unsettled: The first 5 of 8, the longest first",
-		"The first 5 that are cleaning, the longest first")
+	has(t, part(t, text, "waiting"), "8 unsettled", "The first 5 of 8, the longest first",
+		"The first 5, the longest first", "All 8 unsettled instances", "All 8 cleaning instances",
+		"All 1 cleaning-polling instance")
 	has(t, part(t, text, "flights"), "The first 5 of 8, by the end of their lease")
-	if got := linkOf(text, "more-unsettled"); got != "/?state=unsettled" {
+	if got := linkOf(text, "more-unsettled"); got != "/?order=oldest&state=unsettled" {
 		t.Errorf("the link is %q", got)
 	}
 	flights := got(t, pageOf(t, store, Options{}), linkOf(text, "more-in-flight"))
@@ -97,7 +138,7 @@ func TestInstancePage(t *testing.T) {
 	e.Failure = platform.Reason{At: began, Kind: "provision", Status: 500, Description: "no room"}
 	e.Names.Instance, e.Because, e.Unchanged, e.Removal = "my id", "nobody wants it", 3, platform.RemovedWhole
 	e.Due = now.Add(90 * time.Second)
-	text := got(t, pageOf(t, store, Options{}), targetOf(e.Key))
+	text := got(t, pageOf(t, store, Options{}), pageOn(e.Key))
 	has(t, text, "<h1>Instance <code>my id</code></h1>", "task-1", "https://dash.example", "{&#34;labels&#34;: {}}",
 		"poll, status 200, Code, it goes well, cut", "provision, status 500, no room", "nobody wants it",
 		"the last 3 requests", "that of its bindings first", "(in 1 min)", e.Key.String(), "1 of 3",
@@ -107,9 +148,9 @@ func TestInstancePage(t *testing.T) {
 	}
 	has(t, part(t, text, "bindings"), `id="b-`+e.Key.String()+"/"+idOf(0x51).String()+`"`, "1 binding")
 	bound := got(t, pageOf(t, store, Options{}), linkOf(text, "b-"+e.Key.String()+"/"+idOf(0x51).String()))
-	has(t, bound, "<h1>Binding <code>"+idOf(0x51).String(), `<a href="`+targetOf(e.Key)+`" id="instance">`)
-	unsettled := got(t, pageOf(t, store, Options{}), targetOf(store.rows[8].Key))
-	has(t, unsettled, "<code>./osb-platform remove "+store.rows[8].Key.String())
+	has(t, bound, "<h1>Binding <code>"+idOf(0x51).String(), `<a href="`+pageOn(e.Key)+`" id="instance">`)
+	unsettled := got(t, pageOf(t, store, Options{}), pageOn(store.rows[8].Key))
+	has(t, unsettled, "<code>osb-platform remove "+store.rows[8].Key.String())
 }
 
 // The tries of an order are shown with each of them, in the order in which they are listed.
@@ -125,118 +166,78 @@ func TestChainOfTries(t *testing.T) {
 		store.rows = append(store.rows, e)
 	}
 	for _, e := range store.rows {
-		text := got(t, pageOf(t, store, Options{}), targetOf(e.Key))
+		text := got(t, pageOf(t, store, Options{}), pageOn(e.Key))
 		has(t, part(t, text, "tries"), "3 tries of one order", "try 1</span><span>provision, status 503, full 1",
 			"try 3")
 	}
-	alone := got(t, pageOf(t, shelf(), Options{}), targetOf(shelf().rows[4].Key))
+	alone := got(t, pageOf(t, shelf(), Options{}), pageOn(shelf().rows[4].Key))
 	if strings.Contains(alone, `id="tries"`) {
 		t.Error("an order without a further try has a chain")
 	}
 }
 
-func TestFind(t *testing.T) {
+// A row says why it is in its state: what its deletion was answered, why its creation has failed, or why it was
+// abandoned. What goes well needs no reason.
+func TestReasons(t *testing.T) {
+	shut := platform.Reason{At: began, Kind: "deprovision", Status: 503, Error: "Shut", Description: "come back"}
+	full := platform.Reason{At: began, Kind: "provision", Status: 500, Description: "no room"}
+	good := platform.Reason{At: began, Kind: "poll", Status: 200, Description: "it goes well"}
+	cut := platform.Reason{At: began, Kind: "poll", Lost: "it was cut"}
+	for at, it := range []struct {
+		state         platform.State
+		last, failure platform.Reason
+		want          string
+	}{
+		{platform.Cleaning, shut, full, "deprovision, status 503, Shut, come back"},
+		{platform.Cleaning, good, full, "provision, status 500, no room"},
+		{platform.CleaningPolling, cut, full, "poll, it was cut"},
+		{platform.Unsettled, full, full, "provision, status 500, no room"},
+		{platform.Gone, good, full, "provision, status 500, no room"},
+		{platform.Wanted, cut, platform.Reason{}, "poll, it was cut"},
+		{platform.Polling, good, platform.Reason{}, ""},
+		{platform.Ready, good, platform.Reason{}, ""},
+		{platform.Abandoned, shut, full, "nobody wants it"},
+	} {
+		e := entryOf(platform.InstanceKey(idOf(at+1)), it.state)
+		e.Last, e.Failure, e.Because = it.last, it.failure, "nobody wants it"
+		h := pageOf(t, &fake{now: now, rows: []platform.Entry{e}}, Options{})
+		want := `<td role="cell" data-name="Now"><div><span>` + it.want + `</span></div></td>`
+		if it.want == "" {
+			want = `<td role="cell" data-name="Now" class="nothing"><div></div></td>`
+		}
+		has(t, part(t, got(t, h, "/?find=0"), "instances"), want)
+		if it.state == platform.Unsettled || it.state == platform.Cleaning {
+			has(t, part(t, got(t, h, "/"), "waiting"), `data-name="Reason"><div>`+it.want+`</div>`)
+		}
+	}
+}
+
+// A request is in flight until it is given up, whether its lease goes on, has run out, or has ended.
+func TestFlights(t *testing.T) {
+	for until, want := range map[time.Duration]string{
+		time.Minute: "worker-1", -200 * time.Second: "worker-1, lease ran out 3 min ago", 0: "no worker has it",
+	} {
+		e := flying(entryOf(platform.InstanceKey(idOf(1)), platform.Wanted))
+		if e.Lease.Until = now.Add(until); until == 0 {
+			e.Lease = platform.Lease{}
+		}
+		h := pageOf(t, &fake{now: now, rows: []platform.Entry{e}}, Options{})
+		has(t, got(t, h, "/"), "<span>Provision</span><span>"+want+"</span>")
+		has(t, got(t, h, pageOn(e.Key)), "<dd>Provision, "+want+"</dd>")
+	}
+}
+
+// A very long life isn't shown whole, and its states have their numbers.
+func TestLongLife(t *testing.T) {
 	store := shelf()
-	named := entryOf(platform.InstanceKey(idOf(0x77)), platform.Ready)
-	named.Names.Instance = "zebra"
-	number, err := platform.ParseKey("zebra")
-	must(t, err)
-	named.Key = number
-	store.rows = append(store.rows, named)
-	hex := named // an id that is hexadecimal digits, too
-	hex.Names.Instance = "fee1"
-	hex.Key, err = platform.ParseKey("fee1")
-	must(t, err)
-	store.rows = append(store.rows, hex)
-	h := pageOf(t, store, Options{})
-	for find, want := range map[string]int{
-		"0000000": 10, "00000005": 1, "00000005-0000": 1, "000000050000": 1, "+00000005+": 1, "00000051": 1, "fff": 0,
-		"zebra": 1, "fee1": 1, "00000005-0000-4000-8000-000000000005": 1, "nothing": 0, "a/b/c": 0, "%22": 0, "%00": 0,
-	} {
-		text := got(t, h, "/?find="+find)
-		if ids := listed(text); len(ids) != want {
-			t.Errorf("%s: it lists %v, want %d", find, ids, want)
-		}
+	key := store.rows[4].Key
+	for n := 0; n < longest+7; n++ {
+		store.lives[key] = append(store.lives[key], platform.Stay{State: platform.Cleaning, Since: began})
 	}
-	has(t, got(t, h, "/?find=00000051"), "of "+idOf(5).String())
-}
-
-func TestStill(t *testing.T) {
-	h := pageOf(t, shelf(), Options{})
-	for _, target := range []string{"/", "/?state=ready", targetOf(platform.InstanceKey(idOf(5)))} {
-		text := got(t, h, target)
-		has(t, text, `http-equiv="refresh" content="15"`)
-		still := got(t, h, linkOf(text, "refresh"))
-		if strings.Contains(still, "data-refresh") || strings.Contains(still, "http-equiv") {
-			t.Errorf("%s is refreshed still", target)
-		}
-		if back := linkOf(still, "refresh"); back != target {
-			t.Errorf("it leads back to %s, want %s", back, target)
-		}
-	}
-}
-
-func TestPages(t *testing.T) {
-	store := &fake{now: now}
-	for n := 0; n < 120; n++ {
-		e := entryOf(platform.InstanceKey(idOf(119-n)), states[n%3])
-		e.Since = began.Add(time.Duration(n/7) * time.Second) // some at once
-		store.rows = append(store.rows, e)
-	}
-	h := pageOf(t, store, Options{})
-	seen, last, target := map[string]bool{}, "", "/"
-	for _, caption := range []string{"1 to 50 of 120", "51 to 100 of 120", "101 to 120 of 120"} {
-		text := got(t, h, target)
-		has(t, text, caption)
-		for _, it := range listed(text) {
-			seen[it] = true
-		}
-		last, target = text, linkOf(text, "page-next")
-	}
-	if len(seen) != 120 || target != "" {
-		t.Errorf("%d rows are listed, and then comes %q", len(seen), target)
-	}
-	if got := linkOf(last, "page-first"); got != "/" {
-		t.Errorf("the first page is %q", got)
-	}
-}
-
-func TestNoSuchPage(t *testing.T) {
-	h := pageOf(t, shelf(), Options{})
-	for _, target := range []string{
-		"/x", "/instance/", "/instance/" + strings.Repeat("a", 256), "/instance/none", "/instance/a/b",
-		"/instance/a/binding/", "/instance/a/binding/b/c", "/instance/" + idOf(5).String() + "?x=1", "/?state=lost",
-		"/?x=1",
-		"/?state=a&state=b", "/?after=x", "/?after=1_", "/?after=1e400_a", "/?from=-1", "/?from=x", "/?kind=x",
-		"/?a=1;b",
-		"/?find=" + strings.Repeat("a", 256),
-		"/?after=" + strings.Repeat("9", 5000) + "_a",
-	} {
-		if answered := answerTo(h, request("GET", target)); answered.Code != 404 {
-			t.Errorf("%.80s: %d", target, answered.Code)
-		}
-	}
-}
-
-func TestWords(t *testing.T) {
-	for length, want := range map[time.Duration]string{
-		0: "0 s", 59 * time.Second: "59 s", 61 * time.Second: "1 min 1 s", 3 * time.Hour: "3 h",
-		49 * time.Hour: "2 days 1 h", -time.Hour: "0 s", 24*time.Hour + time.Second: "1 day 1 s",
-	} {
-		if got := lasting(length); got != want {
-			t.Errorf("%v is %q, want %q", length, got, want)
-		}
-	}
-	for number, want := range map[int]string{0: "0", 999: "999", 1000: "1,000", 1234567: "1,234,567"} {
-		if got := thousands(number); got != want {
-			t.Errorf("%d is %q", number, got)
-		}
-	}
-	for text, want := range map[string]string{
-		"a é 漢": "a é 漢", "\x1b[31m": `\u001b[31m`, "a\u202eb": `a\u202eb`, "a\nb\x00": `a\u000ab\u0000`,
-	} {
-		if got := plain(text); got != want {
-			t.Errorf("%q is %q", text, got)
-		}
+	text := got(t, pageOf(t, store, Options{}), pageOn(key))
+	has(t, text, "<caption>1,011 states, of which the first 10 aren&#39;t shown</caption>",
+		`<th scope="row" role="rowheader">11</th>`, `<th scope="row" role="rowheader">1,011</th>`)
+	if strings.Contains(text, `<th scope="row" role="rowheader">10</th>`) {
+		t.Error("the tenth state is shown")
 	}
 }

@@ -30,8 +30,9 @@ type reader struct {
 // A look is a reader at one moment, for one request.
 type look struct {
 	reader
-	ctx context.Context
-	now time.Time
+	ctx     context.Context
+	now     time.Time
+	isStill bool // whether the page isn't refreshed, and neither are those that it links to
 }
 
 // read makes what a URL asks for: the name of a template, and what it shows. Errors: errNoPage, those of the Store.
@@ -44,7 +45,7 @@ func (r reader) read(ctx context.Context, at *url.URL, f frame) (name string, sh
 	if err != nil {
 		return "", nil, err
 	}
-	l := look{reader: r, ctx: ctx, now: now}
+	l := look{reader: r, ctx: ctx, now: now, isStill: query.Has("still")}
 	f.Now = *momentOf(now, now)
 	if strings.HasPrefix(at.Path, "/instance/") {
 		shown, err = l.one(at.EscapedPath(), query, f)
@@ -129,7 +130,8 @@ func heading(a asked) string {
 	return strings.ToUpper(what[:1]) + what[1:] + " that are " + a.state
 }
 
-// navs are the links to the rows of each state. There is none for bindings if there are none.
+// navs are the links to the rows of each state: for instances of all states, and for bindings of those in which there
+// are some.
 func navs(a asked, c counts, flights []platform.Entry) []nav {
 	instances := navOf(a, c, false)
 	flying := thousands(len(flights))
@@ -161,7 +163,9 @@ func navOf(a asked, c counts, bindings bool) nav {
 	}
 	add("", "all", c.all[bindings])
 	for _, it := range states {
-		add(string(it), string(it), c.of[bindings][it])
+		if number := c.of[bindings][it]; number > 0 || !bindings || a.state == string(it) && a.bindings {
+			add(string(it), string(it), number)
+		}
 	}
 	return n
 }
@@ -181,7 +185,7 @@ func (l look) flights() (flying []platform.Entry, err error) {
 // parts are those of the first page: what waits, what is in flight, the brokers.
 func (l look) parts(o *overview, a asked, c counts, flights []platform.Entry) error {
 	var err error
-	if o.Waiting, err = l.waiting(a, c); err != nil {
+	if o.Waiting, err = l.waiting(a, c); err != nil { // what needs attention comes first
 		return err
 	}
 	for _, it := range flights {
@@ -197,11 +201,11 @@ func (l look) parts(o *overview, a asked, c counts, flights []platform.Entry) er
 	if err != nil {
 		return err
 	}
-	o.BrokerCaption = counted(len(brokers), "broker")
+	o.BrokerCaption = counted(len(brokers), "broker") + ", by name"
 	for _, it := range brokers {
 		shown := seller{
 			Name: plain(it.Name), URL: plain(it.URL), CatalogueAt: momentOf(it.CatalogueAt, l.now),
-			Reason: reasonOf(it.Reason),
+			Reason: cut(inOne(it.Reason), longestReason), ReasonAt: momentOf(it.Reason.At, l.now),
 		}
 		o.Brokers = append(o.Brokers, shown)
 		if status := it.Reason.Status; status == http.StatusUnauthorized || status == http.StatusForbidden {
@@ -209,79 +213,4 @@ func (l look) parts(o *overview, a asked, c counts, flights []platform.Entry) er
 		}
 	}
 	return nil
-}
-
-// What waits for a person, and why.
-const (
-	whyUnsettled = "Nobody can say whether the broker holds these: another may have the id. Ask the broker what " +
-		"it has of each, and remove those that are yours."
-	whyCleaning  = "The deletion of these goes on for long. See what the broker says, and retry or abandon them."
-	whyAbandoned = "These were abandoned. Nothing is sent for them any more, and nobody knows whether the broker " +
-		"holds them."
-)
-
-func (l look) waiting(a asked, c counts) (all []waiting, err error) {
-	for _, it := range []struct {
-		state platform.State
-		why   string
-	}{
-		{platform.Unsettled, whyUnsettled}, {platform.Cleaning, whyCleaning}, {platform.CleaningPolling, whyCleaning},
-		{platform.Abandoned, whyAbandoned},
-	} {
-		number := c.of[false][it.state] + c.of[true][it.state]
-		if number == 0 {
-			continue
-		}
-		entries, err := l.store.List(l.ctx, platform.Filter{States: []platform.State{it.state}, Most: short + 1})
-		if err != nil {
-			return nil, err
-		}
-		if it.why == whyCleaning {
-			entries, number = l.long(entries), 0 // how many there are isn't counted
-		}
-		if len(entries) == 0 {
-			continue
-		}
-		all = append(all, l.waitingOf(it.state, it.why, entries, number, a))
-	}
-	return all, nil
-}
-
-// long are those whose deletion goes on for long.
-func (l look) long(entries []platform.Entry) (found []platform.Entry) {
-	for _, it := range entries {
-		if l.now.Sub(it.Since) >= l.longCleaning {
-			found = append(found, it)
-		}
-	}
-	return found
-}
-
-func (l look) waitingOf(state platform.State, why string, entries []platform.Entry, number int, a asked) waiting {
-	w := waiting{Kind: string(state), Why: why}
-	isMore := len(entries) > short
-	if isMore {
-		entries = entries[:short]
-		w.More = asked{state: string(state), bindings: entries[0].Key.IsBinding, isStill: a.isStill}.target()
-	}
-	for _, it := range entries {
-		w.Rows = append(w.Rows, l.row(it, "waits"))
-	}
-	switch {
-	case isMore && number == 0:
-		w.Caption = "The first " + thousands(short) + " that are " + string(state) + ", the longest first"
-	case number == 0:
-		number = len(entries)
-		fallthrough
-	default:
-		w.Caption = string(state) + ": " + first(len(w.Rows), number, "the longest first")
-	}
-	return w
-}
-
-func first(shown, number int, order string) string {
-	if shown == number {
-		return thousands(number) + ", " + order
-	}
-	return "The first " + thousands(shown) + " of " + thousands(number) + ", " + order
 }

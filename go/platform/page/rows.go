@@ -1,7 +1,6 @@
 package page
 
 import (
-	"strings"
 	"time"
 
 	"pippinterm/platform"
@@ -51,7 +50,7 @@ func (l look) moment(at time.Time) moment {
 // row is a row without its life. kind keeps links to one row apart if a page has several.
 func (l look) row(e platform.Entry, kind string) row {
 	shown := row{
-		ID: cut(nameOf(e), longestID), Href: targetOf(e.Key), Anchor: kind + "-" + e.Key.String(),
+		ID: cut(nameOf(e), longestID), Href: targetOf(e.Key, l.isStill), Anchor: kind + "-" + e.Key.String(),
 		State: plain(string(e.State)), Since: l.moment(e.Since),
 	}
 	if e.Key.IsBinding {
@@ -66,10 +65,36 @@ func (l look) row(e platform.Entry, kind string) row {
 	if e.Removal != platform.NotRemoved && e.State != platform.Gone && e.State != platform.Withdrawn {
 		shown.Notes = append(shown.Notes, "removal is asked for")
 	}
-	if e.Failure.Kind != "" {
-		shown.Notes = append(shown.Notes, cut(strings.Join(reasonOf(e.Failure), ", "), 200))
+	if shown.Reason = cut(why(e), longestReason); shown.Reason != "" {
+		shown.Notes = append(shown.Notes, shown.Reason)
 	}
 	return shown
+}
+
+// why is what explains the state of a row: that it can't be read, why it was abandoned, what its deletion was answered,
+// or why its creation has failed. It is empty if nothing is wrong.
+func why(e platform.Entry) string {
+	if text := unreadable(e); text != "" {
+		return text
+	}
+	isRejected := e.Last.Lost != "" || e.Last.Status >= 400
+	switch e.State {
+	case platform.Abandoned:
+		return plain(e.Because)
+	case platform.Cleaning, platform.CleaningPolling, platform.Wanted, platform.Polling:
+		if isRejected {
+			return inOne(e.Last)
+		}
+	}
+	return inOne(e.Failure)
+}
+
+// unreadable is why a row can't be read, as a sentence, or empty.
+func unreadable(e platform.Entry) string {
+	if e.Unreadable == "" {
+		return ""
+	}
+	return "its record can't be read: " + plain(e.Unreadable)
 }
 
 // nameOf is the id as it is sent, or its number if it isn't known.

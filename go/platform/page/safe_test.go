@@ -6,6 +6,7 @@ import (
 	"fmt"
 	"net/http"
 	"net/http/httptest"
+	"regexp"
 	"strings"
 	"sync"
 	"testing"
@@ -18,8 +19,8 @@ import (
 func targets() []string {
 	return []string{
 		"/", "/?state=ready", "/?state=unsettled", "/?state=in-flight", "/?kind=bindings", "/?find=0",
-		targetOf(platform.InstanceKey(idOf(3))), targetOf(platform.InstanceKey(idOf(5))),
-		targetOf(platform.BindingKey(idOf(5), idOf(0x51))),
+		pageOn(platform.InstanceKey(idOf(3))), pageOn(platform.InstanceKey(idOf(5))),
+		pageOn(platform.BindingKey(idOf(5), idOf(0x51))),
 	}
 }
 
@@ -98,19 +99,27 @@ func TestHeaders(t *testing.T) {
 	}
 }
 
-// The policy allows the style and the script of the page as they stand in it, and nothing else.
+// inline is an attribute with a script or a style, which the policy keeps away.
+var inline = regexp.MustCompile(`<[^>]*\s(on[a-z]+|style)\s*=`)
+
+// The policy allows the style and the script of the page as they stand in it, and nothing else. The page has nothing
+// else.
 func TestPolicyHasTheHashes(t *testing.T) {
-	answered := answerTo(pageOf(t, shelf(), Options{}), request("GET", "/"))
-	for _, it := range []string{"style", "script"} {
-		_, after, _ := strings.Cut(answered.Body.String(), "<"+it+">")
-		inside, _, isEnded := strings.Cut(after, "</"+it+">")
-		if !isEnded || len(inside) < 100 {
-			t.Fatalf("there is no %s", it)
+	h := pageOf(t, shelf(), Options{})
+	for _, target := range append(targets(), "/none") {
+		answered := answerTo(h, request("GET", target))
+		text, policy := answered.Body.String(), answered.Header().Get("Content-Security-Policy")
+		for _, it := range []string{"style", "script"} {
+			_, after, _ := strings.Cut(text, "<"+it+">")
+			inside, _, isEnded := strings.Cut(after, "</"+it+">")
+			if !isEnded || len(inside) < 100 || strings.Count(text, "<"+it) != 1 {
+				t.Fatalf("%s doesn't have one %s", target, it)
+			}
+			has(t, policy, it+"-src '"+hash(inside)+"';")
 		}
-		has(t, answered.Header().Get("Content-Security-Policy"), it+"-src '"+hash(inside)+"'")
-	}
-	if strings.Contains(answered.Body.String(), " style=") || strings.Contains(answered.Body.String(), " onload=") {
-		t.Error("there are attributes that the policy keeps away")
+		if found := inline.FindString(mainOf(text)); found != "" {
+			t.Errorf("%s has what the policy keeps away: %s", target, found)
+		}
 	}
 }
 
@@ -131,8 +140,21 @@ func TestHost(t *testing.T) {
 			answered := answerTo(h, r)
 			if isRejected := answered.Code == http.StatusMisdirectedRequest; isRejected == isTaken {
 				t.Errorf("%q: %d", host, answered.Code)
-			} else if isRejected && strings.Contains(answered.Body.String(), "shelf") {
-				t.Errorf("%q is told of what there is", host)
+			} else if isRejected {
+				tellsNothing(t, answered.Body.String(), rejectedTells...)
+			}
+		}
+	}
+	for local, hosts := range map[string]map[string]int{
+		"[::1]:8090":     {"[::1]:8090": 200, "localhost:8090": 200, "127.0.0.1:8090": 421, "::1:8090": 421},
+		"127.0.0.2:8090": {"127.0.0.2:8090": 200, "127.0.0.1:8090": 421}, // a page that listens at every address
+		"192.0.2.1:80":   {"192.0.2.1": 200, "192.0.2.1:80": 200, "localhost": 421, "192.0.2.1:8090": 421},
+	} {
+		for host, want := range hosts {
+			r := requestAt(local, "GET", "/")
+			r.Host = host
+			if answered := answerTo(pageOf(t, shelf(), Options{}), r); answered.Code != want {
+				t.Errorf("%q at %s: %d, want %d", host, local, answered.Code, want)
 			}
 		}
 	}
@@ -182,18 +204,19 @@ func TestMethods(t *testing.T) {
 	}
 }
 
-// What is rejected, and what fails, tells nothing of the store, of the program, and of the request.
+// What fails tells nothing of the store and of the request, and what is rejected nothing of the program either.
 func TestErrorsTellNothing(t *testing.T) {
 	store := shelf()
 	var failures []error
 	h := pageOf(t, store, Options{Failed: func(err error) { failures = append(failures, err) }})
 	answers := []*httptest.ResponseRecorder{
-		answerTo(h, request("GET", "/secret-path")), answerTo(h, request("POST", "/")),
-		answerTo(h, request("GET", "/instance/secret-path")),
+		answerTo(h, request("GET", "/secret-path")), answerTo(h, request("GET", "/instance/secret-path")),
+		answerTo(h, request("GET", "/?secret-path")),
 	}
 	if len(failures) != 0 {
 		t.Errorf("they are failures: %v", failures)
 	}
+	tellsNothing(t, answerTo(h, request("POST", "/")).Body.String(), rejectedTells...)
 	store.err = errors.New("postgres at secret-path")
 	for _, target := range targets() {
 		answered := answerTo(h, request("GET", target))
@@ -206,10 +229,24 @@ func TestErrorsTellNothing(t *testing.T) {
 		answers = append(answers, answered)
 	}
 	for _, it := range answers {
-		for _, part := range []string{"secret-path", "shelf", "osb-platform", "postgres", "<style", "<script"} {
-			if strings.Contains(it.Body.String(), part) {
-				t.Errorf("it tells %s: %s", part, it.Body)
-			}
+		tellsNothing(t, it.Body.String(), inStore...)
+		tellsNothing(t, it.Body.String(), "secret-path", "postgres")
+	}
+}
+
+// inStore is what a shelf has: the names and URLs of brokers, ids and states. rejectedTells is all that an answer tells
+// nobody who isn't a user of the page, or who has come by a foreign name.
+var (
+	inStore       = []string{"shelf", "shut", "example", idOf(5).String(), "state ready", "worker-1", "org"}
+	rejectedTells = append([]string{"osb-platform", "<style", "<script", "127.0.0.1", "8090", "secret-path"}, inStore...)
+)
+
+// tellsNothing fails if a page has any of these parts.
+func tellsNothing(t *testing.T, text string, parts ...string) {
+	t.Helper()
+	for _, it := range parts {
+		if strings.Contains(text, it) {
+			t.Errorf("it tells %s: %s", it, mainOf(text))
 		}
 	}
 }
@@ -232,8 +269,8 @@ func TestPasswords(t *testing.T) {
 		if isUser := answered.Code == 200; isUser != it.isUser || (limiter.failed > failed) == it.isUser {
 			t.Errorf("%q %q: %d, %d failures", it.user, it.password, answered.Code, limiter.failed-failed)
 		}
-		if answered.Code == http.StatusUnauthorized && strings.Contains(answered.Body.String(), "shelf") {
-			t.Error("it tells what there is")
+		if answered.Code == http.StatusUnauthorized {
+			tellsNothing(t, answered.Body.String(), rejectedTells...)
 		}
 	}
 	r := request("GET", "/")

@@ -50,15 +50,15 @@ func TestOverSQLite(t *testing.T) {
 	for _, it := range states {
 		has(t, text, `id="go-`+string(it)+`"><strong>1</strong>`)
 	}
-	has(t, part(t, text, "waiting"), "unsettled: 1", "The broker shut rejects")
+	has(t, part(t, text, "waiting"), "1 unsettled", "The broker shut rejects")
 	has(t, part(t, text, "flights"), "Provision", "worker-1")
-	has(t, got(t, other, targetOf(platform.InstanceKey(idOf(5)))), `id="bindings"`, "1 binding")
+	has(t, got(t, other, pageOn(platform.InstanceKey(idOf(5)))), `id="bindings"`, "1 binding")
 	clean := func(now time.Time, held platform.Held) (*platform.Change, error) {
 		held.Entry.State, held.Entry.Since = platform.Cleaning, now
 		return &platform.Change{Entry: held.Entry}, nil
 	}
 	must(t, store.Change(background, platform.InstanceKey(idOf(5)), clean))
-	has(t, got(t, other, targetOf(platform.InstanceKey(idOf(5)))), "2 states", `<span class="state ready">`)
+	has(t, got(t, other, pageOn(platform.InstanceKey(idOf(5)))), "2 states", `<span class="state ready">`)
 }
 
 // copies makes copies of the rows of a file, until there are so many. Each has another id and another time.
@@ -106,7 +106,7 @@ func TestLargeStore(t *testing.T) {
 	}
 	h := pageOf(t, large(t), Options{})
 	text := got(t, h, "/")
-	has(t, text, "<title>100,000 instances, 10,000 unsettled", "unsettled: The first 5 of 10,000", "1 to 50 of 100,000")
+	has(t, text, "<title>100,000 instances, 10,000 unsettled", "The first 5 of 10,000", "1 to 50 of 100,000")
 	deep := got(t, h, "/?state=gone")
 	for n := 0; n < 20; n++ {
 		deep = got(t, h, linkOf(deep, "page-next"))
@@ -114,7 +114,8 @@ func TestLargeStore(t *testing.T) {
 	has(t, deep, "1,001 to 1,050 of 10,000")
 	for _, target := range []string{
 		"/", "/?state=gone", linkOf(deep, "page-next"), linkOf(text, "page-next"), "/?find=a", "/?find=00000005",
-		linkOf(text, "i-"+listed(text)[0]), "/?state=in-flight", "/?kind=bindings",
+		linkOf(text, "i-"+listed(text)[0]), "/?state=in-flight", "/?kind=bindings", "/?page=last", "/?order=oldest",
+		"/?state=gone&order=oldest&page=last",
 	} {
 		var times []time.Duration
 		for n := 0; n < 5; n++ {
@@ -131,18 +132,29 @@ func TestLargeStore(t *testing.T) {
 	checkEveryPage(t, h)
 }
 
-// The first twenty pages have no row twice.
+// The first ten pages and the last ten, in both orders, have no row twice. The last ones of an order are the first ones
+// of the other.
 func checkEveryPage(t *testing.T, h http.Handler) {
 	t.Helper()
-	seen := map[string]bool{}
-	for n, target := 0, "/"; n < 20; n++ {
-		text := got(t, h, target)
-		for _, it := range listed(text) {
-			seen[it] = true
+	seen := map[string]int{}
+	for target, by := range map[string]string{
+		"/": "page-next", "/?order=oldest": "page-next", "/?page=last": "page-previous",
+		"/?order=oldest&page=last": "page-previous",
+	} {
+		for n := 0; n < 10; n++ {
+			text := got(t, h, target)
+			for _, it := range listed(text) {
+				seen[it]++
+			}
+			target = linkOf(text, by)
 		}
-		target = linkOf(text, "page-next")
+	}
+	for id, times := range seen {
+		if times != 2 {
+			t.Errorf("%s is listed %d times", id, times)
+		}
 	}
 	if len(seen) != 1000 {
-		t.Errorf("%d rows are on twenty pages", len(seen))
+		t.Errorf("%d rows are on ten pages from each end", len(seen))
 	}
 }

@@ -7,6 +7,7 @@ import (
 	"net"
 	"net/http"
 	"net/http/httptest"
+	"net/netip"
 	"regexp"
 	"strings"
 	"testing"
@@ -90,12 +91,18 @@ func pageOf(t *testing.T, store platform.Store, options Options) http.Handler {
 }
 
 // A request as it comes to a page at 127.0.0.1:8090.
-func request(method, target string) *http.Request {
+func request(method, target string) *http.Request { return requestAt("127.0.0.1:8090", method, target) }
+
+// requestAt is a request as it comes to a page at an address, by that address.
+func requestAt(address, method, target string) *http.Request {
 	r := httptest.NewRequest(method, target, nil)
-	r.Host = "127.0.0.1:8090"
-	local := &net.TCPAddr{IP: net.IPv4(127, 0, 0, 1), Port: 8090}
+	r.Host = address
+	local := net.TCPAddrFromAddrPort(netip.MustParseAddrPort(address))
 	return r.WithContext(context.WithValue(r.Context(), http.LocalAddrContextKey, local))
 }
+
+// pageOn is the target of a row's own page.
+func pageOn(key platform.Key) string { return targetOf(key, false) }
 
 func answerTo(h http.Handler, r *http.Request) *httptest.ResponseRecorder {
 	recorder := httptest.NewRecorder()

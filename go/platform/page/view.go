@@ -15,15 +15,28 @@ type frame struct {
 	Now           moment
 	Refresh       int // seconds, or 0
 	IsStill       bool
+	Home          string
 	Turned        string // the same page, which is refreshed if this one isn't, or the other way round
 }
 
 // still has a page be refreshed, or not.
 func (f *frame) still(isStill bool, turned string) {
-	f.IsStill, f.Turned = isStill, turned
+	f.IsStill, f.Turned, f.Home = isStill, turned, asked{isStill: isStill}.target()
 	if !isStill {
 		f.Refresh = refreshed
 	}
+}
+
+// Words are a part of a sentence: a text, or a command.
+type words struct {
+	Text   string
+	IsCode bool
+}
+
+// A message is a page with one sentence.
+type message struct {
+	frame
+	Text string
 }
 
 // A row is an instance or a binding in a table.
@@ -38,6 +51,7 @@ type row struct {
 	Life   []span
 	Flight string
 	Worker string
+	Reason string // why it is in its state, or empty
 	Notes  []string
 }
 
@@ -65,15 +79,19 @@ type nav struct {
 
 // A waiting is what waits for a person for one reason.
 type waiting struct {
-	Kind, Why, Caption, More string
-	Rows                     []row
+	Heading string
+	Todo    []words
+	Caption string
+	Rows    []row
+	More    []link
 }
 
 // A seller is a broker.
 type seller struct {
 	Name, URL   string
 	CatalogueAt *moment
-	Reason      []string
+	Reason      string
+	ReasonAt    *moment
 }
 
 // rows are a table.
@@ -98,23 +116,22 @@ type overview struct {
 	Brokers       []seller
 	BrokerCaption string
 
-	HasPages    bool
-	First, Next string
-	Nothing     string
+	Orders, Pages []link
+	Nothing       []words
 }
 
 // A one is the page of an instance or a binding.
 type one struct {
 	frame
-	Heading, ID   string
-	State         string
-	Since         moment
-	Todo, Command string
-	Known         []known
-	LifeCaption   string
-	Life          []span
-	Tries         *rows
-	Bindings      *rows
+	Heading, ID string
+	State       string
+	Since       moment
+	Todo        []words
+	Known       []known
+	LifeCaption string
+	Life        []span
+	Tries       *rows
+	Bindings    *rows
 }
 
 // A known is something that is known of a row: a text, or a time.

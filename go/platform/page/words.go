@@ -96,6 +96,16 @@ func plain(text string) string {
 	return out.String()
 }
 
+// marked are the words of a sentence of this package that has its commands between `.
+func marked(sentence string) (all []words) {
+	for at, it := range strings.Split(sentence, "`") {
+		if it != "" {
+			all = append(all, words{Text: it, IsCode: at%2 == 1})
+		}
+	}
+	return all
+}
+
 // cut is a text with at most so many characters.
 func cut(text string, most int) string {
 	runes := []rune(text)
@@ -126,7 +136,7 @@ func flightOf(e platform.Entry, now time.Time) (kind, worker string) {
 	}
 	switch {
 	case e.Lease.Worker == "":
-		return kind, "to be given up"
+		return kind, "no worker has it"
 	case e.Lease.Until.Before(now):
 		return kind, plain(e.Lease.Worker) + ", lease ran out " + ago(now.Sub(e.Lease.Until))
 	}
@@ -152,5 +162,11 @@ func reasonOf(reason platform.Reason) (parts []string) {
 	return parts
 }
 
-// longestText is how many characters of a broker's text are shown.
-const longestText = 1000
+// inOne is what was said, in one text.
+func inOne(reason platform.Reason) string { return strings.Join(reasonOf(reason), ", ") }
+
+// How many characters of a broker's text are shown, and how many of a reason in a table.
+const (
+	longestText   = 1000
+	longestReason = 200
+)

@@ -14,6 +14,7 @@ import (
 	"pippinterm/osb"
 	"pippinterm/platform"
 	"pippinterm/platform/postgres"
+	"pippinterm/platform/storetest"
 )
 
 const (
@@ -22,11 +23,28 @@ const (
 	stepped = 1000 // rows, as often as they are due; the others rest
 )
 
-// BenchmarkSteps has three workers step rows at a broker that answers at once: a claim of as many rows as there are
-// free places, and a change for each. A row that is polled keeps its state, and a row that changes has two stays.
+// BenchmarkSteps has three engines step rows, each with a store of its own, and with 16 connections to a broker that
+// answers at once.
 //
-//	scripts/go test -run '^$' -bench Steps -benchtime 20000x ./platform/postgres
+//	scripts/go test -run xxx -bench Steps -benchtime 20000x ./platform/postgres
 func BenchmarkSteps(b *testing.B) {
+	for _, rows := range []int{stepped, 100 * stepped} {
+		url, stores := filled(b, rows), []platform.Store{}
+		for n := 0; n < workers; n++ {
+			store, err := postgres.Open(background, url, places+1)
+			if err != nil {
+				b.Fatal(err)
+			}
+			defer store.Close()
+			stores = append(stores, store)
+		}
+		b.Run(fmt.Sprint(rows, " rows"), func(b *testing.B) { storetest.BenchmarkSteps(b, stores...) })
+	}
+}
+
+// BenchmarkTransactions has three workers do the transactions of steps alone: a claim of as many rows as there are free
+// places, and a change for each. A row that is polled keeps its state, and a row that changes has two stays.
+func BenchmarkTransactions(b *testing.B) {
 	for _, kind := range []string{"polled", "changed"} {
 		for _, rows := range []int{stepped, 100 * stepped} {
 			b.Run(fmt.Sprintf("%s/%d", kind, rows), func(b *testing.B) { benchmark(b, rows, kind == "changed") })
@@ -65,7 +83,7 @@ func filled(b *testing.B, rows int) string {
 	}
 	const schema = "osb_platform_bench"
 	options := session.Options{
-		Most: 1, Lock: deadline, Statement: deadline, Idle: deadline,
+		Most: 1, Lock: deadline, Statement: 10 * deadline, Idle: deadline,
 		Settings: map[string]string{"search_path": schema},
 	}
 	db, err := session.Open(address, options)
@@ -88,14 +106,17 @@ func filled(b *testing.B, rows int) string {
 	store := open(b, url)
 	polled := order(instance(0))
 	polled.State, polled.IsSent, polled.Record = platform.Polling, true, pollingRecord(b)
+	polled.PolledSince = time.Now()
 	addBroker(b, store)
 	if err := store.Insert(background, polled, accept); err != nil {
 		b.Fatal(err)
 	}
 	_ = store.Close()
 	const copies = "INSERT INTO osb_instances SELECT (t).* FROM (SELECT json_populate_record(t, json_build_object(" +
-		"'id', '00000000-0000-4000-8000-' || lpad(to_hex(n), 12, '0'), 'due', CASE WHEN n < $2 THEN due END)) AS t " +
-		"FROM osb_instances AS t, generate_series(1, $1 - 1) AS n) AS s"
+		"'id', c.id, 'first', c.id, 'due', CASE WHEN c.n < $2 THEN due END, " +
+		"'names', json_build_object('instance', c.id, 'service', service, 'plan', plan)::text)) AS t " +
+		"FROM osb_instances AS t, LATERAL (SELECT n, '00000000-0000-4000-8000-' || lpad(to_hex(n), 12, '0') AS id " +
+		"FROM generate_series(1, $1 - 1) AS n) AS c) AS s"
 	if _, err := db.Exec(copies, rows, stepped); err != nil {
 		b.Fatal(err)
 	}

@@ -196,6 +196,17 @@ func (s *Store) Fingerprint(ctx context.Context, fingerprint string) (string, er
 	})
 }
 
+// ReplaceFingerprint writes another fingerprint, as platform.Store says.
+func (s *Store) ReplaceFingerprint(ctx context.Context, before, after string) error {
+	return s.run(ctx, func(*call) error {
+		return s.transaction(ctx, func(tx *sql.Tx) (bool, error) {
+			const replace = "UPDATE osb_platform SET fingerprint = $2 WHERE fingerprint = $1"
+			done, err := tx.ExecContext(ctx, replace, before, after)
+			return true, one(done, err, fmt.Errorf("%w: the fingerprint", platform.ErrUnknown))
+		})
+	})
+}
+
 // Ready returns nil if a row can be read and one can be written.
 func (s *Store) Ready(ctx context.Context) error {
 	return s.run(ctx, func(*call) error {

@@ -31,7 +31,8 @@ func dueOf(table, key string) string {
 // A row that another transaction has changed meanwhile is returned only if it is still due.
 //
 // The row of an instance is locked before that of its binding, in the order of the last clause. So whoever has locked a
-// binding has locked its instance.
+// binding has locked its instance. FOR KEY SHARE would do, but it doesn't pass over a row that was changed and then
+// locked meanwhile: PostgreSQL follows the versions of the row and waits, and two claims would wait for each other.
 var lockDue = `
 WITH a AS MATERIALIZED (SELECT t AS line FROM ` + dueOf("osb_instances", "id") + ` AS c
         JOIN osb_instances AS t ON t.id = c.id
@@ -41,7 +42,7 @@ WITH a AS MATERIALIZED (SELECT t AS line FROM ` + dueOf("osb_instances", "id") +
         JOIN osb_instances AS i ON i.id = c.id
         JOIN osb_bound AS t ON t.id = c.id AND t.binding = c.binding
         WHERE t.due <= ` + start + ` AND (t.worker IS NULL OR t.leased_until < ` + start + `)
-        ORDER BY c.due LIMIT $2 FOR KEY SHARE OF i SKIP LOCKED FOR UPDATE OF t SKIP LOCKED)
+        ORDER BY c.due LIMIT $2 FOR NO KEY UPDATE OF i SKIP LOCKED FOR UPDATE OF t SKIP LOCKED)
 SELECT row_to_json(a.line), NULL, ` + clock + ` FROM a
 UNION ALL SELECT row_to_json(b.line), row_to_json(b.instance), ` + clock + ` FROM b
 `

@@ -12,6 +12,7 @@ import (
 	"pippinterm/broker/postgres/session"
 	"pippinterm/platform"
 	"pippinterm/platform/postgres"
+	"pippinterm/platform/storetest"
 )
 
 // trigger has the statement run by each change of an instance, at once or with the COMMIT.
@@ -147,7 +148,8 @@ func TestSessionsThatTheServerEnds(t *testing.T) {
 // openAll has so many transactions run at once, so that the store has so many sessions.
 func openAll(t *testing.T, store platform.Store, most int) {
 	t.Helper()
-	entered, release, done := make(chan struct{}, most), make(chan struct{}), make(chan error, most)
+	gate, done := storetest.NewGate(), make(chan error, most)
+	defer gate.Open()
 	for n := 0; n < most; n++ {
 		key := instance(100 + n)
 		if _, err := store.Read(background, key); errors.Is(err, platform.ErrUnknown) {
@@ -155,20 +157,15 @@ func openAll(t *testing.T, store platform.Store, most int) {
 		}
 		go func() {
 			done <- store.Change(background, key, func(time.Time, platform.Held) (*platform.Change, error) {
-				entered <- struct{}{}
-				<-release
+				gate.Pass()
 				return nil, nil
 			})
 		}()
 	}
 	for n := 0; n < most; n++ {
-		select {
-		case <-entered:
-		case err := <-done:
-			t.Fatalf("a transaction hasn't begun: %v", err)
-		}
+		gate.Await(t, done)
 	}
-	close(release)
+	gate.Open()
 	for n := 0; n < most; n++ {
 		if err := <-done; err != nil {
 			t.Error(err)
@@ -266,64 +263,6 @@ func TestAContextThatEnds(t *testing.T) {
 	}
 }
 
-// While the server hangs, a call returns soon after its context has ended, and so does Close.
-func TestAServerThatHangs(t *testing.T) {
-	wire, url := newWire(t, named(t, "osb_platform_hangs"))
-	store := open(t, url)
-	insert(t, store, instance(1))
-	step := func(time.Time, platform.Held) (*platform.Change, error) { return nil, nil }
-	wire.hang(true)
-	begun := time.Now()
-	for name, call := range map[string]func(context.Context) error{
-		"Change":  func(ctx context.Context) error { return store.Change(ctx, instance(1), step) },
-		"Claim":   func(ctx context.Context) error { _, err := store.Claim(ctx, []string{"one"}, 1, step); return err },
-		"NextDue": func(ctx context.Context) error { _, _, err := store.NextDue(ctx, []string{"one"}); return err },
-	} {
-		ctx, cancel := context.WithCancel(background)
-		time.AfterFunc(50*time.Millisecond, cancel)
-		if err := call(ctx); !errors.Is(err, platform.ErrAway) || !errors.Is(err, context.Canceled) {
-			t.Errorf("%s: %v", name, err)
-		}
-	}
-	if err := store.Close(); err != nil {
-		t.Error(err)
-	}
-	wantQuick(t, begun)
-}
-
-// wantQuick fails if the calls have waited for an answer of the server, which would take 45 seconds.
-func wantQuick(t *testing.T, begun time.Time) {
-	t.Helper()
-	if took := time.Since(begun); took > 30*time.Second {
-		t.Errorf("it took %v", took)
-	}
-}
-
-// A server hangs while a step asks it for the bindings of an instance.
-func TestAServerThatHangsInAStep(t *testing.T) {
-	wire, url := newWire(t, named(t, "osb_platform_hangs_step"))
-	store := open(t, url)
-	insert(t, store, instance(1))
-	ctx, cancel := context.WithCancel(background)
-	begun := time.Now()
-	err := store.Change(ctx, instance(1), func(_ time.Time, held platform.Held) (*platform.Change, error) {
-		wire.hang(true)
-		time.AfterFunc(50*time.Millisecond, cancel)
-		is, err := held.AllGone()
-		if err == nil {
-			t.Errorf("all are gone: %t", is)
-		}
-		return nil, err
-	})
-	if !errors.Is(err, platform.ErrAway) || !errors.Is(err, context.Canceled) {
-		t.Error(err)
-	}
-	if err := store.Close(); err != nil {
-		t.Error(err)
-	}
-	wantQuick(t, begun)
-}
-
 func TestAway(t *testing.T) {
 	url := named(t, "osb_platform_away")
 	store := open(t, url)
@@ -368,25 +307,23 @@ func TestARowThatIsGone(t *testing.T) {
 	}
 }
 
-// A row that can't be read fails no other one.
-func TestARowThatCannotBeRead(t *testing.T) {
-	url := named(t, "osb_platform_unread")
+// A row that can't be read hides no other one. A row whose ids can't be read is found by its number.
+func TestRowsThatCannotBeRead(t *testing.T) {
+	url := named(t, "osb_platform_unreadable")
 	store := open(t, url)
 	defer store.Close()
-	insert(t, store, instance(1), instance(2), binding(1, 2))
-	pgtest.Exec(t, pgtest.DB(t, url), "UPDATE osb_instances SET record = '{}' WHERE id = '"+id(2).String()+"'")
-	calls := 0
-	claimed, err := store.Claim(background, []string{"one"}, 10, count(&calls))
-	if err != nil || len(claimed) != 3 || calls != 1 {
-		t.Fatalf("claimed %v, %v, after %d calls", claimed, err, calls)
-	}
-	for _, it := range claimed {
-		if (it.Err == nil) != (it.Key == instance(1)) {
-			t.Errorf("%v: %v", it.Key, it.Err)
+	spoil := func(t *testing.T, key platform.Key, column string) {
+		table, where := "osb_instances", "id = '"+key.Instance.String()+"'"
+		if key.IsBinding {
+			table, where = "osb_bound", where+" AND binding = '"+key.Binding.String()+"'"
 		}
+		pgtest.Exec(t, pgtest.DB(t, url), "UPDATE "+table+" SET "+column+" = 'x' WHERE "+where)
 	}
-	if err := store.Change(background, instance(2), count(&calls)); err == nil {
-		t.Error("it was changed")
+	storetest.TestUnreadable(t, store, func(t *testing.T, key platform.Key) { spoil(t, key, "record") })
+	spoil(t, instance(4), "names")
+	got, err := store.Read(background, instance(4))
+	if err != nil || got.Unreadable == "" || got.Names.Instance != id(4).String() || !got.IsSent {
+		t.Errorf("%+v, %v", got, err)
 	}
 }
 

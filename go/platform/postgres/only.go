@@ -113,6 +113,14 @@ func (r *right) end() {
 	})
 }
 
+// HasWorkers looks for locks of workers, as platform.Store says.
+func (s *Store) HasWorkers(ctx context.Context) (bool, error) {
+	return within(ctx, s, func(*call) (has bool, err error) {
+		err = s.db.QueryRowContext(ctx, hasWorkers, workerLock).Scan(&has)
+		return has, err
+	})
+}
+
 const leasedBy = `
 SELECT id, NULL FROM osb_instances WHERE worker = $1 UNION ALL SELECT id, binding FROM osb_bound WHERE worker = $1
 `

@@ -9,6 +9,7 @@ import (
 	"pippinterm/broker/postgres/pgtest"
 	"pippinterm/osb"
 	"pippinterm/platform"
+	"pippinterm/platform/storetest"
 )
 
 // The time that a step decides by is read after its rows are locked. A worker that has waited, or was paused before it
@@ -85,20 +86,16 @@ func TestAWorkerThatIsPaused(t *testing.T) {
 			defer paused.Close()
 			defer other.Close()
 			insert(t, paused, instance(1), binding(1, 1), instance(2), instance(3))
-			entered, release, done := make(chan struct{}), make(chan struct{}), make(chan error, 1)
-			isFirst := true
+			gate, done := storetest.NewGate(), make(chan error, 1)
+			defer gate.Open()
 			go func() {
 				done <- it.work(paused, func(now time.Time, held platform.Held) (*platform.Change, error) {
-					if isFirst {
-						isFirst = false
-						close(entered)
-						<-release
-					}
+					gate.Pass()
 					held.Entry.Lease = platform.Lease{Worker: "paused", Until: now.Add(time.Hour)}
 					return &platform.Change{Entry: held.Entry}, nil
 				})
 			}()
-			<-entered
+			gate.Await(t, done)
 			keys := claimFor(t, other, "other", 10)
 			if len(keys) == 0 || len(keys) == 4 { // all, if it had waited for the end of the session
 				t.Errorf("the other worker has claimed %v", keys)
@@ -110,7 +107,7 @@ func TestAWorkerThatIsPaused(t *testing.T) {
 			if keys = claimFor(t, other, "other", 10); len(keys) != left {
 				t.Errorf("after the end of the session the other worker has claimed %v, want %d", keys, left)
 			}
-			close(release)
+			gate.Open()
 			if err := <-done; !errors.Is(err, platform.ErrAway) {
 				t.Errorf("the paused worker: %v", err)
 			}
@@ -203,6 +200,20 @@ func TestABindingWhoseInstanceIsLocked(t *testing.T) {
 	}
 }
 
+// A claim waits for no row, not even for one that is changed and then locked.
+func TestABindingWhoseInstanceIsChangedAndLocked(t *testing.T) {
+	url := named(t, "osb_platform_versions")
+	store, tx := open(t, url), begin(t, url)
+	defer store.Close()
+	insert(t, store, instance(1), binding(1, 1), instance(2), binding(2, 2))
+	run(t, tx, "UPDATE osb_instances SET tries = 7 WHERE id = $1", id(1))
+	run(t, tx, "SELECT FROM osb_instances WHERE id = $1 FOR UPDATE", id(1))
+	claimed, err := store.Claim(background, []string{"one"}, 10, count(new(int)))
+	if err != nil || len(claimed) != 2 {
+		t.Errorf("claimed %v, %v", claimed, err)
+	}
+}
+
 // A binding is sent, and then its instance is stepped in the same claim: the binding may exist, though the database
 // doesn't have it yet.
 func TestAnInstanceBehindItsBinding(t *testing.T) {
@@ -264,33 +275,29 @@ func TestBindingsThatWakeAtOnce(t *testing.T) {
 		t.Fatal(err)
 	}
 	const steps = 4
-	entered, release, done := make(chan int, 100), make(chan struct{}), make(chan error, steps)
+	gate, done := storetest.NewGate(), make(chan error, steps)
+	defer gate.Open()
 	for n := 0; n < steps; n++ {
 		insert(t, stores[0], binding(n, 1))
 		go func(n int) {
 			done <- stores[n%2].Change(background, binding(n, 1),
 				func(_ time.Time, held platform.Held) (*platform.Change, error) {
-					entered <- n
-					<-release
+					gate.Pass()
 					return &platform.Change{Entry: held.Entry, WakeInstance: true}, nil
 				})
 		}(n)
 	}
 	for n := 0; n < steps; n++ {
-		select {
-		case <-entered:
-		case <-time.After(deadline):
-			t.Fatal("the steps don't run at once")
-		}
+		gate.Await(t, done)
 	}
-	close(release)
+	gate.Open()
 	for n := 0; n < steps; n++ {
 		if err := <-done; err != nil {
 			t.Error(err)
 		}
 	}
-	if len(entered) != 0 {
-		t.Errorf("%d steps were tried again", len(entered))
+	if more := gate.Steps(); more != 0 {
+		t.Errorf("%d steps were tried again", more)
 	}
 	for _, it := range stores {
 		if err := it.Close(); err != nil {

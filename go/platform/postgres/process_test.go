@@ -20,7 +20,7 @@ const urlVariable = "OSB_PLATFORM_TEST_CLAIM"
 func TestMain(m *testing.M) {
 	url := os.Getenv(urlVariable)
 	if url == "" {
-		os.Exit(m.Run())
+		os.Exit(inDatabase(m))
 	}
 	if err := claimAll(url); err != nil {
 		fmt.Fprintln(os.Stderr, err)
@@ -98,6 +98,10 @@ func TestTwoProcesses(t *testing.T) {
 		if err := it.command.Wait(); err != nil {
 			t.Error(err)
 		}
+	}
+	// Two claims that have each locked a row of the other return nothing. So some rows may be left.
+	for _, key := range claimFor(t, store, "the last", 2*rows) {
+		taken[key.String()]++
 	}
 	if len(taken) != 2*rows {
 		t.Errorf("%d rows of %d were claimed", len(taken), 2*rows)

@@ -36,7 +36,7 @@ func (s *Store) Read(ctx context.Context, key platform.Key) (platform.Entry, err
 		if err != nil {
 			return entry, err
 		}
-		return entryOf(text)
+		return shownOf(text)
 	})
 }
 
@@ -74,7 +74,7 @@ func (s *Store) List(ctx context.Context, filter platform.Filter) ([]platform.En
 		return []platform.Entry{}, nil
 	}
 	return s.entries(ctx, "SELECT line FROM ("+strings.Join(parts, " UNION ALL ")+
-		") AS t ORDER BY state, since, id, binding"+limit, parameters...)
+		") AS t"+orderBy(filter, "state", "since", "id", "binding")+limit, parameters...)
 }
 
 // statesOf are the states of a filter, each once, or nil for all: of each, an index has the rows in their order.
@@ -116,12 +116,34 @@ func partOf(filter platform.Filter, state *platform.State, isBinding bool, param
 		where.and("("+number+" = $ AND first = $ OR first = $ AND first <> "+number+")", first, first, first)
 	}
 	if after := filter.After; after != nil {
-		where.and("(state, since, id"+ifBinding(isBinding, ", binding")+") > ($, $, $"+ifBinding(isBinding, ", $")+")",
-			placeOf(*after, isBinding)...)
+		where.and("(state, since, id"+ifBinding(isBinding, ", binding")+")"+behind(filter, isBinding)+
+			"($, $, $"+ifBinding(isBinding, ", $")+")", placeOf(*after, isBinding)...)
+	}
+	key := []string{"state", "since", "id"}
+	if isBinding {
+		key = append(key, "binding")
 	}
 	return "(SELECT row_to_json(t) AS line, state, since, id, " + binding + " AS binding FROM " + table +
-		" AS t WHERE " + strings.Join(where.texts, " AND ") + " ORDER BY state, since, id" +
-		ifBinding(isBinding, ", binding")
+		" AS t WHERE " + strings.Join(where.texts, " AND ") + orderBy(filter, key...)
+}
+
+// orderBy is the order of a filter, by these columns.
+func orderBy(filter platform.Filter, columns ...string) string {
+	if filter.Latest {
+		return " ORDER BY " + strings.Join(columns, " DESC, ") + " DESC"
+	}
+	return " ORDER BY " + strings.Join(columns, ", ")
+}
+
+// behind compares a row with the place of a filter. In the opposite order, an instance comes behind its bindings.
+func behind(filter platform.Filter, isBinding bool) string {
+	switch {
+	case !filter.Latest:
+		return " > "
+	case !isBinding && filter.After.Key.IsBinding:
+		return " <= "
+	}
+	return " < "
 }
 
 func ifBinding(isBinding bool, text string) string {
@@ -164,7 +186,7 @@ func (s *Store) entries(ctx context.Context, query string, parameters ...any) ([
 			if err := rows.Scan(&text); err != nil {
 				return err
 			}
-			entry, err := entryOf(text)
+			entry, err := shownOf(text)
 			found = append(found, entry)
 			return err
 		})

@@ -164,8 +164,9 @@ func (r *row) key() (key platform.Key, err error) {
 	return key, nil
 }
 
-// readTexts reads the columns that have ids, an object or a record.
-func (r *row) readTexts(entry *platform.Entry) error {
+// readTexts reads the columns that have ids, an object or a record: all that can be read. The error is that of the first
+// one that can't.
+func (r *row) readTexts(entry *platform.Entry) (failed error) {
 	var ids names
 	for _, it := range []struct {
 		what string
@@ -180,32 +181,64 @@ func (r *row) readTexts(entry *platform.Entry) error {
 		{"record", func() error { return r.readRecord(entry) }},
 	} {
 		if err := it.read(); err != nil {
-			return fmt.Errorf("the column %s of %v: %w", it.what, entry.Key, err)
+			failed = either(failed, fmt.Errorf("the column %s of %v: %w", it.what, entry.Key, err))
 		}
 	}
 	entry.Names = platform.Names{Instance: ids.Instance, Binding: ids.Binding, Service: ids.Service, Plan: ids.Plan}
-	return nil
+	return failed
 }
 
 func (r *row) readRecord(entry *platform.Entry) (err error) {
 	if r.Record == nil {
 		return nil
 	}
-	entry.IsSent = true
+	var record osb.Record
 	if entry.Key.IsBinding {
-		entry.Record, err = osb.BindingRecordFromText([]byte(*r.Record))
-		return err
+		record, err = osb.BindingRecordFromText([]byte(*r.Record))
+	} else {
+		err = record.UnmarshalJSON([]byte(*r.Record))
 	}
-	return entry.Record.UnmarshalJSON([]byte(*r.Record))
+	if err == nil {
+		entry.Record, entry.IsSent = record, true
+	}
+	return err
 }
 
 // entryOf is the entry of a row as JSON.
 func entryOf(text []byte) (platform.Entry, error) {
-	var it row
-	if err := json.Unmarshal(text, &it); err != nil {
-		return platform.Entry{}, fmt.Errorf("a row: %w", err)
+	it, err := readRow(text)
+	if err != nil {
+		return platform.Entry{}, err
 	}
 	return it.entry()
+}
+
+// shownOf is entryOf for whoever only shows the row: if it can't be read, the entry says so. An error is left only if
+// the row has no key, without which it has no place among others.
+func shownOf(text []byte) (platform.Entry, error) {
+	it, err := readRow(text)
+	if err != nil {
+		return platform.Entry{}, err
+	}
+	if _, err := it.key(); err != nil {
+		return platform.Entry{}, err
+	}
+	entry, err := it.entry()
+	if err != nil {
+		entry.Unreadable = err.Error()
+	}
+	if entry.Names.Instance == "" { // the names can't be read
+		entry.Names.Instance = it.ID
+		entry.Names.Binding = it.Binding
+	}
+	return entry, nil
+}
+
+func readRow(text []byte) (it row, err error) {
+	if err := json.Unmarshal(text, &it); err != nil {
+		return it, fmt.Errorf("a row: %w", err)
+	}
+	return it, nil
 }
 
 // seconds is a time as a column has it, in whole microseconds: NULL for the zero time.

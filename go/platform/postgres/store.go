@@ -8,7 +8,8 @@
 //   - Each transaction over a binding first locks the row of its instance FOR KEY SHARE, and then the row of the
 //     binding FOR UPDATE. So no step of an instance runs beside one of its bindings, or beside the insertion of one,
 //     and many bindings of an instance are stepped at once. FOR KEY SHARE lets another binding wake the instance
-//     (Change), which FOR SHARE doesn't: two of them would wait for each other.
+//     (Change), which FOR SHARE doesn't: two of them would wait for each other. A Claim, which waits for no row, locks
+//     the instance FOR NO KEY UPDATE.
 //
 // The exceptions change nothing that a step decides by: waking an instance, and Free.
 //
@@ -122,13 +123,13 @@ func (s *Store) statement(ctx context.Context, text string) (*sql.Stmt, error) {
 }
 
 // Close closes the store, once all calls that have begun have ended. Later calls fail. The rights of Only are left as
-// they are.
+// they are. If the server doesn't answer, Close returns 2 seconds later, and the idle sessions end by themselves.
 func (s *Store) Close() error {
 	s.turn.Lock()
 	s.isClosed = true
 	s.turn.Unlock()
 	s.running.Wait()
-	return s.db.Close()
+	return session.Close(s.db)
 }
 
 // enter begins a call that Close waits for, unless the store is closed. The caller calls s.running.Done at the end.

@@ -92,15 +92,21 @@ func run(t *testing.T, tx *sql.Tx, statement string, parameters ...any) {
 	}
 }
 
-// A wire stands between a store and the server. It counts the answers of the server that end a round trip, and may
-// hang.
+// Answers are what the server has answered.
+type answers struct {
+	trips        int // that end a round trip
+	statements   int // that end a statement, such as BEGIN, COMMIT and what is between them
+	transactions int // that end a transaction with BEGIN
+}
+
+// A wire stands between a store and the server. It counts what the server answers, and may hang.
 type wire struct {
 	listener net.Listener
 	server   string
 	running  sync.WaitGroup
 
 	turn    sync.Mutex
-	trips   int
+	counts  answers
 	hangs   bool
 	resumes *sync.Cond
 }
@@ -171,7 +177,7 @@ func (w *wire) answers(client, server net.Conn) {
 		if _, err := io.ReadFull(server, rest); err != nil {
 			return
 		}
-		w.pass(head[0])
+		w.pass(head[0], rest)
 		if _, err := client.Write(append(append([]byte{}, head...), rest...)); err != nil {
 			_ = server.Close()
 			return
@@ -180,14 +186,20 @@ func (w *wire) answers(client, server net.Conn) {
 }
 
 // pass counts a message, and waits while the wire hangs.
-func (w *wire) pass(kind byte) {
+func (w *wire) pass(kind byte, rest []byte) {
 	w.turn.Lock()
 	defer w.turn.Unlock()
 	for w.hangs {
 		w.resumes.Wait()
 	}
-	if kind == 'Z' { // ReadyForQuery
-		w.trips++
+	switch kind {
+	case 'Z': // ReadyForQuery
+		w.counts.trips++
+	case 'C': // CommandComplete, with the name of the command
+		w.counts.statements++
+		if name := string(rest); name == "COMMIT\x00" || name == "ROLLBACK\x00" {
+			w.counts.transactions++
+		}
 	}
 }
 
@@ -198,11 +210,11 @@ func (w *wire) hang(is bool) {
 	w.resumes.Broadcast()
 }
 
-// counted is how many round trips there were since the last call.
-func (w *wire) counted() int {
+// counted is what the server has answered since the last call.
+func (w *wire) counted() answers {
 	w.turn.Lock()
 	defer w.turn.Unlock()
-	trips := w.trips
-	w.trips = 0
-	return trips
+	counts := w.counts
+	w.counts = answers{}
+	return counts
 }

@@ -73,7 +73,7 @@ func TestRoundTrips(t *testing.T) {
 		if err := it.call(); err != nil {
 			t.Errorf("%s: %v", it.name, err)
 		}
-		if got := wire.counted(); got != it.want {
+		if got := wire.counted().trips; got != it.want {
 			t.Errorf("%s takes %d round trips, want %d", it.name, got, it.want)
 		}
 	}

@@ -11,6 +11,7 @@ import (
 
 	"pippinterm/osb"
 	"pippinterm/platform"
+	"pippinterm/platform/storetest"
 )
 
 const (
@@ -54,6 +55,9 @@ func benched(n int) platform.Entry {
 	entry.Last = platform.Reason{
 		At: at(1.6e12), Kind: "provision", Status: int(statuses[n%10]), Description: "as it was asked for",
 	}
+	if entry.State == platform.Polling {
+		entry.PolledSince = time.Now()
+	}
 	switch n % 10 {
 	case 4:
 		entry.Due = at(1.6e12 + int64(n))
@@ -63,11 +67,21 @@ func benched(n int) platform.Entry {
 	return entry
 }
 
-// A step is two transactions: a Claim, which records a Poll, and a Change, which takes its answer.
-func BenchmarkStep(b *testing.B) {
+// BenchmarkSteps has an engine step rows, with 16 connections to a broker that answers at once.
+//
+//	scripts/go test -run xxx -bench Steps -benchtime 20000x ./platform/sqlite
+func BenchmarkSteps(b *testing.B) {
 	for _, rows := range []int{1000, 100000} {
+		s := filled(b, rows)
+		b.Run(fmt.Sprint(rows, " rows"), func(b *testing.B) { storetest.BenchmarkSteps(b, s) })
+	}
+}
+
+// The transactions of a step alone: a Claim, which records a Poll, and a Change, which takes its answer.
+func BenchmarkTransactions(b *testing.B) {
+	for _, rows := range []int{1000, 100000} {
+		s := filled(b, rows)
 		b.Run(fmt.Sprint(rows, " rows"), func(b *testing.B) {
-			s := filled(b, rows)
 			var left, all = int64(b.N), sync.WaitGroup{}
 			b.ResetTimer()
 			begun := time.Now()

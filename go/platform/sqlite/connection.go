@@ -25,6 +25,7 @@ type connection struct {
 	insertBroker, updateBroker   *sqlitefile.Statement
 	dropBroker, brokerUsed       *sqlitefile.Statement
 	fingerprint, putFingerprint  *sqlitefile.Statement
+	replaceFingerprint           *sqlitefile.Statement
 	ready                        *sqlitefile.Statement
 }
 
@@ -88,7 +89,8 @@ func (c *connection) ofOthers() map[**sqlitefile.Statement]string {
 		&c.fingerprint:   "SELECT fingerprint FROM osb_store",
 		&c.putFingerprint: "INSERT INTO osb_store VALUES (1, ?) ON CONFLICT (one) DO UPDATE " +
 			"SET fingerprint = excluded.fingerprint WHERE fingerprint IS NULL",
-		&c.ready: "INSERT INTO osb_readiness VALUES (1, ?) ON CONFLICT (one) DO UPDATE SET asked = excluded.asked",
+		&c.replaceFingerprint: "UPDATE osb_store SET fingerprint = ? WHERE fingerprint = ?",
+		&c.ready:              "INSERT INTO osb_readiness VALUES (1, ?) ON CONFLICT (one) DO UPDATE SET asked = excluded.asked",
 	}
 }
 
@@ -127,8 +129,15 @@ func (c *connection) of(key platform.Key) *table {
 	return &c.instances
 }
 
-// entry reads a row. Errors: platform.ErrUnknown.
-func (c *connection) entry(key platform.Key) (platform.Entry, error) {
+// entry reads a row. Errors: platform.ErrUnknown; that the row can't be read.
+func (c *connection) entry(key platform.Key) (platform.Entry, error) { return c.readBy(entryOf, key) }
+
+// shown reads a row to show it (shownOf). Errors: platform.ErrUnknown.
+func (c *connection) shown(key platform.Key) (platform.Entry, error) { return c.readBy(shownOf, key) }
+
+func (c *connection) readBy(
+	read func([]driver.Value) (platform.Entry, error), key platform.Key,
+) (platform.Entry, error) {
 	values, err := c.of(key).read.One(keyValues(key)...)
 	if err != nil {
 		return platform.Entry{}, err
@@ -136,7 +145,7 @@ func (c *connection) entry(key platform.Key) (platform.Entry, error) {
 	if values == nil {
 		return platform.Entry{}, platform.ErrUnknown
 	}
-	return entryOf(values)
+	return read(values)
 }
 
 // held reads what a step is told of a row.

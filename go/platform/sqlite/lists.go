@@ -14,8 +14,8 @@ var states = []platform.State{
 	platform.Ready, platform.Unsettled, platform.Wanted, platform.Withdrawn,
 }
 
-// List returns rows, in the order of State, Since, Key. It reads one state after another, from an index, until it has
-// enough.
+// List returns rows, in the order of State, Since, Key, or in the opposite one. It reads one state after another, from
+// an index, until it has enough.
 func (s *Store) List(ctx context.Context, filter platform.Filter) (entries []platform.Entry, err error) {
 	err = s.read(ctx, func(c *connection) error {
 		entries = nil
@@ -43,13 +43,27 @@ func statesOf(filter platform.Filter) (of []platform.State) {
 	for _, it := range filter.States {
 		chosen[it] = true
 	}
-	for _, it := range states {
-		isBehind := filter.After == nil || it >= filter.After.State
-		if isBehind && (len(chosen) == 0 || chosen[it]) {
+	for at := range states {
+		it := states[at]
+		if filter.Latest {
+			it = states[len(states)-1-at]
+		}
+		if isBehind(filter, it) && (len(chosen) == 0 || chosen[it]) {
 			of = append(of, it)
 		}
 	}
 	return of
+}
+
+// isBehind is whether rows in a state may come behind the place of a filter.
+func isBehind(filter platform.Filter, state platform.State) bool {
+	switch {
+	case filter.After == nil:
+		return true
+	case filter.Latest:
+		return state <= filter.After.State
+	}
+	return state >= filter.After.State
 }
 
 // A selection is a statement with its values.
@@ -81,13 +95,17 @@ func (c *connection) list(filter platform.Filter, state platform.State, entries 
 	if chosen.text.Len() == 0 {
 		return nil
 	}
-	chosen.text.WriteString(" ORDER BY since, 1, 2 LIMIT ?")
+	order := " ORDER BY since, 1, 2 LIMIT ?"
+	if filter.Latest {
+		order = " ORDER BY since DESC, 1 DESC, 2 DESC LIMIT ?"
+	}
+	chosen.text.WriteString(order)
 	most := int64(-1)
 	if filter.Most > 0 {
 		most = int64(filter.Most - len(*entries))
 	}
 	return c.each(chosen.text.String(), append(chosen.values, most), func(values []driver.Value) error {
-		entry, err := entryOf(values)
+		entry, err := shownOf(values)
 		*entries = append(*entries, entry)
 		return err
 	})
@@ -124,25 +142,33 @@ func (s *selection) of(filter platform.Filter, state platform.State, key string)
 		s.and("id >= ? AND id < ?", filter.Prefix, filter.Prefix+"g")
 	}
 	if after := filter.After; after != nil && after.State == state {
-		s.after(*after, key)
+		s.after(*after, key, filter.Latest)
 	}
 }
 
-// after adds that a row comes behind a place. An instance comes before its bindings.
-func (s *selection) after(place platform.Place, key string) {
+// after adds that a row comes behind a place. An instance comes before its bindings, and in the opposite order behind
+// them.
+func (s *selection) after(place platform.Place, key string, isLatest bool) {
 	since, instance := seconds(place.Since), place.Key.Instance.String()
 	if since == nil {
 		since = -never
 	}
+	is := " > "
+	switch {
+	case isLatest && key == "id" && place.Key.IsBinding:
+		is = " <= "
+	case isLatest:
+		is = " < "
+	}
 	if key == "id" {
-		s.and("(since, id) > (?, ?)", since, instance)
+		s.and("(since, id)"+is+"(?, ?)", since, instance)
 		return
 	}
 	binding := ""
 	if place.Key.IsBinding {
 		binding = place.Key.Binding.String()
 	}
-	s.and("(since, instance, id) > (?, ?, ?)", since, instance, binding)
+	s.and("(since, instance, id)"+is+"(?, ?, ?)", since, instance, binding)
 }
 
 // each calls with each row of a query that is prepared when it is first asked for.
@@ -195,7 +221,7 @@ func (s *Store) InFlight(ctx context.Context, most int) (entries []platform.Entr
 			keys, err := c.keysInFlight(most)
 			for n := 0; n < len(keys) && err == nil; n++ {
 				var entry platform.Entry
-				entry, err = c.entry(keys[n])
+				entry, err = c.shown(keys[n])
 				entries = append(entries, entry)
 			}
 			return err

@@ -26,12 +26,18 @@ func (s *Store) Only(_ context.Context, worker string) (end func(), lost <-chan 
 	return func() { once.Do(func() { unlock(file) }) }, make(chan struct{}), nil
 }
 
+// HasWorkers looks for files that are locked.
+func (s *Store) HasWorkers(context.Context) (bool, error) {
+	worker, err := running(s.file.Path())
+	return worker != "", err
+}
+
 // lockEnd is the end of the name of a worker's lock.
 const lockEnd = ".lock"
 
-// locked locks a file, and returns nil if somebody else has locked it.
+// locked locks a file, and returns nil if somebody else has locked it. A symbolic link isn't followed.
 func locked(path string, flags int) (*os.File, error) {
-	file, err := os.OpenFile(path, os.O_RDWR|flags, 0o600)
+	file, err := os.OpenFile(path, os.O_RDWR|syscall.O_NOFOLLOW|flags, 0o600)
 	if err != nil {
 		return nil, fmt.Errorf("sqlite: the lock of a worker: %w", err)
 	}

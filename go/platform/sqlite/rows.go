@@ -294,7 +294,7 @@ func utc(at time.Time) time.Time {
 	return at.UTC()
 }
 
-// entryOf reads the columns of instanceRow or bindingRow.
+// entryOf reads the columns of instanceRow or bindingRow. If one can't be read, the entry has all others.
 func entryOf(values []driver.Value) (entry platform.Entry, err error) {
 	r := &row{values: values}
 	entry.Key = r.key()
@@ -305,9 +305,25 @@ func entryOf(values []driver.Value) (entry platform.Entry, err error) {
 		entry.Credentials = r.blob()
 	}
 	if r.err != nil {
-		return platform.Entry{}, fmt.Errorf("sqlite: the row of %v: %w", entry.Key, r.err)
+		err = fmt.Errorf("sqlite: the row of %v: %w", entry.Key, r.err)
 	}
-	return entry, nil
+	return entry, err
+}
+
+// sinceColumn is the place of since in instanceRow and bindingRow.
+var sinceColumn = 2 + len(orderColumns) + 1
+
+// shownOf is entryOf for whoever only shows the row: if it can't be read, the entry says so. An error is left only if
+// the key or since can't be read, without which the row has no place among others.
+func shownOf(values []driver.Value) (platform.Entry, error) {
+	place := &row{values: []driver.Value{values[0], values[1], values[sinceColumn]}}
+	place.key()
+	place.at()
+	entry, err := entryOf(values)
+	if err != nil && place.err == nil {
+		entry.Unreadable, err = err.Error(), nil
+	}
+	return entry, err
 }
 
 func (r *row) key() platform.Key {
@@ -334,7 +350,6 @@ func (r *row) order(order *platform.Order) {
 func (r *row) state(entry *platform.Entry) {
 	entry.State, entry.Since = platform.State(r.text("")), r.at()
 	if text := r.optional(); text != nil {
-		entry.IsSent = true
 		r.record(entry, []byte(*text))
 	}
 	entry.Operation = r.optional()
@@ -348,13 +363,17 @@ func (r *row) state(entry *platform.Entry) {
 }
 
 func (r *row) record(entry *platform.Entry, text []byte) {
+	var record osb.Record
 	var err error
 	if entry.Key.IsBinding {
-		entry.Record, err = osb.BindingRecordFromText(text)
+		record, err = osb.BindingRecordFromText(text)
 	} else {
-		err = entry.Record.UnmarshalJSON(text)
+		err = record.UnmarshalJSON(text)
 	}
-	if err != nil && r.err == nil {
+	switch {
+	case err == nil:
+		entry.Record, entry.IsSent = record, true
+	case r.err == nil:
 		r.err = fmt.Errorf("the record: %w", err)
 	}
 }

@@ -213,7 +213,7 @@ func (s *Store) Free(ctx context.Context, worker string) error {
 // Read returns the row of a key.
 func (s *Store) Read(ctx context.Context, key platform.Key) (entry platform.Entry, err error) {
 	err = s.read(ctx, func(c *connection) error {
-		entry, err = c.entry(key)
+		entry, err = c.shown(key)
 		return err
 	})
 	return entry, err
@@ -238,6 +238,13 @@ func (s *Store) Fingerprint(ctx context.Context, fingerprint string) (written st
 		return read(c)
 	})
 	return written, err
+}
+
+// ReplaceFingerprint writes another fingerprint in place of the one that is written.
+func (s *Store) ReplaceFingerprint(ctx context.Context, before, after string) error {
+	return s.write(ctx, func(c *connection) error {
+		return one(fmt.Errorf("%w: the fingerprint", platform.ErrUnknown))(c.replaceFingerprint.Run(after, before))
+	})
 }
 
 // Ready returns nil if a row can be read and one can be written.

@@ -362,33 +362,6 @@ func order(n int) platform.Entry {
 	}
 }
 
-// A row that can't be read is claimed with its error, and those beside it are stepped.
-func TestUnreadableRow(t *testing.T) {
-	path := filepath.Join(t.TempDir(), "store")
-	s := withBroker(t, open(t, path))
-	for n := 0; n < 3; n++ {
-		if err := s.Insert(background, order(n), nil); err != nil {
-			t.Fatal(err)
-		}
-	}
-	executed(t, path, "UPDATE osb_instances SET record = '{}' WHERE id = '"+keyOf(1).String()+"'")
-	claimed, err := s.Claim(background, []string{"one"}, 10,
-		func(_ time.Time, held platform.Held) (*platform.Change, error) {
-			held.Entry.Due = time.Time{}
-			return &platform.Change{Entry: held.Entry}, nil
-		})
-	if err != nil || len(claimed) != 3 || claimed[0].Err != nil || claimed[2].Err != nil {
-		t.Fatalf("%v, %v", claimed, err)
-	}
-	if it := claimed[1]; it.Key != keyOf(1) || it.Err == nil || !strings.Contains(it.Err.Error(), keyOf(1).String()) {
-		t.Errorf("%+v", it)
-	}
-	due, now, err := s.NextDue(background, []string{"one"})
-	if err != nil || due.Before(now.Add(platform.FailedRest/2)) {
-		t.Errorf("it is due at %v, and now is %v: %v", due, now, err)
-	}
-}
-
 // A time is written in whole milliseconds. It isn't before the time that was meant, nor is the time of the store.
 func TestTimes(t *testing.T) {
 	s := withBroker(t, open(t, filepath.Join(t.TempDir(), "store")))
@@ -472,6 +445,10 @@ func TestQueriesUseIndexes(t *testing.T) {
 		{Prefix: "1", Broker: "x"},
 		{Most: 5, After: &platform.Place{State: platform.Ready, Since: at(1), Key: keyOf(1)}},
 		{Most: 5, Broker: "one", After: &platform.Place{State: platform.Ready, Since: at(1), Key: keyOf(1)}},
+	}
+	for _, it := range filters {
+		it.Latest = true
+		filters = append(filters, it)
 	}
 	for _, it := range filters {
 		if _, err := s.List(background, it); err != nil {

@@ -39,28 +39,34 @@ func testInsertBesideDrop(t *testing.T, open opener) {
 		entry := order(key)
 		entry.Broker = fmt.Sprint("new-", n)
 		addBroker(t, first, entry.Broker)
-		entered, dropped, inserted := make(chan struct{}), make(chan error, 1), make(chan error, 1)
-		var once sync.Once
-		go func() {
-			inserted <- first.Insert(background, entry, func(platform.Held) error {
-				once.Do(func() { close(entered) })
-				select {
-				case err := <-dropped:
-					dropped <- err // it didn't wait
-				case <-time.After(soon):
-				}
-				return nil
-			})
-		}()
-		<-entered
-		go func() { dropped <- second.DropBroker(background, entry.Broker) }()
-		if err := <-inserted; err != nil {
-			t.Errorf("Insert of %v: %v", key, err)
-		}
-		if err := <-dropped; !errors.Is(err, platform.ErrUsed) {
-			t.Errorf("the broker of %v was dropped: %v", key, err)
-		}
+		insertBesideDrop(t, first, second, entry)
 		wantNoOrphans(t, second)
+	}
+}
+
+func insertBesideDrop(t *testing.T, first, second platform.Store, entry platform.Entry) {
+	t.Helper()
+	gate, inserted, dropped := NewGate(), make(chan error, 1), make(chan error, 1)
+	defer gate.Open()
+	go func() {
+		inserted <- first.Insert(background, entry, func(platform.Held) error {
+			gate.Pass()
+			return nil
+		})
+	}()
+	gate.Await(t, inserted)
+	go func() { dropped <- second.DropBroker(background, entry.Broker) }()
+	select {
+	case err := <-dropped:
+		dropped <- err // it didn't wait
+	case <-time.After(soon):
+	}
+	gate.Open()
+	if err := <-inserted; err != nil {
+		t.Errorf("Insert of %v: %v", entry.Key, err)
+	}
+	if err := <-dropped; !errors.Is(err, platform.ErrUsed) {
+		t.Errorf("the broker of %v was dropped: %v", entry.Key, err)
 	}
 }
 

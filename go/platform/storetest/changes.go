@@ -162,46 +162,43 @@ func testExclusion(t *testing.T, open opener) {
 }
 
 func exclude(t *testing.T, first, second platform.Store, one, other platform.Key, isInserted bool) {
-	entered, release, overlapped := make(chan struct{}), make(chan struct{}), make(chan struct{})
-	var all sync.WaitGroup
-	all.Add(2)
-	var onceEntered, onceOverlapped sync.Once
+	gate, done, late := NewGate(), make(chan error, 1), make(chan error, 1)
+	defer gate.Open()
 	go func() {
-		defer all.Done()
-		err := first.Change(background, one, func(_ time.Time, held platform.Held) (*platform.Change, error) {
-			onceEntered.Do(func() { close(entered) })
-			<-release
+		done <- first.Change(background, one, func(_ time.Time, held platform.Held) (*platform.Change, error) {
+			gate.Pass()
 			held.Entry.Because = "by the first"
 			return &platform.Change{Entry: held.Entry}, nil
 		})
-		if err != nil {
-			t.Errorf("the first: %v", err)
-		}
 	}()
-	<-entered
+	gate.Await(t, done)
+	overlapped := make(chan struct{})
+	var once sync.Once
 	seen := func(held platform.Held) error {
-		onceOverlapped.Do(func() { close(overlapped) })
+		once.Do(func() { close(overlapped) })
 		return seesFirst(one, other, held)
 	}
 	go func() {
-		defer all.Done()
-		err := second.Change(background, other, func(_ time.Time, held platform.Held) (*platform.Change, error) {
+		if isInserted {
+			late <- second.Insert(background, order(other), seen)
+			return
+		}
+		late <- second.Change(background, other, func(_ time.Time, held platform.Held) (*platform.Change, error) {
 			return nil, seen(held)
 		})
-		if isInserted {
-			err = second.Insert(background, order(other), seen)
-		}
-		if err != nil {
-			t.Errorf("the second: %v", err)
-		}
 	}()
 	select {
 	case <-overlapped:
 		t.Error("both ran at once")
 	case <-time.After(soon):
 	}
-	close(release)
-	all.Wait()
+	gate.Open()
+	if err := <-done; err != nil {
+		t.Errorf("the first: %v", err)
+	}
+	if err := <-late; err != nil {
+		t.Errorf("the second: %v", err)
+	}
 }
 
 // seesFirst fails unless the second transaction sees what the first has written.

@@ -251,6 +251,13 @@ func testClaimsAtOnce(t *testing.T, open opener) {
 	var all sync.WaitGroup
 	var turn sync.Mutex
 	taken := map[platform.Key]int{}
+	take := func(claimed []platform.Claimed) {
+		turn.Lock()
+		defer turn.Unlock()
+		for _, it := range claimed {
+			taken[it.Key]++
+		}
+	}
 	for n := 0; n < 8; n++ {
 		all.Add(1)
 		go func(store platform.Store, worker string) {
@@ -260,18 +267,18 @@ func testClaimsAtOnce(t *testing.T, open opener) {
 				if err != nil {
 					t.Errorf("Claim: %v", err)
 				}
-				if len(claimed) == 0 {
+				take(claimed)
+				if len(claimed) == 0 { // others have locked what is left
 					return
 				}
-				turn.Lock()
-				for _, it := range claimed {
-					taken[it.Key]++
-				}
-				turn.Unlock()
 			}
 		}(stores[n%2], fmt.Sprint("worker ", n))
 	}
 	all.Wait()
+	// Two claims that have each locked a row of the other return nothing. So some rows may be left.
+	claimed, err := stores[0].Claim(background, brokers, 2*rows, leaseFor("the last"))
+	must(t, err)
+	take(claimed)
 	if len(taken) != 2*rows {
 		t.Errorf("%d rows of %d were claimed", len(taken), 2*rows)
 	}
@@ -294,35 +301,33 @@ func leaseFor(worker string) platform.Step {
 func testClaimPassesOver(t *testing.T, open opener) {
 	first, second := opened(t, open), opened(t, open)
 	insert(t, first, due(order(instance(1)), past(1)), due(order(instance(2)), past(2)))
-	entered, release := make(chan struct{}), make(chan struct{})
-	var all sync.WaitGroup
-	all.Add(2)
-	var once sync.Once
+	gate, done, late := NewGate(), make(chan error, 1), make(chan error, 1)
+	defer gate.Open()
 	go func() {
-		defer all.Done()
-		err := first.Change(background, instance(1), func(_ time.Time, held platform.Held) (*platform.Change, error) {
-			once.Do(func() { close(entered) })
-			<-release
+		done <- first.Change(background, instance(1), func(_ time.Time, held platform.Held) (*platform.Change, error) {
+			gate.Pass()
 			return &platform.Change{Entry: due(held.Entry, future(0))}, nil
 		})
-		if err != nil {
-			t.Errorf("Change: %v", err)
-		}
 	}()
-	<-entered
-	claimed := make(chan []platform.Key, 1)
+	gate.Await(t, done)
+	var claimed []platform.Claimed
 	go func() {
-		defer all.Done()
-		claimed <- claim(t, second, brokers, 10, future(0))
+		found, err := second.Claim(background, brokers, 10, leaseFor("a worker"))
+		claimed = found
+		late <- err
 	}()
 	select {
-	case keys := <-claimed:
-		claimed <- keys
+	case err := <-late:
+		late <- err
 	case <-time.After(soon):
 	}
-	close(release)
-	all.Wait()
-	wantClaimed(t, "beside a transaction", <-claimed, instance(2))
+	gate.Open()
+	if err := <-done; err != nil {
+		t.Errorf("Change: %v", err)
+	}
+	if err := <-late; err != nil || len(claimed) != 1 || claimed[0] != (platform.Claimed{Key: instance(2)}) {
+		t.Errorf("beside a transaction: claimed %v, %v", claimed, err)
+	}
 	if got := read(t, first, instance(1)); !got.Due.Equal(future(0)) || got.Lease != (platform.Lease{}) {
 		t.Errorf("the row of the transaction is %+v", got)
 	}

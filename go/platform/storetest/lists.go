@@ -111,6 +111,20 @@ func wantList(
 	}
 	wantKeys(t, fmt.Sprintf("%+v", filter), got, want...)
 	inPages(t, store, filter, want)
+	filter.Latest = true
+	got, err = store.List(background, filter)
+	if err != nil {
+		t.Errorf("%+v: %v", filter, err)
+	}
+	wantKeys(t, fmt.Sprintf("%+v", filter), got, backwards(want)...)
+	inPages(t, store, filter, backwards(want))
+}
+
+func backwards(keys []platform.Key) (found []platform.Key) {
+	for at := range keys {
+		found = append(found, keys[len(keys)-1-at])
+	}
+	return found
 }
 
 // inPages reads a list in pages of three, each behind the last row of the one before.
@@ -167,6 +181,13 @@ func testPages(t *testing.T, open opener) {
 		rows, err := store.List(background, platform.Filter{After: &place})
 		must(t, err)
 		wantKeys(t, fmt.Sprintf("after %+v", place), rows, keys[want:]...)
+		before := want // the row at a place isn't behind it in either order
+		if want > 0 && keys[want-1] == place.Key {
+			before--
+		}
+		rows, err = store.List(background, platform.Filter{After: &place, Latest: true})
+		must(t, err)
+		wantKeys(t, fmt.Sprintf("before %+v", place), rows, backwards(keys[:before])...)
 	}
 }
 

@@ -4,7 +4,6 @@ import (
 	"context"
 	"encoding/json"
 	"errors"
-	"sync"
 	"testing"
 	"time"
 	"unicode/utf8"
@@ -289,18 +288,16 @@ func testReady(t *testing.T, open opener) {
 func testClose(t *testing.T, open opener) {
 	store, other := open(t), opened(t, open)
 	insert(t, store, order(instance(1)), order(instance(2)))
-	entered, release, closed := make(chan struct{}), make(chan struct{}), make(chan error, 1)
-	changed := make(chan error, 1)
+	gate, closed, changed := NewGate(), make(chan error, 1), make(chan error, 1)
+	defer gate.Open()
 	written := in(t, instance(1), platform.Ready)
-	var once sync.Once
 	go func() {
 		changed <- store.Change(background, instance(1), func(time.Time, platform.Held) (*platform.Change, error) {
-			once.Do(func() { close(entered) })
-			<-release
+			gate.Pass()
 			return &platform.Change{Entry: written}, nil
 		})
 	}()
-	<-entered
+	gate.Await(t, changed)
 	go func() { closed <- store.Close() }()
 	select {
 	case err := <-closed:
@@ -308,7 +305,7 @@ func testClose(t *testing.T, open opener) {
 		closed <- err
 	case <-time.After(soon):
 	}
-	close(release)
+	gate.Open()
 	if err := <-changed; err != nil {
 		t.Errorf("the Change: %v", err)
 	}
@@ -340,6 +337,60 @@ func testFingerprint(t *testing.T, open opener) {
 			t.Errorf("%q: %q, %v", it.given, got, err)
 		}
 	}
+}
+
+// A fingerprint is replaced by whoever knows the one that is written. Before the first one there is none to replace.
+func testReplaceFingerprint(t *testing.T, open opener) {
+	first, second := opened(t, open), opened(t, open)
+	for _, before := range []string{"a print", ""} {
+		if err := first.ReplaceFingerprint(background, before, "another"); !errors.Is(err, platform.ErrUnknown) {
+			t.Errorf("%q was replaced before there was any: %v", before, err)
+		}
+	}
+	if got, err := first.Fingerprint(background, "a print"); err != nil || got != "a print" {
+		t.Errorf("%q, %v", got, err)
+	}
+	must(t, second.ReplaceFingerprint(background, "a print", "another"))
+	if err := first.ReplaceFingerprint(background, "a print", "a third"); !errors.Is(err, platform.ErrUnknown) {
+		t.Errorf("a fingerprint was replaced that isn't written: %v", err)
+	}
+	if got, err := first.Fingerprint(background, "a print"); err != nil || got != "another" {
+		t.Errorf("%q, %v", got, err)
+	}
+}
+
+// Whether there are workers is known to every process.
+func testHasWorkers(t *testing.T, open opener) {
+	first, second := opened(t, open), opened(t, open)
+	want := func(want bool, when string) {
+		t.Helper()
+		for _, store := range []platform.Store{first, second} {
+			got, err := store.HasWorkers(background)
+			// Other tests may have workers in the same database meanwhile.
+			for late := time.Now().Add(deadline); !want && got && err == nil && time.Now().Before(late); {
+				time.Sleep(soon)
+				got, err = store.HasWorkers(background)
+			}
+			if err != nil || got != want {
+				t.Errorf("%s: %v, %v", when, got, err)
+			}
+		}
+	}
+	want(false, "without a worker")
+	var ends []func()
+	for _, it := range []string{NameOf(t) + "one", NameOf(t) + "two"} {
+		end, _, err := first.Only(background, it)
+		must(t, err)
+		if end == nil {
+			t.Fatal("another worker has the name ", it)
+		}
+		ends = append(ends, end)
+		want(true, "with "+it)
+	}
+	ends[0]()
+	want(true, "with the second worker")
+	ends[1]()
+	want(false, "after the last worker")
 }
 
 func testBrokers(t *testing.T, open opener) {

@@ -57,6 +57,8 @@ func Test(t *testing.T, open func(t *testing.T) platform.Store) {
 		{"a change of a broker that fails", testFailingBroker},
 		{"no change of a broker is lost", testBrokerCounter},
 		{"the fingerprint", testFingerprint},
+		{"another fingerprint", testReplaceFingerprint},
+		{"whether there are workers", testHasWorkers},
 		{"cancelled calls", testCancelled},
 		{"ready", testReady},
 		{"closing", testClose},

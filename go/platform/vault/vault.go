@@ -41,11 +41,11 @@ var (
 	// ErrShortKey reports a key of less than ShortestKey bytes.
 	ErrShortKey = fmt.Errorf("the key is shorter than %d bytes", ShortestKey)
 	// ErrMalformed reports that a text was never sealed by a Vault: it is too short, or has another version.
-	ErrMalformed = errors.New("it isn't sealed in a form that this version knows")
+	ErrMalformed = errors.New("it isn't encrypted in a form that this version knows")
 	// ErrOtherKey reports that a text was sealed with a key that the Vault doesn't have.
-	ErrOtherKey = errors.New("it was sealed with a key that isn't given")
-	// ErrChanged reports that a text has been changed since it was sealed, or was sealed under another context.
-	ErrChanged = errors.New("it has been changed since it was sealed, or belongs elsewhere")
+	ErrOtherKey = errors.New("it was encrypted with a key that isn't given")
+	// ErrChanged reports that a text has been changed since it was encrypted, or was sealed under another context.
+	ErrChanged = errors.New("it has been changed since it was encrypted, or belongs elsewhere")
 )
 
 // A Vault seals and opens secrets. Any number of goroutines use it. It is a platform.Vault.

@@ -71,7 +71,7 @@ const (
 	fine     = `{"status":"ok"}`
 	notReady = `{"description":"The store can't be used now. The log has the reason: not_ready.",` +
 		`"error":"ServiceUnavailable"}`
-	stopping = `{"description":"The broker is being stopped.","error":"ServiceUnavailable"}`
+	stopping = `{"description":"The program is being stopped.","error":"ServiceUnavailable"}`
 	notGet   = `{"description":"The path takes GET and HEAD.","error":"MethodNotAllowed"}`
 )
 

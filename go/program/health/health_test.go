@@ -5,6 +5,7 @@ import (
 	"errors"
 	"net/http"
 	"net/http/httptest"
+	"strings"
 	"sync"
 	"testing"
 	"time"
@@ -67,6 +68,17 @@ func TestAnswers(t *testing.T) {
 				t.Errorf("Allow is %q", answer.Header().Get("Allow"))
 			}
 		})
+	}
+}
+
+// The answers don't say which program it is.
+func TestAnswersFitEachProgram(t *testing.T) {
+	for _, it := range []string{fine, notReady, stopping, notGet} {
+		for _, word := range []string{"broker", "platform", "worker"} {
+			if strings.Contains(it, word) {
+				t.Errorf("%s is of a %s", it, word)
+			}
+		}
 	}
 }
 

@@ -29,8 +29,9 @@ type Options struct {
 //	osb_broker_request_seconds{route}         durations of requests, a histogram
 //	osb_broker_failures_total{event}          failures, as the log has them. A retry of unfinished work that fails for the
 //	                                          same reason isn't counted again
-//	osb_broker_backend_errors_total{call}     failed calls of the backend, also of retries: look, create, delete,
-//	                                          look-binding, create-binding, delete-binding, credentials or sync
+//	osb_broker_backend_errors_total{call}     failed calls of the backend and of the locks, also of retries: look, create,
+//	                                          delete, look-binding, create-binding, delete-binding, credentials, sync
+//	                                          or lock
 //	osb_broker_commit_changes                 changes that were committed together, a histogram
 //	osb_broker_operations_total{result}       ended asynchronous operations, and ended pending work that a dead worker
 //	                                          had left: succeeded or failed
@@ -61,7 +62,7 @@ func New(options Options) *Metrics {
 		registry:   prometheus.NewRegistry(),
 		requests:   counter("requests_total", "Answered requests.", "route", "status"),
 		failures:   counter("failures_total", "Failures, by their event in the log.", "event"),
-		calls:      counter("backend_errors_total", "Failed calls of the backend.", "call"),
+		calls:      counter("backend_errors_total", "Failed calls of the backend and of its locks.", "call"),
 		operations: counter("operations_total", "Ended asynchronous operations, and work that was taken up.", "result"),
 		durations: prometheus.NewHistogramVec(prometheus.HistogramOpts{
 			Name: prefix + "request_seconds", Help: "Durations of requests, in seconds.",
@@ -119,7 +120,7 @@ func (m *Metrics) Failed(failure broker.Failure) {
 	m.failures.WithLabelValues(m.events.name(failure.Event)).Inc()
 }
 
-// CallFailed counts a call of the backend that has failed. A call that broker.Observer doesn't name counts as other.
+// CallFailed counts a call of the backend or of the locks that has failed. A call that broker.Observer doesn't name counts as other.
 func (m *Metrics) CallFailed(call string) { m.calls.WithLabelValues(callOf(call)).Inc() }
 
 // Committed counts a commit.
@@ -146,7 +147,7 @@ func routeOf(route string) string {
 
 func callOf(call string) string {
 	switch call {
-	case "look", "create", "delete", "look-binding", "create-binding", "delete-binding", "credentials", "sync":
+	case "look", "create", "delete", "look-binding", "create-binding", "delete-binding", "credentials", "sync", "lock":
 		return call
 	}
 	return other

@@ -57,7 +57,7 @@ func TestEventsAreCounted(t *testing.T) {
 	}
 	metrics.Failed(broker.Failure{Event: "store_failed", Err: errors.New("why")})
 	metrics.Failed(broker.Failure{Event: "store_failed"})
-	for _, call := range []string{"look", "sync", "look", "made-up"} {
+	for _, call := range []string{"look", "sync", "look", "lock", "made-up"} {
 		metrics.CallFailed(call)
 	}
 	metrics.Committed(1)
@@ -76,6 +76,7 @@ func TestEventsAreCounted(t *testing.T) {
 		`osb_broker_failures_total{event="store_failed"}`:              "2",
 		`osb_broker_backend_errors_total{call="look"}`:                 "2",
 		`osb_broker_backend_errors_total{call="sync"}`:                 "1",
+		`osb_broker_backend_errors_total{call="lock"}`:                 "1",
 		`osb_broker_backend_errors_total{call="other"}`:                "1",
 		`osb_broker_commit_changes_count`:                              "2",
 		`osb_broker_commit_changes_bucket{le="4"}`:                     "1",

@@ -5,6 +5,7 @@ import (
 	"io"
 	"os"
 	"strings"
+	"syscall"
 )
 
 // longest is how many bytes a file may have.
@@ -25,8 +26,10 @@ func read(name string) (lines []string, warning string, err error) {
 	return lines, warning, nil
 }
 
+// contents returns the text of a regular file. Nothing else is opened for long: a pipe that nobody writes to would be
+// waited for forever.
 func contents(name string) (text, warning string, err error) {
-	file, err := os.Open(name)
+	file, err := os.OpenFile(name, os.O_RDONLY|syscall.O_NONBLOCK, 0)
 	if err != nil {
 		return "", "", err
 	}
@@ -35,7 +38,11 @@ func contents(name string) (text, warning string, err error) {
 	if err != nil {
 		return "", "", err
 	}
-	if mode := about.Mode(); mode.IsRegular() && mode.Perm()&^0o600 != 0 {
+	mode := about.Mode()
+	if !mode.IsRegular() {
+		return "", "", fmt.Errorf("%s isn't a regular file", name)
+	}
+	if mode.Perm()&^0o600 != 0 {
 		warning = fmt.Sprintf("%s has the mode %04o. Run: chmod 600 %s", name, mode.Perm(), name)
 	}
 	bytes, err := io.ReadAll(io.LimitReader(file, longest+1))

@@ -1,7 +1,6 @@
 package server
 
 import (
-	"context"
 	"crypto/tls"
 	"crypto/x509"
 	"errors"
@@ -52,19 +51,6 @@ func (c *Certificates) Reload() error {
 	}
 	c.current.Store(read)
 	return nil
-}
-
-// ReloadAt calls Reload for each signal that comes from the channel, such as SIGHUP, and then done with the result of
-// Reload. It returns when ctx is done.
-func (c *Certificates) ReloadAt(ctx context.Context, signals <-chan os.Signal, done func(error)) {
-	for {
-		select {
-		case <-signals:
-			done(c.Reload())
-		case <-ctx.Done():
-			return
-		}
-	}
 }
 
 // Expires returns when the certificate of the server expires.

@@ -15,8 +15,6 @@ import (
 	"syscall"
 	"time"
 
-	"golang.org/x/sys/unix"
-
 	"pippinterm/broker"
 )
 
@@ -69,6 +67,9 @@ type Listener struct {
 	silent   map[*conn]struct{} // the connections on which nothing of a request has come
 }
 
+// reusePort is SO_REUSEPORT of Linux, which package syscall doesn't have on each machine.
+const reusePort = 0xf
+
 // Listen listens at an address HOST:PORT. If ctx is done, the look-up of the host ends.
 //
 // Errors: those of net.ListenConfig.Listen, such as an address that is in use.
@@ -94,7 +95,7 @@ func Listen(ctx context.Context, address string, options Options) (*Listener, er
 func share(_, _ string, raw syscall.RawConn) error {
 	var failed error
 	err := raw.Control(func(fd uintptr) {
-		failed = unix.SetsockoptInt(int(fd), unix.SOL_SOCKET, unix.SO_REUSEPORT, 1)
+		failed = syscall.SetsockoptInt(int(fd), syscall.SOL_SOCKET, reusePort, 1)
 	})
 	if err != nil {
 		return err

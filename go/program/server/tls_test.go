@@ -1,14 +1,12 @@
 package server
 
 import (
-	"context"
 	"crypto/tls"
 	"fmt"
 	"net/http"
 	"os"
 	"reflect"
 	"strings"
-	"syscall"
 	"testing"
 	"time"
 )
@@ -172,39 +170,27 @@ func TestReload(t *testing.T) {
 		return state.PeerCertificates[0].SerialNumber.String() + state.PeerCertificates[0].NotBefore.String() +
 			fmt.Sprintf("%x", state.PeerCertificates[0].Signature)
 	}
-	signals, results := make(chan os.Signal), make(chan error)
-	ctx, cancel := context.WithCancel(context.Background())
-	ended := make(chan struct{})
-	go func() {
-		defer close(ended)
-		certificates.ReloadAt(ctx, signals, func(err error) { results <- err })
-	}()
-
 	first := shown()
 	authority.issue("server") // in the same files
 	if got := shown(); got != first {
-		t.Error("another certificate is shown before the signal")
+		t.Error("another certificate is shown before it is read")
 	}
-	signals <- syscall.SIGHUP
-	if err := <-results; err != nil {
+	if err := certificates.Reload(); err != nil {
 		t.Fatal(err)
 	}
 	second := shown()
 	if second == first {
-		t.Error("the same certificate is shown after the signal")
+		t.Error("the same certificate is shown after it was read")
 	}
 	if err := os.WriteFile(files.Key, []byte("no key"), 0o600); err != nil {
 		t.Fatal(err)
 	}
-	signals <- syscall.SIGHUP
-	if err := <-results; err == nil || !strings.Contains(err.Error(), files.Key) {
+	if err := certificates.Reload(); err == nil || !strings.Contains(err.Error(), files.Key) {
 		t.Errorf("a key that is none gives %v", err)
 	}
 	if got := shown(); got != second {
 		t.Error("another certificate is shown after the broken key")
 	}
-	cancel()
-	<-ended
 }
 
 func TestCertificatesThatCantBeUsed(t *testing.T) {

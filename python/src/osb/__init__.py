@@ -1,11 +1,10 @@
-"""The proved library libosb for Python: values, wire, tables and texts under the Open Service Broker API 2.17, and for
-now the client of a platform. A broker whose resources are created in Python is a command backend of osb-broker
-(docs/broker-guide.md).
+"""The proved library libosb for Python: values, wire, tables and texts under the Open Service Broker API 2.17. A broker
+whose resources are created in Python is a command backend of osb-broker (docs/broker-guide.md), and a platform is
+osb-platform, with an API over HTTP (docs/platform-guide.md).
 
 - `Record` and `Holding`: one instance as a value, as a platform and as a broker keep it in a database, with its text.
 - `osb.wire`: requests and answers as HTTP and JSON have them. `osb.binding_wire`: those of bindings.
 - `osb.tables`: the platform's tables.
-- `osb.client.Client`: a platform over HTTP. `osb.records`: where it keeps its records.
 
 The environment variable LIBOSB names the library's file. If it isn't set, libosb.so.0 is loaded, as the system finds
 it. If the library doesn't do what a call asks, the call raises `OsbError`. docs/python.md has a first program.

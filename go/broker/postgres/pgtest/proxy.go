@@ -11,10 +11,13 @@ import (
 )
 
 // A Proxy stands between a client and the server. Once it has forwarded a message that Cut names, it closes the
-// client's connection: the server gets the message, and the client no answer.
+// client's connection: the server gets the message, and the client no answer. While it hangs, it forwards no message to
+// the server.
 type Proxy struct {
 	turn     sync.Mutex
 	cut      []byte
+	hangs    bool
+	resumes  *sync.Cond
 	listener net.Listener
 	server   string
 	running  sync.WaitGroup
@@ -32,9 +35,11 @@ func NewProxy(t *testing.T, address string) (*Proxy, string) {
 		t.Fatal(err)
 	}
 	p := &Proxy{listener: listener, server: net.JoinHostPort(host, port)}
+	p.resumes = sync.NewCond(&p.turn)
 	p.running.Add(1)
 	go p.accept()
 	t.Cleanup(func() {
+		p.Hang(false)
 		_ = listener.Close()
 		p.running.Wait()
 	})
@@ -48,6 +53,23 @@ func (p *Proxy) Cut(at string) {
 	p.turn.Lock()
 	defer p.turn.Unlock()
 	p.cut = []byte(at)
+}
+
+// Hang has the proxy hang, or forward again what it was sent meanwhile.
+func (p *Proxy) Hang(is bool) {
+	p.turn.Lock()
+	defer p.turn.Unlock()
+	p.hangs = is
+	p.resumes.Broadcast()
+}
+
+// wait waits while the proxy hangs.
+func (p *Proxy) wait() {
+	p.turn.Lock()
+	defer p.turn.Unlock()
+	for p.hangs {
+		p.resumes.Wait()
+	}
 }
 
 func (p *Proxy) isCut(message []byte) bool {
@@ -89,6 +111,7 @@ func (p *Proxy) requests(client, server net.Conn) {
 		if err != nil {
 			return
 		}
+		p.wait()
 		isCut := p.isCut(buffer[:count])
 		if isCut {
 			_ = client.Close() // before the message is forwarded: the answer can't be faster

@@ -14,6 +14,7 @@ import (
 // Codes of errors of the server (PostgreSQL's documentation, appendix "PostgreSQL Error Codes").
 const (
 	InvalidParameterValue = "22023"
+	ReadOnlyTransaction   = "25006" // among others: the server is a standby
 	InvalidAuthorization  = "28000"
 	InvalidPassword       = "28P01"
 	InvalidCatalogName    = "3D000" // the name of a database
@@ -28,6 +29,13 @@ const (
 	LockNotAvailable      = "55P03"
 	QueryCanceled         = "57014"
 	InternalError         = "XX000" // among others: two sessions have changed a row of a catalogue at once
+)
+
+// Classes of errors of the server, by the first two characters of the code.
+const (
+	classConnection   = "08"
+	classResources    = "53"
+	classIntervention = "57" // an administrator, a limit of time, or a server that starts or stops
 )
 
 var (
@@ -63,6 +71,21 @@ func IsLost(err error) bool {
 	var failed *net.OpError
 	return errors.Is(err, driver.ErrBadConn) || errors.Is(err, io.EOF) || errors.Is(err, io.ErrUnexpectedEOF) ||
 		errors.As(err, &failed)
+}
+
+// IsAway returns whether an error says that the server can't be used now, and may be back soon: the connection failed,
+// or the server starts, stops, is a standby, has no connection, memory or disk space left, or didn't carry a statement
+// out in time.
+func IsAway(err error) bool {
+	var failed *pq.Error
+	if errors.As(err, &failed) {
+		switch failed.Code.Class() {
+		case classConnection, classResources, classIntervention:
+			return true
+		}
+		return IsCode(err, ReadOnlyTransaction, LockNotAvailable)
+	}
+	return IsLost(err) || errors.Is(err, ErrNotBegun) || errors.Is(err, ErrUnknownCommit) || errors.Is(err, ErrNoAnswer)
 }
 
 // Lasting returns an error with the text of err, for which Remedy returns that it lasts. Use it for what a database or

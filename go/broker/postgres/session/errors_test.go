@@ -61,3 +61,38 @@ func TestRemedy(t *testing.T) {
 		t.Error("an error of nil")
 	}
 }
+
+func TestIsAway(t *testing.T) {
+	for name, test := range map[string]struct {
+		err    error
+		isAway bool
+	}{
+		"starting":                       {&pq.Error{Code: "57P03"}, true},
+		"stopped by its administrator":   {&pq.Error{Code: "57P01"}, true},
+		"a statement that took too long": {&pq.Error{Code: "57014"}, true},
+		"a lock that nobody gives back":  {&pq.Error{Code: "55P03"}, true},
+		"too many connections":           {&pq.Error{Code: "53300"}, true},
+		"a full disk":                    {&pq.Error{Code: "53100"}, true},
+		"a standby":                      {&pq.Error{Code: "25006"}, true},
+		"a failed connection":            {&pq.Error{Code: "08006"}, true},
+		"connection refused":             {&net.OpError{Op: "dial", Err: os.ErrPermission}, true},
+		"a lost connection":              {driver.ErrBadConn, true},
+		"an answer that ends":            {io.ErrUnexpectedEOF, true},
+		"a transaction not begun":        {session.ErrNotBegun, true},
+		"a commit of which nobody knows": {session.ErrUnknownCommit, true},
+		"a wrong password":               {&pq.Error{Code: "28P01"}, false},
+		"a right that is missing":        {&pq.Error{Code: "42501"}, false},
+		"a conflict":                     {&pq.Error{Code: "40001"}, false},
+		"a bad statement":                {&pq.Error{Code: "42601"}, false},
+		"any other":                      {errors.New("no memory"), false},
+		"none":                           {nil, false},
+	} {
+		err := test.err
+		if err != nil {
+			err = fmt.Errorf("the store: %w", err)
+		}
+		if is := session.IsAway(err); is != test.isAway {
+			t.Errorf("%s: away %v", name, is)
+		}
+	}
+}

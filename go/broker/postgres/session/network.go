@@ -3,7 +3,10 @@ package session
 import (
 	"context"
 	"net"
+	"os"
+	"strings"
 	"sync/atomic"
+	"syscall"
 	"time"
 )
 
@@ -31,7 +34,41 @@ func (d dialer) DialContext(ctx context.Context, network, address string) (net.C
 	if err != nil {
 		return nil, err
 	}
-	return &limited{Conn: conn, limit: d.limit}, nil
+	made := &limited{Conn: conn, limit: d.limit}
+	if until, ok := ctx.Value(untilKey{}).(time.Time); ok {
+		made.last = until
+	}
+	if dialed, ok := ctx.Value(dialedKey{}).(**limited); ok {
+		*dialed = made
+	}
+	return made, nil
+}
+
+// dialedKey is the key of where DialContext writes the connection to.
+type dialedKey struct{}
+
+// Of a connection over which packets get lost, or whose server has lost its power:
+const (
+	keepAlive   = 10 * time.Second // so often an idle connection is probed
+	userTimeout = 30 * time.Second // so long what was sent may stay unconfirmed before the connection has failed
+)
+
+// newDialer returns a dialer whose connections fail once the server's machine doesn't answer any more.
+func newDialer(limit time.Duration) dialer {
+	return dialer{limit: limit, Dialer: net.Dialer{KeepAlive: keepAlive, Control: control}}
+}
+
+// control sets TCP_USER_TIMEOUT of a socket of TCP.
+func control(network, _ string, raw syscall.RawConn) (err error) {
+	if !strings.HasPrefix(network, "tcp") {
+		return nil
+	}
+	const tcpUserTimeout = 18 // of Linux, which package syscall doesn't have
+	failed := raw.Control(func(descriptor uintptr) {
+		err = os.NewSyscallError("setsockopt", syscall.SetsockoptInt(
+			int(descriptor), syscall.IPPROTO_TCP, tcpUserTimeout, int(userTimeout.Milliseconds())))
+	})
+	return either(failed, err)
 }
 
 // A limited connection waits for each answer at most this long. So no wait for a silent server or network lasts
@@ -39,11 +76,27 @@ func (d dialer) DialContext(ctx context.Context, network, address string) (net.C
 type limited struct {
 	net.Conn
 	limit     time.Duration
-	isBounded int32 // 1 while somebody else has set a deadline
+	last      time.Time // of the first deadline, or zero: lib/pq sets one for connecting, which a context can't shorten
+	isBounded int32     // 1 while somebody else has set a deadline
+}
+
+// until reads until the time of a context of Within, and with the limit again once the function that it returns is
+// called.
+func (l *limited) until(ctx context.Context) (end func()) {
+	until, ok := ctx.Value(untilKey{}).(time.Time)
+	if !ok {
+		return func() {}
+	}
+	_ = l.SetDeadline(until.Add(late)) // if the connection is closed, the call fails by itself
+	return func() { _ = l.SetDeadline(time.Time{}) }
 }
 
 // SetDeadline sets a deadline in place of the limit, or with the zero time the limit again.
 func (l *limited) SetDeadline(until time.Time) error {
+	if !l.last.IsZero() && until.After(l.last) {
+		until = l.last
+	}
+	l.last = time.Time{}
 	var isBounded int32
 	if !until.IsZero() {
 		isBounded = 1

@@ -31,7 +31,7 @@ type Options struct {
 }
 
 // patience is how long the server's answer may take beyond the limits that the server has itself.
-const patience = 30 * time.Second
+const patience = 10 * time.Second
 
 // Open returns connections to the server of a URL, postgresql://user@host:port/database?parameters. What the URL
 // doesn't say is found as other clients of PostgreSQL find it: in PGPASSWORD, in the file that PGPASSFILE names, and so
@@ -52,7 +52,7 @@ func Open(address string, options Options) (*sql.DB, error) {
 	if err != nil {
 		return nil, err
 	}
-	made.Dialer(dialer{limit: options.Statement + patience})
+	made.Dialer(newDialer(options.Statement + patience))
 	db := sql.OpenDB(connector{made})
 	db.SetMaxOpenConns(options.Most)
 	db.SetMaxIdleConns(options.Most)
@@ -111,6 +111,25 @@ func replace(parsed *url.URL, asked url.Values, options Options) url.Values {
 	return asked
 }
 
+// goodbye is how long Close waits for the server.
+const goodbye = 2 * time.Second
+
+// Close closes connections that nobody uses any more, and returns the error of the last one that has failed. Each
+// connection asks the server to close its prepared statements, one connection after another. If the server doesn't
+// answer, Close returns 2 seconds later without an error, and the connections are closed once their limits are over.
+func Close(db *sql.DB) error {
+	closed := make(chan error, 1)
+	go func() { closed <- db.Close() }()
+	timer := time.NewTimer(goodbye)
+	defer timer.Stop()
+	select {
+	case err := <-closed:
+		return err
+	case <-timer.C:
+		return nil
+	}
+}
+
 func milliseconds(duration time.Duration) string {
 	return strconv.FormatInt(duration.Milliseconds(), 10)
 }
@@ -135,13 +154,22 @@ type connector struct{ *pq.Connector }
 
 // Connect opens a connection.
 func (c connector) Connect(ctx context.Context) (driver.Conn, error) {
-	conn, err := c.Connector.Connect(ctx)
+	var network *limited
+	made, err := c.Connector.Connect(context.WithValue(ctx, dialedKey{}, &network))
 	if err != nil {
 		return nil, err
 	}
-	if err := keepDurable(ctx, conn); err != nil {
+	known, ok := made.(pqConn)
+	if !ok || network == nil {
+		_ = made.Close()
+		return nil, fmt.Errorf("%T can't be used", made)
+	}
+	conn := &connection{known, network}
+	within, cancel := Within(ctx, Answer)
+	defer cancel()
+	if err := keepDurable(within, conn); err != nil {
 		_ = conn.Close()
-		return nil, err
+		return nil, Unanswered(ctx, err)
 	}
 	return conn, nil
 }
@@ -150,12 +178,8 @@ func (c connector) Connect(ctx context.Context) (driver.Conn, error) {
 // changes it.
 const pin = "SELECT set_config('synchronous_commit', current_setting('synchronous_commit'), false), current_user"
 
-func keepDurable(ctx context.Context, conn driver.Conn) error {
-	asking, ok := conn.(driver.QueryerContext)
-	if !ok {
-		return fmt.Errorf("%T can't be asked", conn)
-	}
-	rows, err := asking.QueryContext(ctx, pin, nil)
+func keepDurable(ctx context.Context, conn *connection) error {
+	rows, err := conn.QueryContext(ctx, pin, nil)
 	if err != nil {
 		return err
 	}

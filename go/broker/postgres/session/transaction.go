@@ -7,6 +7,7 @@ import (
 	"errors"
 	"fmt"
 	"runtime/debug"
+	"time"
 
 	"github.com/lib/pq"
 )
@@ -35,7 +36,7 @@ func Transaction(ctx context.Context, conn *sql.Conn, work func(*sql.Tx) (isToCo
 		Discard(conn)
 		return fmt.Errorf("%w: %v", ErrNotBegun, err)
 	}
-	tx, err := conn.BeginTx(context.Background(), &sql.TxOptions{Isolation: sql.LevelReadCommitted})
+	tx, err := conn.BeginTx(uncancelled(time.Now().Add(Answer)), &sql.TxOptions{Isolation: sql.LevelReadCommitted})
 	if err != nil {
 		Discard(conn)
 		return fmt.Errorf("%w: %v", ErrNotBegun, err)
@@ -81,11 +82,11 @@ const successful = "00000"
 func watch(conn *sql.Conn) (*error, error) {
 	var warned error
 	err := conn.Raw(func(of any) error {
-		on, ok := of.(driver.Conn)
+		on, ok := of.(*connection)
 		if !ok {
-			return fmt.Errorf("%T isn't a connection", of)
+			return fmt.Errorf("%T isn't a connection of Open", of)
 		}
-		pq.SetNoticeHandler(on, func(notice *pq.Error) {
+		pq.SetNoticeHandler(on.pqConn, func(notice *pq.Error) {
 			if notice.Code != successful { // the severity is in the server's language
 				warned = notice
 			}

@@ -1,0 +1,271 @@
+"""The commands of the platform's guide, run as they stand there, but for ports; and what the guide lists."""
+from __future__ import annotations
+
+import json
+import re
+from pathlib import Path
+
+import pytest
+from docs.guides import PLATFORM, healthy, moved
+from docs.pages import TOP, block, covers, packages, read
+from docs.programs import commands_of, help_of, options_of
+from docs.workdir import Workdir, needs, wait_for
+
+BROKER = "OSB_BROKER_PASSWORD=secret ./osb-broker serve --state build/broker\n"
+KEY = "state=${XDG_STATE_HOME:-$HOME/.local/state}/osb-platform\n"
+ADD = "OSB_PLATFORM_PASSWORD=secret ./osb-platform broker add local "
+RUN = "./osb-platform run\n"
+LIFE = "./osb-platform create --id web-db "
+SET = "OSB_PLATFORM_PASSWORD=secret ./osb-platform broker set local "
+
+pytestmark = [pytest.mark.slow, pytest.mark.usefixtures("broker", "platform")]
+
+
+@pytest.fixture(autouse=True)
+def curl() -> None:
+    """All of them need curl: it waits for the broker."""
+    needs("curl")
+
+
+def begun(port: int) -> str:
+    """The commands of the page by which a broker serves and is added, with a key."""
+    serve, key, add = (moved(block(PLATFORM, it), port) for it in (BROKER, KEY, ADD))
+    return f"{serve.strip()} &\n{healthy(port)}{key}{add}"
+
+
+def started(command: str) -> str:
+    """The command, in the background. $worker is its process. What it prints is kept apart."""
+    return f"{command.strip()} >printed 2>log &\nworker=$!\n"
+
+
+STOP = "kill $worker; wait $worker\n"
+
+
+def cells(out: str, count: int) -> list[list[str]]:
+    """The lines with so many columns."""
+    lines = [line.split("\t") for line in out.splitlines()]
+    return [it for it in lines if len(it) == count]
+
+
+@covers(PLATFORM, "apt-get install golang-go ")
+def test_packages(texts: list[str]) -> None:
+    """They are those that the launcher asks for."""
+    assert packages(texts[0]) == packages(read("scripts/go_program.sh"))
+
+
+@covers(PLATFORM, RUN, LIFE)
+def test_first_steps(texts: list[str], workdir: Workdir, port: int) -> None:
+    """An instance and a binding are created, seen, and deleted. A second call leaves the key as it is."""
+    run, life = texts
+    again = f"cp $state/key before\n{{\n{block(PLATFORM, KEY)}}} || echo kept\ncmp before $state/key\n"
+    out = workdir.run(f"{begun(port)}{again}{started(run)}{life}ls build/broker/instances\n{STOP}")
+    shown, _, of_life = out.partition("\nkept\n")
+    assert "plan\tfolder\tat-once\t" in shown
+    instance, binding, *listed, credentials = of_life.splitlines()  # and no instance is left
+    app = "web-db/web-app"
+    assert [instance, binding] == ["web-db", app]
+    assert sorted(it.split("\t")[:2] for it in listed) == [["web-db", "ready"], [app, "ready"]]
+    printed = json.loads(credentials)
+    assert set(printed) == {"credentials"} and set(printed["credentials"]) == {"folder", "token"}
+    reported = re.findall(r"^(?:ordered )?web-db.*", workdir.errors(), re.MULTILINE)
+    assert reported == ["ordered web-db", f"ordered {app}", f"{app} is gone", "web-db is gone"]
+
+
+@covers(
+    PLATFORM,
+    "one=$(./osb-platform create ",
+    "curl -u platform:secret -H 'X-Broker-API-Version: 2.17' \\\n",
+    "./osb-platform list --state gone --reasons\n",
+)
+def test_look(texts: list[str], workdir: Workdir, port: int) -> None:
+    """An instance under an id that was made up is seen at the broker, and by its reasons."""
+    create, look, reasons = (moved(it, port) for it in texts)
+    of = "".join(f"{it}=$(./osb-platform show $one | sed -n 's/^{it}\\t//p')\n" for it in ("service", "plan"))
+    out = workdir.run(
+        f"{begun(port)}{started(block(PLATFORM, RUN))}{create}echo one $one\n{of}{look.strip()}; echo\n"
+        f"./osb-platform remove $one --wait\n{look.strip()}; echo\n{reasons}{STOP}"
+    )
+    found = re.search(r"^one (\S{36})$", out, re.MULTILINE)
+    assert found is not None
+    assert [line for line in out.splitlines() if line.startswith("{")][0] == '{"state":"succeeded"}'
+    assert [it[6].split()[:2] for it in cells(out, 7)] in ([["poll", "200"]], [["poll", "410"]])
+    assert f"id\t{found[1]}\nstate\tgone\n" in out and "\nwas\t" in out
+
+
+@covers(PLATFORM, "./osb-platform broker add shop ")
+def test_brokers(texts: list[str], workdir: Workdir, port: int) -> None:
+    """A broker with a file for its password is added, changed and listed."""
+    there = texts[0].replace("https://broker.example/postgres", f"http://127.0.0.1:{port}")
+    out = workdir.run(
+        f"{moved(block(PLATFORM, BROKER), port).strip()} &\n{healthy(port)}(umask 077; echo secret >password)\n{there}"
+        "./osb-platform broker show shop\n./osb-platform broker drop shop\n"
+    )
+    assert [it[0] for it in cells(out, 5)] == ["shop"]
+    assert "hold\t900\n" in out and "longest poll\tdefault\n" in out and "plan\tfolder\t" in out
+    assert workdir.errors().count("osb-platform") == 0
+
+
+@covers(PLATFORM, SET)
+def test_rejected_password(texts: list[str], workdir: Workdir, port: int) -> None:
+    """An order waits for the right password, and isn't lost."""
+    wrong = texts[0].replace("=secret", "=wrong")
+    out = workdir.run(
+        f"{begun(port)}{wrong}{started(block(PLATFORM, RUN))}"
+        "./osb-platform create --id web-db --service folder --plan at-once --wait=2 || echo status $?\n"
+        f"./osb-platform broker list\n{texts[0]}"
+        f"until ./osb-platform list --state ready | grep web-db; do sleep 0.1; done\n{STOP}"
+    )
+    assert "web-db\nstatus 4\n" in out
+    assert "osb-platform: web-db is still ordered: the broker local rejects the user or the " in workdir.errors()
+    assert cells(out, 5)[0][4].startswith("the broker local rejects the user or the password (401)")
+
+
+@covers(PLATFORM, "OSB_PLATFORM_PASSWORD=secret ./osb-platform run --broker ")
+def test_store_of_one_broker(texts: list[str], workdir: Workdir, port: int) -> None:
+    serve, run = moved(block(PLATFORM, BROKER), port), moved(texts[0], port)
+    create = "./osb-platform create --id web-db --service folder --plan at-once"
+    out = workdir.run(
+        f"{serve.strip()} &\n{healthy(port)}{started(run)}until {create} --wait; do sleep 0.1; done\n"
+        f"./osb-platform broker list\n{STOP}"
+    )
+    assert "web-db" in out.splitlines() and cells(out, 5)[0][0] == "default"
+
+
+@covers(PLATFORM, "./osb-platform bind web-db --id web-two ", "./osb-platform key --to new-key\n")
+def test_credentials(texts: list[str], workdir: Workdir, port: int) -> None:
+    """They are written to a file that only its owner reads, and are the same after the key was replaced."""
+    bind, rekey = texts
+    create, first, *_ = block(PLATFORM, LIFE).splitlines()
+    out = workdir.run(
+        f"{begun(port)}{started(block(PLATFORM, RUN))}{create}\n{first}\n{bind}stat -c %a credentials.json\n"
+        f"{STOP}{rekey}./osb-platform credentials web-db/web-two | cmp - credentials.json && echo same\n"
+    )
+    assert "\n600\n" in out and out.endswith("\nsame\n")
+
+
+@covers(PLATFORM, "token=$(openssl rand -hex 32)\n", 'curl -H "Authorization: Bearer $token" ')
+def test_api_and_page(texts: list[str], workdir: Workdir, port: int, other_port: int, third_port: int) -> None:
+    """The API writes an order down, and the page shows it to its user alone."""
+    needs("openssl")
+    given, ask = (moved(it, port, other_port).replace(":8092", f":{third_port}") for it in texts)
+    secrets, program, options = given.partition("./osb-platform serve")
+    page = f"http://127.0.0.1:{other_port}/"
+    out = workdir.run(
+        f"{begun(port)}{secrets}{started(program + options)}{wait_for(third_port)}{ask.replace('curl ', 'curl -si ')}"
+        f'curl -si {page}\ncurl -si -u "$(cat build/users)" {page}\n{STOP}'
+    )
+    statuses = re.findall(r"^HTTP/1.1 (\d+)", out, re.MULTILINE)
+    assert statuses == ["200", "201", "200", "401", "200"]
+    assert '"state":"ordered"' in out and "<title>1 instance - osb-platform</title>" in out
+
+
+# ---- what the guide lists
+
+
+def test_commands() -> None:
+    """The table has each command, and no other."""
+    rows = re.findall(r"^\| (`[a-z].*?) \| ", read(PLATFORM).partition("\n### The exit status")[0], re.MULTILINE)
+    named = {it for row in rows for it in re.findall(r"`([a-z]+)", row)}
+    assert named == set(commands_of("osb-platform")) - {"help"}
+    inner = set(re.findall(r"`(broker [a-z]+)`", read(PLATFORM).partition("\n### The exit status")[0]))
+    assert inner == {f"broker {it}" for it in commands_of("osb-platform", "broker")}
+
+
+def test_options() -> None:
+    """The tables have each option of each command, and no other."""
+    program = {("all", it) for it in options_of(help_of("osb-platform")) if it not in ("--help", "--version")}
+    names = [[it] for it in commands_of("osb-platform") if it != "help"]
+    for name in [*names, *(["broker", it] for it in commands_of("osb-platform", "broker"))]:
+        own = help_of("osb-platform", *name).partition("\nGlobal Flags:")[0]
+        program |= {(" ".join(name), it) for it in options_of(own) if it != "--help"}
+    guide = {
+        (command, option)
+        for options, commands in re.findall(r"^\| (`--.*?) \| (all|`[a-z].*?`) \| ", read(PLATFORM), re.MULTILINE)
+        for command in (re.findall(r"`(.*?)`", commands) or ["all"])
+        for option in re.findall(r"`(--[a-z-]+)", options)
+    }
+    assert len(program) > 60
+    assert sorted(guide - program) == [] and sorted(program - guide) == []
+
+
+def test_named_options() -> None:
+    """Each option that the guide names in its text is one of the program's."""
+    names = [(), *((it,) for it in commands_of("osb-platform")), ("broker", "add"), ("broker", "set")]
+    options = {option for it in names for option in options_of(help_of("osb-platform", *it))}
+    front, _, rest = read(PLATFORM).partition("\n## From version 0.2\n")
+    text = front + rest.partition("\n## ")[2].partition("\n## The storm\n")[0]
+    named = set(re.findall(r"(?<![\w-])--[a-z][a-z-]*", text))
+    assert len(named) > 50 and sorted(named - options) == []
+
+
+def test_states() -> None:
+    """The table has each state, in the order of the program's help."""
+    listed = re.search(r"only those in this state: (.*?)\n +--", help_of("osb-platform", "list"), re.DOTALL)
+    assert listed is not None
+    table = read(PLATFORM).partition("\n## The states")[2].partition("\n### ")[0]
+    assert set(re.findall(r"^\| `([a-z-]+)` \|", table, re.MULTILINE)) == set(re.split(r",\s+", listed[1]))
+
+
+def test_columns() -> None:
+    """The table has each column of the list, in its order."""
+    listed = re.search(r"The columns are (.*)\.\n", help_of("osb-platform", "list"))
+    assert listed is not None
+    table = read(PLATFORM).partition("\n| column | what it is |\n|---|---|\n")[2].partition("\n\n")[0]
+    rows = re.findall(r"^\| `([a-z]+)` \|", table, re.MULTILINE)
+    assert len(rows) > 5 and rows == re.split(", (?:and with --reasons )?", listed[1])
+
+
+def test_variables() -> None:
+    """The table has each variable of the program, and no other."""
+    table = read(PLATFORM).partition("\n| variable | what it is |\n|---|---|\n")[2].partition("\n\n")[0]
+    program = set(re.findall(r"^  (OSB_[A-Z_]+) ", help_of("osb-platform"), re.MULTILINE))
+    assert len(program) > 2 and set(re.findall(r"^\| `([A-Z_]+)` \|", table, re.MULTILINE)) == program
+
+
+def test_metrics() -> None:
+    """The guide names each metric of the program with its labels, and no other."""
+    program = re.findall(r"^//\t(osb_platform_\S+)", read("go/cmd/osb-platform/metrics.go"), re.MULTILINE)
+    assert len(program) > 10
+    assert sorted(re.findall(r"^\| `(osb_platform_\S+)` \|", read(PLATFORM), re.MULTILINE)) == sorted(program)
+
+
+def test_errors_in_metrics() -> None:
+    """The guide names each value of the label error, and no other."""
+    listed = re.search(r"^var knownErrors = (.*?)^}", read("go/cmd/osb-platform/metrics.go"), re.MULTILINE | re.DOTALL)
+    row = re.search(r"^\| `osb_platform_rejections_total\S+ \| (.*) \|$", read(PLATFORM), re.MULTILINE)
+    assert listed is not None and row is not None
+    program = set(re.findall('"([A-Za-z]+)"', listed[1])) | {"other", "none"}
+    assert len(program) > 5 and set(re.findall("`([A-Za-z]+)`", row[1])) - {"error"} == program
+
+
+def test_routes() -> None:
+    """The table has each route of the API's description, and no other."""
+    described = json.loads(read("go/platform/api/openapi.json"))["paths"]
+    verbs = ("get", "post", "put", "delete")
+    program = {(verb.upper(), path) for path, it in described.items() for verb in it if verb in verbs}
+    rows = re.findall(r"^\| ([A-Z, ]+) \| (`/v1.*?`) \| ", read(PLATFORM), re.MULTILINE)
+    guide = {
+        (verb, path) for verbs, paths in rows for verb in verbs.split(", ") for path in re.findall("`(.*?)`", paths)
+    }
+    assert len(program) > 15 and guide == program
+
+
+def sources() -> str:
+    """What the platform is made of, without its tests."""
+    parts = [
+        TOP / "go" / it for it in ("cmd/osb-platform", "platform", "program/health", "program/server", "program/logs")
+    ]
+    files: list[Path] = sorted(it for part in parts for it in part.rglob("*.go") if not it.name.endswith("_test.go"))
+    return "".join(it.read_text(encoding="utf-8") for it in files)
+
+
+def test_events() -> None:
+    """The table has each event that the program logs by its name, and no other."""
+    code = sources()
+    program = set(re.findall(r'(?:\.at\(\w+, |Event: |\bfail\()"([a-z_]+)"', code))
+    program |= set(re.findall(r'"([a-z_]+_reloaded)"', code))
+    table = read(PLATFORM).partition("\n### What a worker prints")[2].partition("\n### ")[0]
+    rows = re.findall(r"^\| (`[a-z_]+`(?:, `[a-z_]+`)*) \|", table, re.MULTILINE)
+    guide = {it for row in rows for it in re.findall("`(.*?)`", row)}
+    assert len(program) > 20 and sorted(program - guide) == []
+    assert sorted(it for it in guide if f'"{it}"' not in code) == []

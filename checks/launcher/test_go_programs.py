@@ -1,0 +1,186 @@
+"""Which osb-broker and which osb-platform run, when the launcher builds them, and what is reported."""
+
+from __future__ import annotations
+
+import shutil
+import signal
+from pathlib import Path
+from typing import Callable
+
+import pytest
+from go.toolchain import NEEDS, SOURCES
+from launcher.go_repository import GoRepository, edit_keeping_time_and_length
+from waiting import until
+
+pytestmark = pytest.mark.slow
+
+BUILDS = "building the program from the sources in go/, which takes up to a minute"
+
+
+@pytest.fixture(params=["osb-broker", "osb-platform"])
+def repository(request: pytest.FixtureRequest, tmp_path: Path) -> GoRepository:
+    for name, package in NEEDS.items():
+        if not (SOURCES / "src" / name).is_dir():
+            pytest.skip(f"{name} isn't installed (Debian: {package})")
+    return GoRepository(tmp_path, request.param)
+
+
+def serve(repository: GoRepository, **variables: str) -> tuple[int, str, str]:
+    """The status, the output, and what was reported."""
+    run = repository.run(repository.name, "serve", "--state", "a b", has_rt=False, **variables)
+    return run.returncode, run.stdout, run.stderr
+
+
+def builds(repository: GoRepository) -> str:
+    """What is reported before a build."""
+    return f"{repository.name}: {BUILDS}\n"
+
+
+def says(main: str) -> str:
+    """What the program prints if it is built from this main.go: its arguments, and the standard input."""
+    return f"{main}: serve --state a b\na schedule"
+
+
+def test_built_once(repository: GoRepository) -> None:
+    """A line reports it. The program gets the arguments and the standard input, and its status is the launcher's."""
+    assert serve(repository) == (9, says("first"), builds(repository))
+    assert serve(repository) == (9, says("first"), "")
+    assert len(repository.go_builds()) == 1
+    assert (repository.kit / "stolen").read_text() == ""  # of the program's standard input
+    assert not list(repository.program.parent.glob("*.new.*"))
+
+
+def change_main(repository: GoRepository) -> None:
+    edit_keeping_time_and_length(repository.main, "other")
+
+
+def change_catalogue(repository: GoRepository) -> None:
+    (repository.main.parent / "catalogue.json").write_text("{ }")
+
+
+def rename_source(repository: GoRepository) -> None:
+    file = repository.main.parent / "catalogue.json"
+    file.rename(file.with_name("other.json"))
+
+
+def change_header(repository: GoRepository) -> None:
+    with open(repository.top / "include" / "osb.h", "a") as header:
+        header.write("\n")
+
+
+def change_library(repository: GoRepository) -> None:
+    (repository.prebuilt / "libosb.a").write_text("another\n")
+    repository.record_prebuilt()
+
+
+def damage_program(repository: GoRepository) -> None:
+    repository.program.chmod(0o644)
+
+
+@pytest.mark.parametrize(
+    "change", [change_main, change_catalogue, rename_source, change_header, change_library, damage_program]
+)
+def test_built_again(repository: GoRepository, change: Callable[[GoRepository], None]) -> None:
+    serve(repository)
+    change(repository)
+    assert serve(repository) == (9, says(repository.main.read_text()), builds(repository))
+    assert serve(repository)[2] == ""
+    assert len(repository.go_builds()) == 2
+
+
+def test_what_changes_no_source_builds_nothing(repository: GoRepository) -> None:
+    """A test, and the place of the checkout. The program needs nothing else of the checkout."""
+    serve(repository)
+    (repository.main.parent / "main_test.go").write_text("another test")
+    repository.top = repository.top.rename(repository.folder / "moved")
+    assert serve(repository) == (9, says("first"), "")
+    program = shutil.copy2(repository.top / "out" / "go" / repository.name, repository.folder)
+    shutil.rmtree(repository.top)
+    assert repository.run(str(program), "serve").stdout == "first: serve\na schedule"
+
+
+@pytest.mark.parametrize("is_static", [True, False])
+def test_linked_statically_if_it_can_be(repository: GoRepository, is_static: bool) -> None:
+    if not is_static:
+        repository.tool("gcc", "#!/bin/sh\nexit 1\n")
+    serve(repository)
+    (build,) = repository.go_builds()
+    assert ("-static -lsqlite3 -lm" in build) == is_static
+    assert "-tags libsqlite3 netgo osusergo sqlite_omit_load_extension " in build
+
+
+def test_another_program(repository: GoRepository) -> None:
+    """Nothing is built, and nothing is looked for."""
+    repository.write("own", '#!/bin/sh\necho "own: $*"\nexit 8\n')
+    shutil.rmtree(repository.top / "go")
+    assert serve(repository, **{repository.variable: f"{repository.top}/own"}) == (8, "own: serve --state a b\n", "")
+    for nothing in (repository.top, repository.top / "crates.txt", repository.top / "nowhere"):
+        rejection = f"{repository.name}: {repository.variable} names {nothing}, which isn't a program\n"
+        assert serve(repository, **{repository.variable: str(nothing)}) == (70, "", rejection)
+    assert repository.go_builds() == []
+
+
+def test_missing_tool(repository: GoRepository) -> None:
+    """A line says what to install."""
+    (repository.kit / "go").unlink()
+    for name in ("bash", "readlink", "uname", "find", "sort", "xargs", "sha256sum"):
+        (repository.kit / name).symlink_to(str(shutil.which(name)))
+    status, out, reported = serve(repository, PATH=str(repository.kit))
+    assert (status, out) == (70, "")
+    assert reported.startswith(
+        f"{repository.name}: to build the program, go is missing: apt-get install golang-go gcc "
+    )
+    assert reported.count("\n") == 1
+    assert set(NEEDS.values()) < set(reported.split())
+
+
+def test_build_that_fails(repository: GoRepository) -> None:
+    """What Go reports is shown, and the old program stays as it was."""
+    serve(repository)
+    before = repository.program.read_bytes()
+    repository.main.write_text("fault")
+    for _ in range(2):
+        status, out, reported = serve(repository)
+        assert (status, out) == (70, "")
+        assert (
+            reported
+            == f"{builds(repository)}a warning\nmain.go:1: a fault\n{repository.name}: the program can't be built\n"
+        )
+    assert repository.program.read_bytes() == before
+    repository.main.write_text("first")
+    assert serve(repository) == (9, says("first"), "")
+
+
+def test_running_program_is_not_written_over(repository: GoRepository) -> None:
+    serve(repository)
+    with open(repository.program, encoding="ascii") as running:
+        repository.main.write_text("later")
+        assert serve(repository)[1] == says("later")
+        assert "first" in running.read()
+
+
+def test_two_starts_build_once(repository: GoRepository) -> None:
+    (repository.kit / "seconds").write_text("1\n")
+    ended = [it.communicate(timeout=60) for it in [repository.start(), repository.start()]]
+    assert [out for out, _ in ended] == ["first: \n", "first: \n"]
+    assert sorted(reported for _, reported in ended) == [
+        builds(repository),
+        f"{repository.name}: waiting for another start, which builds\n",
+    ]
+    assert len(repository.go_builds()) == 1
+
+
+@pytest.mark.parametrize("how", [signal.SIGTERM, signal.SIGKILL])
+def test_end_of_the_launcher_ends_its_build(repository: GoRepository, how: signal.Signals) -> None:
+    """The next start builds, and leaves nothing of the ended one."""
+    (repository.kit / "seconds").write_text("60\n")
+    with repository.start() as launcher:
+        until(repository.go_builds)
+        builder = int(repository.go_builds()[0].split()[0])
+        launcher.send_signal(how)
+        assert launcher.wait(10) == -how
+        until(lambda: not Path(f"/proc/{builder}").exists(), 10)
+    (repository.kit / "seconds").write_text("0\n")
+    (repository.program.parent / f"{repository.name}.new.1").touch()
+    assert serve(repository)[:2] == (9, says("first"))
+    assert not list(repository.program.parent.glob("*.new.*"))

@@ -1,0 +1,35 @@
+//go:build storm
+
+package main
+
+import (
+	"fmt"
+	"os"
+	"time"
+
+	"pippinterm/platform"
+	"pippinterm/program"
+	"pippinterm/storm"
+)
+
+// forStorm makes of the client and the options what a storm tries: leases that end soon, by the duration in OSB_MARGIN,
+// and a platform without attempts if OSB_WITHOUT says so.
+func forStorm(
+	with platform.Client, store platform.Store, options platform.Options,
+) (platform.Client, platform.Options, error) {
+	if text := os.Getenv("OSB_MARGIN"); text != "" {
+		margin, err := time.ParseDuration(text)
+		if err != nil {
+			return nil, options, program.Unusable(fmt.Errorf("OSB_MARGIN: %w", err))
+		}
+		options.Margin = margin
+	}
+	switch part := os.Getenv("OSB_WITHOUT"); part {
+	case "":
+		return with, options, nil
+	case "attempts":
+		return storm.WithoutAttempts(with, store), options, nil
+	default:
+		return nil, options, program.Unusable(fmt.Errorf("storm: a platform can't run without %q", part))
+	}
+}
