@@ -43,7 +43,7 @@ def crates_of(wanted: list[str]) -> dict[str, tuple[str, list[str]]]:
 
 
 class NotBuilt(Exception):
-    """A crate isn't proved and built."""
+    """A crate isn't proved and built, or a signal has ended the build."""
 
 
 class Build:
@@ -56,6 +56,14 @@ class Build:
         self.workdirs, self.log = out / "workdirs", out / "build.log"
         self.running: dict[str, subprocess.Popen[bytes]] = {}
         self.ended, self.begun = 0, time.monotonic()
+        self.is_stopped = False
+        for number in (signal.SIGTERM, signal.SIGHUP, signal.SIGINT):
+            if signal.getsignal(number) != signal.SIG_IGN:  # under nohup, SIGHUP stays ignored
+                signal.signal(number, self.on_signal)
+
+    def on_signal(self, *_: object) -> None:
+        """Has the build end soon. An exception here could come after the start of an rt and before it is stored."""
+        self.is_stopped = True
 
     def say(self, text: str) -> None:
         """Reports on standard error."""
@@ -143,6 +151,8 @@ class Build:
             while ready and len(self.running) < LANES:
                 self.begin(ready.pop())
             time.sleep(0.1)
+            if self.is_stopped:
+                raise NotBuilt
             for name, process in [*self.running.items()]:
                 if process.poll() is not None:
                     self.end(name, process.returncode)
@@ -158,16 +168,13 @@ class Build:
 
 def main() -> int:
     who, names, kind, *arguments = sys.argv[1:]
-    for number in (signal.SIGTERM, signal.SIGHUP):
-        if signal.getsignal(number) == signal.SIG_DFL:  # under nohup, SIGHUP stays ignored
-            signal.signal(number, lambda *_: sys.exit(1))
     try:
         build = Build(who, names.split(","), kind, arguments)
         try:
             build.run()
         finally:
             build.stop()
-    except (NotBuilt, KeyboardInterrupt):
+    except NotBuilt:
         return 1
     except (OSError, KeyError) as error:
         print(f"{who}: the crates can't be built: {error}", file=sys.stderr)
