@@ -19,6 +19,7 @@ import (
 	"pippinterm/program/limiter"
 	"pippinterm/program/logs"
 	"pippinterm/program/metrics"
+	"pippinterm/program/notify"
 	"pippinterm/program/server"
 )
 
@@ -136,13 +137,13 @@ func (r *running) serve(ctx, stop context.Context) error {
 	served := server.Server{
 		Sites: sites, Request: r.settings.requestTime, Stop: r.settings.stopTime, Stopping: func() {
 			stopped = time.Now()
-			r.log.Info("stopping").Send()
+			r.log.Info("stopping").AnErr("notify_error", notify.Stopping()).Send()
 			r.handler.Stop()
 			r.health.Stop()
 			endSweeps()
 		},
 	}
-	r.log.Info("serving").Str("url", r.main.URL()).Send()
+	r.log.Info("serving").Str("url", r.main.URL()).AnErr("notify_error", notify.Ready()).Send()
 	failed := served.Serve(stop)
 	hasEnded := r.wait(swept, time.Until(stopped.Add(r.settings.stopTime)))
 	isCut := errors.Is(failed, server.ErrCut)

@@ -13,6 +13,7 @@ import (
 	"pippinterm/platform/vault"
 	"pippinterm/program"
 	"pippinterm/program/logs"
+	"pippinterm/program/notify"
 	"pippinterm/program/server"
 )
 
@@ -87,7 +88,7 @@ func (r *running) await(stop context.Context, endWork context.CancelFunc, done <
 		return r.end(stop, err, true)
 	case <-stop.Done():
 	}
-	r.log.at(infoLevel, "stopping").Send()
+	r.log.at(infoLevel, "stopping").AnErr("notify_error", notify.Stopping()).Send()
 	for _, limit := range []time.Duration{r.settings.stop, lastWait} {
 		timer := time.NewTimer(limit)
 		select {
@@ -153,7 +154,7 @@ func (r *running) logStart() {
 	add(event, "page", r.pageURL)
 	add(event, "api", r.apiURL)
 	add(event, "health", r.healthURL)
-	event.Send()
+	event.AnErr("notify_error", notify.Ready()).Send()
 }
 
 // sessions is how many connections to a database it has.

@@ -1,0 +1,92 @@
+package notify
+
+import (
+	"errors"
+	"fmt"
+	"net"
+	"os"
+	"path/filepath"
+	"strings"
+	"testing"
+	"time"
+)
+
+// manager listens as a service manager does, and sets the variable that names its socket.
+func manager(t *testing.T, name string) *net.UnixConn {
+	t.Helper()
+	socket, err := net.ListenUnixgram("unixgram", &net.UnixAddr{Name: name, Net: "unixgram"})
+	if err != nil {
+		t.Fatal(err)
+	}
+	t.Cleanup(func() { socket.Close() })
+	t.Setenv(variable, name)
+	return socket
+}
+
+// taken is the next report that the service manager gets.
+func taken(t *testing.T, socket *net.UnixConn) string {
+	t.Helper()
+	if err := socket.SetReadDeadline(time.Now().Add(10 * time.Second)); err != nil {
+		t.Fatal(err)
+	}
+	buffer := make([]byte, 100)
+	length, err := socket.Read(buffer)
+	if err != nil {
+		t.Fatal(err)
+	}
+	return string(buffer[:length])
+}
+
+func TestReports(t *testing.T) {
+	for kind, name := range map[string]string{
+		"a path":           filepath.Join(t.TempDir(), "notify"),
+		"an abstract name": fmt.Sprintf("@osb-test-%d", os.Getpid()),
+	} {
+		t.Run(kind, func(t *testing.T) {
+			socket := manager(t, name)
+			for want, call := range map[string]func() error{"READY=1": Ready, "STOPPING=1": Stopping} {
+				if err := call(); err != nil {
+					t.Fatal(err)
+				}
+				if got := taken(t, socket); got != want {
+					t.Errorf("%q, want %q", got, want)
+				}
+			}
+		})
+	}
+}
+
+func TestWithoutAServiceManager(t *testing.T) {
+	t.Setenv(variable, "")
+	if err := Ready(); err != nil {
+		t.Error(err)
+	}
+}
+
+func TestErrors(t *testing.T) {
+	nobody := filepath.Join(t.TempDir(), "nobody")
+	for name, says := range map[string]string{
+		nobody: nobody, "@osb-test-nobody": "connection refused", "vsock:2:1234": `"vsock:2:1234"`, "relative": "want a path",
+		"/" + strings.Repeat("a", 200): "invalid",
+	} {
+		t.Setenv(variable, name)
+		if err := Ready(); err == nil || !strings.Contains(err.Error(), says) || !strings.Contains(err.Error(), "READY=1") {
+			t.Errorf("%.20s: %v, want an error with %q", name, err, says)
+		}
+	}
+}
+
+// A service manager that takes no report doesn't stop the program.
+func TestAReportIsNotWaitedForForever(t *testing.T) {
+	manager(t, filepath.Join(t.TempDir(), "notify"))
+	for at := 0; at < 100000; at++ {
+		err := Ready()
+		if errors.Is(err, os.ErrDeadlineExceeded) {
+			return
+		}
+		if err != nil {
+			t.Fatal(err)
+		}
+	}
+	t.Fatal("all reports are taken, though nobody reads them")
+}
