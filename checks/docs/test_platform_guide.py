@@ -74,20 +74,20 @@ def test_first_steps(texts: list[str], workdir: Workdir, port: int) -> None:
 @covers(
     PLATFORM,
     "one=$(./osb-platform create ",
-    "curl -u platform:secret -H 'X-Broker-API-Version: 2.17' \\\n",
+    "./osb-platform ask $one\n",
     "./osb-platform list --state gone --reasons\n",
 )
 def test_look(texts: list[str], workdir: Workdir, port: int) -> None:
     """An instance under an id that was made up is seen at the broker, and by its reasons."""
     create, look, reasons = (moved(it, port) for it in texts)
-    of = "".join(f"{it}=$(./osb-platform show $one | sed -n 's/^{it}\\t//p')\n" for it in ("service", "plan"))
     out = workdir.run(
-        f"{begun(port)}{started(block(PLATFORM, RUN))}{create}echo one $one\n{of}{look.strip()}; echo\n"
-        f"./osb-platform remove $one --wait\n{look.strip()}; echo\n{reasons}{STOP}"
+        f"{begun(port)}{started(block(PLATFORM, RUN))}{create}echo one $one\n{look}"
+        f"./osb-platform remove $one --wait\n{look}{reasons}{STOP}"
     )
     found = re.search(r"^one (\S{36})$", out, re.MULTILINE)
     assert found is not None
-    assert [line for line in out.splitlines() if line.startswith("{")][0] == '{"state":"succeeded"}'
+    answers = [it.removeprefix("last operation ") for it in out.splitlines() if it.startswith("last operation s")]
+    assert answers == ["status\t200", "state\tsucceeded", "status\t410"]
     assert [it[6].split()[:2] for it in cells(out, 7)] in ([["poll", "200"]], [["poll", "410"]])
     assert f"id\t{found[1]}\nstate\tgone\n" in out and "\nwas\t" in out
 
@@ -143,19 +143,26 @@ def test_credentials(texts: list[str], workdir: Workdir, port: int) -> None:
     assert "\n600\n" in out and out.endswith("\nsame\n")
 
 
-@covers(PLATFORM, "token=$(openssl rand -hex 32)\n", 'curl -H "Authorization: Bearer $token" ')
+@covers(
+    PLATFORM,
+    "token=$(openssl rand -hex 32)\n",
+    'curl -H "Authorization: Bearer $token" ',
+    'curl -G -H "Authorization: Bearer $token" ',
+)
 def test_api_and_page(texts: list[str], workdir: Workdir, port: int, other_port: int, third_port: int) -> None:
-    """The API writes an order down, and the page shows it to its user alone."""
+    """The API writes an order down and lists it, and the page shows it to its user alone."""
     needs("openssl")
-    given, ask = (moved(it, port, other_port).replace(":8092", f":{third_port}") for it in texts)
+    given, ask, listed = (moved(it, port, other_port).replace(":8092", f":{third_port}") for it in texts)
     secrets, program, options = given.partition("./osb-platform serve")
     page = f"http://127.0.0.1:{other_port}/"
     out = workdir.run(
-        f"{begun(port)}{secrets}{started(program + options)}{wait_for(third_port)}{ask.replace('curl ', 'curl -si ')}"
+        f"{begun(port)}{secrets}{started(program + options)}{wait_for(third_port)}"
+        f"{(ask + listed).replace('curl ', 'curl -si ')}"
         f'curl -si {page}\ncurl -si -u "$(cat build/users)" {page}\n{STOP}'
     )
     statuses = re.findall(r"^HTTP/1.1 (\d+)", out, re.MULTILINE)
-    assert statuses == ["200", "201", "200", "401", "200"]
+    assert statuses == ["200", "201", "200", "200", "200", "401", "200"]
+    assert '"life":[{"state":"ordered","since":"' in out and '"state":"ordered","count":1' in out
     assert '"state":"ordered"' in out and "<title>1 instance - osb-platform</title>" in out
 
 
@@ -248,6 +255,16 @@ def test_routes() -> None:
         (verb, path) for verbs, paths in rows for verb in verbs.split(", ") for path in re.findall("`(.*?)`", paths)
     }
     assert len(program) > 15 and guide == program
+
+
+def test_queries_of_lists() -> None:
+    """The table has each name that the query of a list may have, and no other."""
+    described = json.loads(read("go/platform/api/openapi.json"))["paths"]
+    lists = ("/v1/records", "/v1/instances", "/v1/bindings", "/v1/instances/{id}/bindings")
+    program = {it["name"] for path in lists for it in described[path]["get"]["parameters"] if it["in"] == "query"}
+    table = read(PLATFORM).partition("\n| query | which rows |\n|---|---|\n")[2].partition("\n\n")[0]
+    named = [name for row in table.splitlines() for name in re.findall(r"`([a-z]+)=", row.split(" | ")[0])]
+    assert len(program) > 10 and sorted(named) == sorted(program)
 
 
 def sources() -> str:

@@ -24,7 +24,9 @@ type CatalogueService struct {
 	Number                osb.ID
 	// IsRetrievable is whether a binding can be fetched, so that it may be created asynchronously.
 	IsRetrievable bool
-	Plans         []CataloguePlan
+	// InstancesRetrievable is whether an instance can be fetched.
+	InstancesRetrievable bool
+	Plans                []CataloguePlan
 }
 
 // A CataloguePlan is a plan of a service.
@@ -53,6 +55,7 @@ type (
 	writtenService struct {
 		ID, Name, Description string
 		Bindable              any
+		Retrievable           any `json:"instances_retrievable"`
 		Plans                 []writtenPlan
 	}
 	writtenPlan struct {
@@ -89,7 +92,8 @@ func ReadCatalogue(document []byte) (*Catalogue, error) {
 		}
 		read.Services = append(read.Services, CatalogueService{
 			ID: it.ID, Name: it.Name, Description: it.Description, Number: number,
-			IsRetrievable: retrievable, Plans: modes.plans(number, it),
+			IsRetrievable: retrievable, InstancesRetrievable: it.Retrievable == true,
+			Plans: modes.plans(number, it),
 		})
 	}
 	return read, nil

@@ -24,17 +24,23 @@ func TestReadCatalogue(t *testing.T) {
 // Catalogues of other brokers are read as far as they can be.
 func TestReadForeignCatalogue(t *testing.T) {
 	read, err := ReadCatalogue([]byte(`{"x-osb-tombstones": 1, "services": [
-		{"id": "ein Dienst", "name": "s", "bindable": true, "plans": [
+		{"id": "ein Dienst", "name": "s", "bindable": true, "instances_retrievable": true, "plans": [
 			{"id": "P1", "name": "one", "maximum_polling_duration": 60, "bindable": false},
 			{"id": "P2", "maximum_polling_duration": 1.5}, {"id": "P3", "maximum_polling_duration": -1},
 			{"id": "P4", "maximum_polling_duration": "9"},
 			{"id": "P5", "maximum_polling_duration": 99999999999999999999},
 			{"id": "P6", "maximum_polling_duration": 0}, {"name": "no id"}, 5, {"id": 7}]},
-		{"id": "other", "plans": "none", "bindings_retrievable": true}, {"id": ""}, null]}`))
+		{"id": "other", "plans": "none", "bindings_retrievable": true,
+			"instances_retrievable": "true"}, {"id": ""}, null]}`))
 	check(t, err)
 	if read.HasTombstones || len(read.Services) != 2 || len(read.Services[0].Plans) != 6 ||
 		len(read.Services[1].Plans) != 0 {
 		t.Fatalf("got %+v", read)
+	}
+	for at, it := range read.Services {
+		if it.IsRetrievable != (at == 1) || it.InstancesRetrievable != (at == 0) {
+			t.Errorf("service %d: %+v", at, it)
+		}
 	}
 	for at, want := range []time.Duration{time.Minute, 0, 0, 0, mostSeconds * time.Second, 0} {
 		if got := read.Services[0].Plans[at]; got.LongestPoll != want || got.IsBindable != (at > 0) {

@@ -25,8 +25,9 @@ type terms struct {
 // A sending is a request that is recorded as in flight, or the last deletion of a row that is gone.
 type sending struct {
 	out     Outgoing
-	attempt uint64 // the number of the request, or 0 of the last deletion
-	before  State  // the state in which the row was read
+	attempt uint64    // the number of the request, or 0 of the last deletion
+	before  State     // the state in which the row was read
+	since   time.Time // since when the row is due
 	terms   terms
 	unsure  error // why nobody knows whether the row was written, or nil: then nothing is sent
 }
@@ -77,7 +78,13 @@ func decide(now time.Time, held Held, allGone bool, t terms) decision {
 }
 
 func resting(e Entry, before State) decision {
-	e.Due, e.Unchanged = time.Time{}, 0
+	e.Due, e.DueSince, e.Unchanged = time.Time{}, time.Time{}, 0
+	return decision{entry: e, before: before}
+}
+
+// holding is the decision of a row whose deletion isn't sent before a time.
+func holding(until time.Time, e Entry, before State) decision {
+	e.Due, e.DueSince = until, time.Time{}
 	return decision{entry: e, before: before}
 }
 
@@ -140,8 +147,7 @@ func decideGone(now time.Time, e Entry, t terms) decision {
 		return resting(e, Gone)
 	}
 	if until := e.lastDue(t); now.Before(until) {
-		e.Due = until
-		return decision{entry: e, before: Gone}
+		return holding(until, e, Gone)
 	}
 	return leased(now, e, Gone, osb.Sent{Request: osb.Request{
 		Kind: osb.KindDeprovision, AcceptsIncomplete: true,
@@ -166,8 +172,7 @@ func decideRecord(now time.Time, e Entry, allGone bool, t terms) decision {
 		return resting(e, read.State)
 	}
 	if until := e.heldUntil(t); now.Before(until) {
-		e.Due = until
-		return decision{entry: e, before: read.State}
+		return holding(until, e, read.State)
 	}
 	record, sent, err := e.Record.Send(e.Key.ID())
 	if err != nil {
@@ -179,10 +184,13 @@ func decideRecord(now time.Time, e Entry, allGone bool, t terms) decision {
 
 // leased is the decision to send a request. Whole milliseconds outlive every database.
 func leased(now time.Time, e Entry, before State, sent osb.Sent, t terms) decision {
-	until := now.Add(t.exchange + t.margin).Truncate(time.Millisecond)
+	until, since := now.Add(t.exchange+t.margin).Truncate(time.Millisecond), e.DueSince
+	if since.IsZero() {
+		since = e.Due
+	}
 	e.Lease, e.Due = Lease{Worker: t.worker, Until: until}, until
 	return decision{entry: e, before: before, send: &sending{
-		out: Outgoing{Entry: e, Request: sent.Request}, attempt: sent.Attempt, before: before, terms: t,
+		out: Outgoing{Entry: e, Request: sent.Request}, attempt: sent.Attempt, before: before, since: since, terms: t,
 	}}
 }
 

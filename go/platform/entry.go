@@ -97,8 +97,11 @@ type Entry struct {
 	// HasLast is whether one deletion more is to be sent though the record is gone: at a broker without tombstones.
 	HasLast bool
 
-	Due       time.Time // when the next step is due; zero if the row rests
-	Unchanged int       // how many requests in turn have changed nothing
+	Due time.Time // when the next step is due; zero if the row rests
+	// DueSince is since when the row is due though its requests were sent: the broker hasn't taken them up. It is zero
+	// if Due says so.
+	DueSince  time.Time
+	Unchanged int // how many requests in turn have changed nothing
 	Lease     Lease
 
 	Last    Reason // what was said last
@@ -115,6 +118,42 @@ type Entry struct {
 	// Unreadable is why the row can't be read, or empty. Key, State and Since are as they are stored, and the rest is
 	// as far as it could be read. No step gets such a row.
 	Unreadable string
+}
+
+// A keptLast is what a Store keeps of Entry.Last and Entry.DueSince, in one column.
+type keptLast struct {
+	Reason
+	DueSince int64 `json:"due_since,omitempty"` // in milliseconds since 1970
+}
+
+// LastText is what a Store keeps of Last and DueSince, in one column. It is nil if there is neither. DueSince is the
+// number of the member due_since, in milliseconds since 1970, which comes last.
+func (e Entry) LastText() ([]byte, error) {
+	if e.Last == (Reason{}) && e.DueSince.IsZero() {
+		return nil, nil
+	}
+	kept := keptLast{Reason: e.Last}
+	kept.At = kept.At.UTC()
+	if !e.DueSince.IsZero() {
+		kept.DueSince = e.DueSince.UnixMilli()
+	}
+	return json.Marshal(kept)
+}
+
+// ReadLast reads what LastText has written, also in version 0.2, which had no DueSince.
+func (e *Entry) ReadLast(text []byte) error {
+	var kept keptLast
+	if err := json.Unmarshal(text, &kept); err != nil {
+		return err
+	}
+	e.Last = kept.Reason
+	if !e.Last.At.IsZero() {
+		e.Last.At = e.Last.At.UTC()
+	}
+	if kept.DueSince != 0 {
+		e.DueSince = time.UnixMilli(kept.DueSince).UTC()
+	}
+	return nil
 }
 
 // Rests is whether nothing is to be done for a row until somebody asks.

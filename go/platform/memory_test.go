@@ -384,6 +384,10 @@ func (m *memory) NextDue(_ context.Context, brokers []string) (due, now time.Tim
 	return due, now, nil
 }
 
+func (m *memory) OldestDue(context.Context) (due, now time.Time, err error) {
+	return due, now, errors.New("nobody asks for this here")
+}
+
 func (m *memory) Brokers(context.Context) ([]Broker, error) {
 	m.mu.Lock()
 	defer m.mu.Unlock()

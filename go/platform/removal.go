@@ -49,11 +49,16 @@ func (o *Orders) Remove(ctx context.Context, key Key, withBindings bool) (Entry,
 
 // Retry has a deletion sent again that hangs in cleaning-polling, and every other step that is due later done at once.
 //
-// Errors: a Fault if the key is unknown, or nothing is to be done for it; those of the Store.
+// Errors: a Fault if the key is unknown, if nothing is to be done for it, or if it is unsettled, so that somebody has
+// to decide; those of the Store.
 func (o *Orders) Retry(ctx context.Context, key Key) (Entry, error) {
 	return o.change(ctx, key, func(now time.Time, held Held) (*Change, error) {
 		e := held.Entry
 		switch {
+		case e.Rests() && e.State == Unsettled:
+			return nil, fault(Conflict, "%s is unsettled: its creation has failed, and the broker may hold it. Nothing "+
+				"is sent until somebody decides: ask the broker for its last operation, and then remove it or abandon it",
+				named(e))
 		case e.Rests():
 			return nil, fault(Conflict, "%s is %s: nothing is to be done for it", named(e), e.State)
 		case e.IsSent && e.Record.InFlight() != osb.KindNone && now.Before(e.Lease.Until):
@@ -111,7 +116,8 @@ func (o *Orders) Abandon(ctx context.Context, key Key, because string) (Entry, e
 			}
 		}
 		e.Because = because
-		e.Due, e.Lease, e.HasLast, e.Credentials, e.Operation = time.Time{}, Lease{}, false, nil, nil
+		e.Due, e.DueSince, e.Lease, e.HasLast = time.Time{}, time.Time{}, Lease{}, false
+		e.Credentials, e.Operation = nil, nil
 		if e.State != Gone { // of what is gone, only the last deletion is abandoned
 			e.State, e.Since = Abandoned, now
 		}

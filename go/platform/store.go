@@ -118,6 +118,11 @@ type Store interface {
 	// time. due is zero if none is.
 	NextDue(ctx context.Context, brokers []string) (due, now time.Time, err error)
 
+	// OldestDue returns since when the row is due that waits for longest, of all brokers, and the Store's time: since
+	// Entry.DueSince, or since Entry.Due. due is later than now if nothing waits yet, and zero if all rows rest. What
+	// is leased counts by Entry.DueSince, or once the lease is over.
+	OldestDue(ctx context.Context) (due, now time.Time, err error)
+
 	// Brokers returns all brokers, by name.
 	Brokers(ctx context.Context) ([]Broker, error)
 
@@ -163,6 +168,8 @@ var (
 	ErrUsed = errors.New("it is used already")
 	// ErrUnknown reports that there is no such row. Nothing was written.
 	ErrUnknown = errors.New("it is unknown")
+	// ErrNoStore reports that a database or a file has no store. Nothing was created.
+	ErrNoStore = errors.New("there is no store")
 	// ErrAway reports that the database can't be reached for now. Nobody knows whether a change is written.
 	ErrAway = errors.New("the store is away")
 )

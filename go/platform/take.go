@@ -53,6 +53,7 @@ func taken(now time.Time, held Held, s sending, heard hearing) (*Change, error) 
 		e.Failure, e.Passing, e.After = e.Last, heard.isPassing(), atMostAnHour(heard.RetryAfter)
 	}
 	e.schedule(now, s, heard.RetryAfter)
+	e.putOff(s, heard.Incoming)
 	change := &Change{Entry: e, WakeInstance: e.Key.IsBinding && e.State == Gone}
 	if e.State == Gone {
 		change.Next, err = nextTry(now, e, t)
@@ -142,6 +143,21 @@ func (e *Entry) schedule(now time.Time, s sending, named time.Duration) {
 	}
 }
 
+// putOff notes since when a row is due whose request the broker hasn't taken up. A row that waits for the hold isn't
+// due.
+func (e *Entry) putOff(s sending, in Incoming) {
+	e.DueSince = time.Time{}
+	if !in.isTakenUp() && !e.Rests() && !e.Due.Equal(e.heldUntil(s.terms)) {
+		e.DueSince = s.since
+	}
+}
+
+// isTakenUp is whether a broker has taken a request up: an answer is taken, and it is no error of the broker or of what
+// stands before it, and no refusal of the user.
+func (in Incoming) isTakenUp() bool {
+	return in.Lost == nil && !isRefusal(in.Status) && in.Status < http.StatusInternalServerError
+}
+
 // nextTry is the order under another id that follows one that has ended for a passing reason, or nil.
 func nextTry(now time.Time, e Entry, t terms) (*Entry, error) {
 	if e.Key.IsBinding || !e.Passing || e.Removal != NotRemoved || e.Try >= e.Tries {
@@ -219,11 +235,12 @@ func takenLast(now time.Time, e Entry, s sending, heard hearing) *Change {
 	}
 	e.Lease, e.Last = Lease{}, reasonOf(now, heard)
 	if _, isOver := judgeLast(heard.Incoming); isOver {
-		e.HasLast, e.Due, e.Unchanged = false, time.Time{}, 0
+		e.HasLast, e.Due, e.DueSince, e.Unchanged = false, time.Time{}, time.Time{}, 0
 		return &Change{Entry: e}
 	}
 	e.Unchanged++
 	e.Due = now.Add(s.terms.pace.wait(e.Unchanged, heard.RetryAfter))
+	e.putOff(s, heard.Incoming)
 	return &Change{Entry: e}
 }
 

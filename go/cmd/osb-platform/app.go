@@ -80,12 +80,11 @@ func (a *app) over(
 ) func(*cobra.Command, []string) error {
 	return func(c *cobra.Command, arguments []string) (err error) {
 		ctx := c.Context()
-		if needs != makesStore {
-			if err := a.places.checkStore(); err != nil {
-				return err
-			}
+		open := existingStore
+		if needs == makesStore {
+			open = openStore
 		}
-		store, err := openStore(ctx, a.places.store, 1)
+		store, err := open(ctx, a.places.store, 1)
 		if err != nil {
 			return err
 		}

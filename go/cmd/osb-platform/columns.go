@@ -4,27 +4,25 @@ import (
 	"fmt"
 	"io"
 	"strings"
-
-	"pippinterm/platform"
 )
 
 // A column is one of `list`.
 type column struct {
 	name  string
 	least int // its least width on a terminal
-	cell  func(platform.Entry) string
+	cell  func(placed) string
 }
 
 // columns are those of `list`, in their order. The last one is left out without --reasons. The guide has a table of
 // them (docs/platform-guide.md).
 var columns = []column{
-	{"id", 36, func(e platform.Entry) string { return printable(idOf(e)) }},
-	{"state", 16, func(e platform.Entry) string { return string(e.State) }},
-	{"since", 20, func(e platform.Entry) string { return moment(e.Since) }},
-	{"service", 36, func(e platform.Entry) string { return printable(e.Names.Service) }},
-	{"plan", 36, func(e platform.Entry) string { return printable(e.Names.Plan) }},
-	{"broker", 12, func(e platform.Entry) string { return printable(e.Broker) }},
-	{"reason", 0, reasonOf},
+	{"id", 36, func(p placed) string { return printable(idOf(p.Entry)) }},
+	{"state", 16, func(p placed) string { return string(p.State) }},
+	{"since", 20, func(p placed) string { return moment(p.Since) }},
+	{"service", 36, func(p placed) string { return printable(p.Names.Service) }},
+	{"plan", 36, func(p placed) string { return printable(p.Names.Plan) }},
+	{"broker", 12, func(p placed) string { return printable(p.Broker) }},
+	{"reason", 0, placed.reason},
 }
 
 // shownColumns are the columns with or without the reason.
@@ -50,8 +48,8 @@ func printHead(to io.Writer, of []column) error {
 }
 
 // printRow prints a row: for a terminal below a head, and otherwise with tabs between the columns.
-func printRow(to io.Writer, of []column, e platform.Entry, isAligned bool) error {
-	return printLine(to, of, isAligned, func(it column) string { return it.cell(e) })
+func printRow(to io.Writer, of []column, p placed, isAligned bool) error {
+	return printLine(to, of, isAligned, func(it column) string { return it.cell(p) })
 }
 
 func printLine(to io.Writer, of []column, isAligned bool, text func(column) string) error {

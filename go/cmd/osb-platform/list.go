@@ -30,6 +30,7 @@ type listing struct {
 	state                        string
 	filter                       platform.Filter
 	bindings, reasons, inJSON    bool
+	brokers                      map[string]platform.Broker // by name, if reasons are shown
 	waiting, stuck, unreadable   int
 	oldestWaiting, oldestOfStuck time.Time
 }
@@ -107,8 +108,14 @@ func (l *listing) prepare() error {
 
 // listTo prints the rows. It is no error if the reader of the output has gone, such as head after enough lines.
 func (l *listing) listTo(ctx context.Context, store platform.Store, out io.Writer) error {
+	var err error
+	if l.reasons || l.inJSON {
+		if l.brokers, err = brokersOf(ctx, store); err != nil {
+			return err
+		}
+	}
 	to := bufio.NewWriter(out)
-	err := l.list(ctx, store, to, !l.inJSON && isTerminal(out))
+	err = l.list(ctx, store, to, !l.inJSON && isTerminal(out))
 	if failed := to.Flush(); err == nil {
 		err = failed
 	}
@@ -134,10 +141,11 @@ func (l *listing) list(ctx context.Context, store platform.Store, to io.Writer, 
 		}
 		for _, row := range rows {
 			l.count(row)
+			it := placed{Entry: row, broker: l.brokers[row.Broker]}
 			if l.inJSON {
-				err = printJSON(to, jsonOf(row))
+				err = printJSON(to, jsonOf(it))
 			} else {
-				err = printRow(to, shown, row, isHeaded)
+				err = printRow(to, shown, it, isHeaded)
 			}
 			if err != nil {
 				return err
@@ -183,8 +191,8 @@ func (l *listing) attention() string {
 			"why.\n", counted(l.unreadable, "record"))
 	}
 	if l.waiting > 0 {
-		text += fmt.Sprintf("%d unsettled (oldest: %s). For each, run 'osb-platform show ID', and ask the broker for "+
-			"its last operation. Run 'osb-platform remove ID' if the broker answers 410, or if it answers 200 for "+
+		text += fmt.Sprintf("%d unsettled (oldest: %s). For each, run 'osb-platform ask ID', which asks the broker "+
+			"for its last operation. Run 'osb-platform remove ID' if the broker answers 410, or if it answers 200 for "+
 			"your service and plan and the instance is yours: that deletes it at the broker.\n", l.waiting, moment(l.oldestWaiting))
 	}
 	if l.stuck > 0 {

@@ -63,16 +63,37 @@ func TestListWithoutReader(t *testing.T) {
 
 // A store whose name is misspelt isn't created: the answer would be that there is nothing.
 func TestMissingStore(t *testing.T) {
-	key := newKey(t)
-	for _, arguments := range []string{
-		"list", "show one", "create --plan small", "bind one", "remove one", "unbind one/two", "retry one",
-		"abandon one --because it", "credentials one/two", "broker list", "broker show shop", "broker set shop --hold 1",
-		"broker drop shop", "rekey --key-file " + key + " --new-key-file " + newKey(t),
-	} {
+	for _, arguments := range ofExistingStores(t) {
 		store := filepath.Join(t.TempDir(), "folder", "store")
-		check(t, store, []line{{arguments, 2, ``, `osb-platform: there is no store .*/store: name the right one .*`}})
+		check(t, store, []line{{arguments, 2, ``, noStore}})
 		if _, err := os.Stat(filepath.Dir(store)); !os.IsNotExist(err) {
 			t.Errorf("%s: there is a folder for it now: %v", arguments, err)
 		}
+	}
+}
+
+// noStore is what a command says whose store doesn't exist.
+const noStore = `osb-platform: there is no store [^ ]*: name the right one with --store or in OSB_PLATFORM_STORE\. ` +
+	`'osb-platform broker add' and 'osb-platform run' create a new one`
+
+// ofExistingStores are the commands that create no store.
+func ofExistingStores(t *testing.T) []string {
+	key := newKey(t)
+	return []string{
+		"list", "show one", "create --plan small", "bind one", "remove one", "unbind one/two", "retry one",
+		"abandon one --because it", "credentials one/two", "broker list", "broker show shop",
+		"broker set shop --hold 1", "broker drop shop", "rekey --key-file " + key + " --new-key-file " + newKey(t),
+	}
+}
+
+// An empty file is no store either, and stays empty.
+func TestEmptyFile(t *testing.T) {
+	store := filepath.Join(t.TempDir(), "store")
+	write(t, store, "")
+	for _, arguments := range ofExistingStores(t) {
+		check(t, store, []line{{arguments, 2, ``, noStore}})
+	}
+	if about, err := os.Stat(store); err != nil || about.Size() != 0 {
+		t.Errorf("the file: %v, %v", about, err)
 	}
 }

@@ -24,7 +24,7 @@ const environment = `
 environment:
   OSB_PLATFORM_STORE     the store, if --store isn't given
   OSB_PLATFORM_KEY_FILE  the file with the key, if --key-file isn't given
-  OSB_PLATFORM_PASSWORD  the password at a broker, for 'run --broker URL' and for
+  OSB_PLATFORM_PASSWORD  the password at a broker, for 'run --broker URL', 'ask' and
                          --store-password
   PGPASSWORD, PGPASSFILE and PostgreSQL's other variables: how its server is reached. A URL
                          must not have a password
@@ -63,7 +63,7 @@ docs/platform-guide.md says how to run it.
 		}
 	}
 	add("orders", createCommand(a), bindCommand(a), unbindCommand(a), credentialsCommand(a), removeCommand(a),
-		retryCommand(a), abandonCommand(a), listCommand(a), showCommand(a))
+		askCommand(a), retryCommand(a), abandonCommand(a), listCommand(a), showCommand(a))
 	add("run", brokerCommand(a), runCommand(a), serveCommand(a), keyCommand(), rekeyCommand(a))
 	root.SetHelpCommandGroupID("run")
 	root.SetCompletionCommandGroupID("run")

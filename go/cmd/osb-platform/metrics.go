@@ -169,12 +169,13 @@ const (
 	mostTime = 5 * time.Second // how long the store may take to count
 )
 
-// A storeCollector has the counts of a store. If the store fails, only store_up is sent.
+// A storeCollector has the counts of a store. If the store fails, only store_up is sent, and oldest_due_seconds by what
+// was read last.
 //
 //	osb_platform_records{broker,kind,state}   instances and bindings in each state
 //	osb_platform_unsettled                    those that are unsettled
 //	osb_platform_oldest_unsettled_seconds     for how long the oldest of them is, or 0
-//	osb_platform_oldest_due_seconds           for how long a row is due that nobody has begun, or 0
+//	osb_platform_oldest_due_seconds           for how long the oldest row is due that isn't carried out, or 0
 //	osb_platform_store_up                     1, or 0 if the store fails
 type storeCollector struct {
 	ctx   context.Context // Collect has none
@@ -184,16 +185,25 @@ type storeCollector struct {
 	up, records, unsettled, oldest, due *prometheus.Desc
 
 	mutex  sync.Mutex // is held while the store is asked
-	at     time.Time
-	counts counts
-	err    error
+	at     time.Time  // when the store was asked last
+	readAt time.Time  // when it has answered last; zero before
+	counts counts     // what it has answered last
+	err    error      // of the last time that it was asked
 }
 
 // Counts are what a store was asked for.
 type counts struct {
 	rows []platform.Count
-	late time.Duration // for how long the longest due row is due
-	now  time.Time     // the store's time
+	due  time.Time // since when the oldest row is due, or will be; zero if none is
+	now  time.Time // the store's time
+}
+
+// late is for how long the oldest row is due once so much time has passed.
+func (c counts) late(passed time.Duration) time.Duration {
+	if late := c.now.Add(passed).Sub(c.due); !c.due.IsZero() && late > 0 {
+		return late
+	}
+	return 0
 }
 
 func newStoreCollector(ctx context.Context, store platform.Store) *storeCollector {
@@ -206,7 +216,7 @@ func newStoreCollector(ctx context.Context, store platform.Store) *storeCollecto
 		records:   describe("records", "Instances and bindings in each state.", "broker", "kind", "state"),
 		unsettled: describe("unsettled", "Instances and bindings that are unsettled."),
 		oldest:    describe("oldest_unsettled_seconds", "For how long the oldest of them is, or 0."),
-		due:       describe("oldest_due_seconds", "For how long a row is due that nobody has begun, or 0."),
+		due:       describe("oldest_due_seconds", "For how long the oldest row is due that isn't carried out, or 0."),
 	}
 }
 
@@ -219,9 +229,12 @@ func (c *storeCollector) Describe(to chan<- *prometheus.Desc) {
 
 // Collect sends the counts.
 func (c *storeCollector) Collect(to chan<- prometheus.Metric) {
-	found, err := c.ask()
+	found, passed, err := c.ask()
 	send := func(desc *prometheus.Desc, value float64, labels ...string) {
 		to <- prometheus.MustNewConstMetric(desc, prometheus.GaugeValue, value, labels...)
+	}
+	if !found.now.IsZero() {
+		send(c.due, found.late(passed).Seconds())
 	}
 	if err != nil {
 		send(c.up, 0)
@@ -241,7 +254,6 @@ func (c *storeCollector) Collect(to chan<- prometheus.Metric) {
 	}
 	send(c.unsettled, float64(unsettled))
 	send(c.oldest, oldest.Seconds())
-	send(c.due, found.late.Seconds())
 }
 
 func kindOf(isBinding bool) string {
@@ -251,35 +263,26 @@ func kindOf(isBinding bool) string {
 	return "instance"
 }
 
-// ask returns counts that are at most keptFor old.
-func (c *storeCollector) ask() (counts, error) {
+// ask returns counts, and for how long they are old: at most keptFor. If the store fails, the error says why, and the
+// counts are those that were read last, however old they are.
+func (c *storeCollector) ask() (found counts, passed time.Duration, err error) {
 	c.mutex.Lock()
 	defer c.mutex.Unlock()
 	if c.at.IsZero() || c.now().Sub(c.at) >= keptFor {
 		ctx, cancel := context.WithTimeout(c.ctx, mostTime)
 		defer cancel()
-		c.counts, c.err = countsOf(ctx, c.store)
 		c.at = c.now()
+		if found, c.err = countsOf(ctx, c.store); c.err == nil {
+			c.counts, c.readAt = found, c.now()
+		}
 	}
-	return c.counts, c.err
+	return c.counts, c.now().Sub(c.readAt), c.err
 }
 
 func countsOf(ctx context.Context, store platform.Store) (found counts, err error) {
 	if found.rows, err = store.Counts(ctx); err != nil {
 		return found, err
 	}
-	brokers, err := store.Brokers(ctx)
-	if err != nil {
-		return found, err
-	}
-	names := make([]string, len(brokers))
-	for at, it := range brokers {
-		names[at] = it.Name
-	}
-	due, now, err := store.NextDue(ctx, names)
-	found.now = now
-	if err == nil && !due.IsZero() && now.After(due) {
-		found.late = now.Sub(due)
-	}
+	found.due, found.now, err = store.OldestDue(ctx)
 	return found, err
 }

@@ -65,6 +65,7 @@ func TestLogObserver(t *testing.T) {
 // A countStore has counts, and may fail.
 type countStore struct {
 	platform.Store
+	due time.Time
 	err error
 }
 
@@ -75,19 +76,12 @@ func (s *countStore) Counts(context.Context) ([]platform.Count, error) {
 	}, s.err
 }
 
-func (s *countStore) Brokers(context.Context) ([]platform.Broker, error) {
-	return []platform.Broker{{Name: "shop"}}, s.err
-}
-
-func (s *countStore) NextDue(_ context.Context, brokers []string) (due, now time.Time, err error) {
-	if fmt.Sprint(brokers) != "[shop]" {
-		return due, now, errors.New("no brokers")
-	}
-	return time.Unix(93, 0), time.Unix(100, 0), s.err
+func (s *countStore) OldestDue(context.Context) (due, now time.Time, err error) {
+	return s.due, time.Unix(100, 0), s.err
 }
 
 func TestMetrics(t *testing.T) {
-	m, store := newMetrics(func() uint64 { return 5 }), &countStore{}
+	m, store := newMetrics(func() uint64 { return 5 }), &countStore{due: time.Unix(93, 0)}
 	m.addStore(context.Background(), store)
 	happened(m)
 	for n := 0; n < mostNames+10; n++ {
@@ -108,11 +102,14 @@ func TestMetrics(t *testing.T) {
 		"leases_lost_total 1", `orphans_total{result="found"} 1`, `orphans_total{result="unknown"} 1`,
 		"log_lines_dropped_total 5", `records{broker="shop",kind="instance",state="unsettled"} 2`,
 		`records{broker="shop",kind="binding",state="ready"} 3`, "unsettled 2", "oldest_unsettled_seconds 60",
-		"oldest_due_seconds 7", "store_up 1",
+		"store_up 1",
 	} {
 		if !strings.Contains(text, "\n"+prefix+want+"\n") {
 			t.Errorf("%s isn't in %s", want, text)
 		}
+	}
+	if !strings.Contains(text, "\n"+prefix+"oldest_due_seconds 7") { // and some microseconds
+		t.Error(text)
 	}
 	if strings.Contains(text, `status="201",error=`) || strings.Contains(text, "its own") {
 		t.Error(text)
@@ -124,9 +121,39 @@ func TestMetricsWithoutStore(t *testing.T) {
 	m := newMetrics(func() uint64 { return 0 })
 	m.addStore(context.Background(), &countStore{err: platform.ErrAway})
 	text := textOfMetrics(t, m)
-	if !strings.Contains(text, "\n"+prefix+"store_up 0\n") || strings.Contains(text, prefix+"records") {
+	if !strings.Contains(text, "\n"+prefix+"store_up 0\n") || strings.Contains(text, prefix+"records") ||
+		strings.Contains(text, prefix+"oldest_due_seconds") {
 		t.Error(text)
 	}
+}
+
+// For how long the oldest row is due grows between two readings, and while the store is away.
+func TestOldestDue(t *testing.T) {
+	clock, store := time.Unix(1_000_000, 0), &countStore{due: time.Unix(103, 0)}
+	collector := newStoreCollector(context.Background(), store)
+	collector.now = func() time.Time { return clock }
+	m := newMetrics(func() uint64 { return 0 })
+	m.registry.MustRegister(collector)
+	want := func(what, seconds string) {
+		t.Helper()
+		if text := textOfMetrics(t, m); !strings.Contains(text, "\n"+prefix+"oldest_due_seconds "+seconds+"\n") {
+			t.Errorf("%s: %s", what, text)
+		}
+	}
+	want("before it is due", "0")
+	clock = clock.Add(4 * time.Second)
+	want("once it is due", "1")
+	store.err = platform.ErrAway
+	clock = clock.Add(time.Hour)
+	want("an hour after the last reading", "3601")
+	clock = clock.Add(time.Hour)
+	want("another hour later", "7201")
+	store.err, store.due = nil, time.Time{}
+	clock = clock.Add(time.Minute)
+	want("when nothing is due", "0")
+	store.err = platform.ErrAway
+	clock = clock.Add(time.Hour)
+	want("when nothing was due", "0")
 }
 
 func textOfMetrics(t *testing.T, m *metrics) string {

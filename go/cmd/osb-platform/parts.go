@@ -2,6 +2,9 @@ package main
 
 import (
 	"context"
+	"crypto/rand"
+	"crypto/sha256"
+	"encoding/hex"
 	"errors"
 	"fmt"
 	"net"
@@ -10,6 +13,7 @@ import (
 
 	"pippinterm/platform"
 	"pippinterm/platform/api"
+	"pippinterm/platform/api/apiclient"
 	"pippinterm/platform/page"
 	"pippinterm/platform/vault"
 	"pippinterm/program"
@@ -90,8 +94,12 @@ func (r *running) page() (http.Handler, error) {
 	if options.Host, _, err = net.SplitHostPort(s.page); err != nil {
 		return nil, err
 	}
+	reader, err := r.pageReader()
+	if err != nil {
+		return nil, err
+	}
 	if s.pageUsers == "" {
-		return page.NewHandler(r.store, options)
+		return page.NewHandler(reader, options)
 	}
 	options.Limiter = limiter.New()
 	return r.reloadable("users_reloaded", "users_not_reloaded", func() (http.Handler, error) {
@@ -101,7 +109,32 @@ func (r *running) page() (http.Handler, error) {
 		}
 		with := options
 		with.Users = users
-		return page.NewHandler(r.store, with)
+		return page.NewHandler(reader, with)
+	})
+}
+
+// pageReader is the API as the page asks it: another one than that of --api, which is called in this process. Its only
+// token may only read, and nobody else knows it. So the page works without --api, and neither keeps the other waiting.
+// A request is logged only if the store has failed.
+func (r *running) pageReader() (*apiclient.Client, error) {
+	random := make([]byte, 32)
+	if _, err := rand.Read(random); err != nil {
+		return nil, err
+	}
+	token := hex.EncodeToString(random)
+	handler, err := api.NewHandler(platform.NewOrders(r.store, nil), r.store, api.Options{
+		Tokens: []api.Token{{Name: "page", Permissions: api.Read, Digest: sha256.Sum256([]byte(token))}},
+		Observe: func(of api.Exchange) {
+			if of.Err != nil {
+				r.log.apiRequest(of)
+			}
+		},
+	})
+	if err != nil {
+		return nil, err
+	}
+	return apiclient.New(apiclient.Options{
+		URL: "http://api.invalid", Token: token, Transport: apiclient.Local(handler), // no such host is asked
 	})
 }
 

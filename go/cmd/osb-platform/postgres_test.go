@@ -246,3 +246,29 @@ func TestStatusOfPostgreSQL(t *testing.T) {
 		}
 	}
 }
+
+// An empty database is no store. A command that only reads or orders creates nothing there, and 'broker add' creates
+// the store.
+func TestEmptyDatabase(t *testing.T) {
+	const schema = "osb_program_empty"
+	_, address, environment := newWire(t, schema)
+	for _, it := range environment {
+		name, value, _ := strings.Cut(it, "=")
+		t.Setenv(name, value)
+	}
+	t.Setenv(passwordVariable, "")
+	for _, arguments := range ofExistingStores(t) {
+		check(t, address, []line{{arguments, 2, ``, noStore}})
+	}
+	var relations int
+	query := "SELECT count(*) FROM pg_class WHERE relnamespace = '" + schema + "'::regnamespace"
+	if err := pgtest.DB(t, pgtest.URL(t)).QueryRow(query).Scan(&relations); err != nil || relations != 0 {
+		t.Errorf("%d relations are there: %v", relations, err)
+	}
+	password := filepath.Join(t.TempDir(), "password")
+	write(t, password, "secret")
+	check(t, address, []line{
+		{"broker add shop http://127.0.0.1:1 --password-file " + password, 0, ``, `.*asks for the catalogue again`},
+		{"list", 0, ``, ``},
+	})
+}

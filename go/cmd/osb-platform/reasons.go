@@ -1,6 +1,7 @@
 package main
 
 import (
+	"context"
 	"fmt"
 	"net/http"
 	"strconv"
@@ -20,6 +21,43 @@ func reasonOf(e platform.Entry) string {
 		return textOf(e.Failure)
 	}
 	return textOf(e.Last)
+}
+
+// A placed is a row with its broker.
+type placed struct {
+	platform.Entry
+	broker platform.Broker
+}
+
+// reason is why a row is as it is, in one line, or empty. If the row says nothing, it is the reason of its broker,
+// marked as such.
+func (p placed) reason() string {
+	text := reasonOf(p.Entry)
+	if of := textOf(p.brokerReason()); text == "" && of != "" {
+		return "broker: " + of
+	}
+	return text
+}
+
+// brokerReason is why the broker hasn't answered its catalogue, if something is to be sent for the row.
+func (p placed) brokerReason() platform.Reason {
+	if p.Rests() {
+		return platform.Reason{}
+	}
+	return p.broker.Reason
+}
+
+// brokersOf are the brokers of a store, by their names.
+func brokersOf(ctx context.Context, store platform.Store) (map[string]platform.Broker, error) {
+	all, err := store.Brokers(ctx)
+	if err != nil {
+		return nil, err
+	}
+	byName := map[string]platform.Broker{}
+	for _, it := range all {
+		byName[it.Name] = it
+	}
+	return byName, nil
 }
 
 // unreadable is why a row can't be read, in one line, or empty.

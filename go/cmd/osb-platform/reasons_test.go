@@ -2,6 +2,7 @@ package main
 
 import (
 	"testing"
+	"time"
 
 	"pippinterm/osb"
 	"pippinterm/platform"
@@ -36,6 +37,27 @@ func TestReasons(t *testing.T) {
 	}
 }
 
+// The reason of a broker counts for a row that says nothing itself, while something is to be sent for it.
+func TestReasonOfBroker(t *testing.T) {
+	away := platform.Broker{Name: "shop", Reason: platform.Reason{Kind: "catalogue", Lost: "connection \x1b refused"}}
+	due := platform.Entry{State: platform.Ordered, Due: time.Unix(1, 0)}
+	polled, ready := due, platform.Entry{State: platform.Ready}
+	polled.Last = platform.Reason{Kind: "poll", Status: 200}
+	for _, it := range []struct {
+		of          placed
+		want, facts string
+	}{
+		{placed{due, away}, `broker: "connection \x1b refused"`, `"connection \x1b refused"`},
+		{placed{polled, away}, "poll 200", `"connection \x1b refused"`},
+		{placed{due, platform.Broker{}}, "", ""},
+		{placed{ready, away}, "", ""},
+	} {
+		if got, facts := it.of.reason(), textOf(it.of.brokerReason()); got != it.want || facts != it.facts {
+			t.Errorf("%s: %q, %q", it.of.State, got, facts)
+		}
+	}
+}
+
 // The first 401 of a broker is in the list, in `--wait` and in the list of brokers.
 func TestRejectedPassword(t *testing.T) {
 	s, store := newSite(t), newStore(t)
@@ -50,12 +72,21 @@ func TestRejectedPassword(t *testing.T) {
 		{"create --plan at-once --id two --wait=0.1", 4, `two`,
 			`ordered two\nosb-platform: two is still ordered: the broker default rejects the user or the password \(401\).*`},
 		{"broker list", 0, "default\t.*\tthe broker default rejects the user or the password \\(401\\).*", ``},
+		{"list --reasons --state ordered", 0,
+			"two\tordered\t.*\tbroker: the broker default rejects the user or the password \\(401\\).*", ``},
+		{"list --json --state ordered", 0,
+			`{.*"broker_reason":{"at":"[^"]*","kind":"catalogue","status":401,"lost":"the broker .*`, ``},
+		{"show two", 0,
+			"id\ttwo\nstate\tordered\n.*\nbroker's reason\t" + since + " the broker default rejects the .*", ``},
+		{"show two --json", 0, `{.*"broker_reason":{.*`, ``},
 	})
 	s.setPassword("secret")
 	p.event("broker_reached")
 	check(t, store, []line{
 		{"remove one --wait=60", 0, ``, `one is gone`},
 		{"show one", 0, ".*\nfailure\t.* provision 401: .*", ``}, // it had one try
+		{"create --plan at-once --id three --wait=60", 0, `three`, `ordered three`},
+		{"list --reasons --state ready", 0, "(t[^\t]*\tready\t[^\n]*\tprovision 201\n?){2}", ``},
 	})
 	p.stop()
 }

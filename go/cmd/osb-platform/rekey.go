@@ -58,10 +58,7 @@ func rekey(ctx context.Context, p places, file string, to io.Writer, warn func(s
 	for _, it := range warnings {
 		warn(it)
 	}
-	if err := p.checkStore(); err != nil {
-		return err
-	}
-	store, err := openStore(ctx, p.store, rekeySessions)
+	store, err := existingStore(ctx, p.store, rekeySessions)
 	if err != nil {
 		return err
 	}

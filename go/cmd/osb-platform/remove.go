@@ -135,7 +135,8 @@ func retryCommand(a *app) *cobra.Command {
 		Use:   "retry ID",
 		Short: "Send at once what is due later, and a deletion again that is polled without an end",
 		Long: `Send the next request of an instance or a binding at once. If the broker has accepted a deletion,
-and polling it doesn't end, the deletion is sent again.`,
+and polling it doesn't end, the deletion is sent again. For what is unsettled nothing is sent: 'ask' says which command
+leads on.`,
 		Example: `  osb-platform retry 5f1b7c0e-2f0b-4d0a-9d3e-6a3f0e1f2a3b`,
 		Args:    wants("ID"),
 		RunE: a.over(needsStore, func(ctx context.Context, _ *cobra.Command, s session, arguments []string) error {
@@ -144,9 +145,24 @@ and polling it doesn't end, the deletion is sent again.`,
 				return err
 			}
 			_, err = s.orders.Retry(ctx, entry.Key)
-			return err
+			return undecided(err, entry)
 		}),
 	}
+}
+
+// undecided names the commands that lead on from a row that is unsettled, if that is why it can't be retried.
+func undecided(err error, before platform.Entry) error {
+	var fault *platform.Fault
+	if !errors.As(err, &fault) || before.State != platform.Unsettled {
+		return err
+	}
+	id, remove := printable(idOf(before)), "remove"
+	if before.Key.IsBinding {
+		remove = "unbind"
+	}
+	text := fmt.Sprintf("%s. Run 'osb-platform ask %s', and then 'osb-platform %s %s' or 'osb-platform abandon %s "+
+		"--because TEXT'", fault.Text, id, remove, id, id)
+	return &platform.Fault{Kind: fault.Kind, Text: text}
 }
 
 // abandonCommand ends a record that nothing else ends.

@@ -90,3 +90,12 @@ func TestRemoveWhileTriedAgain(t *testing.T) {
 		return err
 	})
 }
+
+// Bindings aren't the reason why what is abandoned can't be removed.
+func TestRemoveAbandoned(t *testing.T) {
+	store := newUnsettled(t, newSite(t), "one")
+	check(t, store, []line{
+		{"abandon one --because it", 0, ``, ``},
+		{"remove one", 1, ``, `osb-platform: the instance one is abandoned: nothing is sent any more`},
+	})
+}

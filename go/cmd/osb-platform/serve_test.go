@@ -2,6 +2,7 @@ package main
 
 import (
 	"bytes"
+	"context"
 	"crypto/ecdsa"
 	"crypto/elliptic"
 	"crypto/rand"
@@ -20,11 +21,13 @@ import (
 	"path/filepath"
 	"regexp"
 	"strings"
+	"sync"
 	"syscall"
 	"testing"
 	"time"
 
 	"pippinterm/platform"
+	"pippinterm/platform/sqlite"
 	"pippinterm/program/logs"
 )
 
@@ -339,31 +342,36 @@ func TestFiles(t *testing.T) {
 	}
 }
 
-// If the store fails, the page and the API say only that, and the log has why.
-func TestServedStoreFails(t *testing.T) {
-	var written bytes.Buffer
+// servingOver serves the page, at platform.example too, and the API over a store, once they are made.
+func servingOver(t *testing.T, store platform.Store, log io.Writer) *running {
+	t.Helper()
 	r := &running{
 		settings: &runSettings{sites: siteSettings{
 			page: "127.0.0.1:0", pageHosts: []string{"platform.example"}, api: "127.0.0.1:0", apiTokens: newTokens(t),
 		}},
-		log: eventLog{logger: logs.New(&written)}, store: &countStore{err: platform.ErrAway},
+		log: eventLog{logger: logs.New(log)}, store: store,
 	}
 	r.observer = observers{logObserver{eventLog: r.log}}
+	return r
+}
+
+// If the store fails, the page and the API say only that, and the log has why.
+func TestServedStoreFails(t *testing.T) {
+	var written bytes.Buffer
+	r := servingOver(t, &countStore{err: platform.ErrAway}, &written)
 	for target, it := range map[string]struct {
 		make func() (http.Handler, error)
 		log  string
 	}{
-		"/?still=1":  {r.page, `"level":"error","event":"page_failed","error":".+"`},
+		"/?still=1": {r.page, `"error","event":"api_request","token":"page",.*"error":"the store is away"(.|\n)*` +
+			`"error","event":"page_failed","error":"GET /v1/counts: status 503, store_away`},
 		"/v1/counts": {r.api, `"level":"error","event":"api_request",.*"status":503,.*"error":"the store is away"`},
 	} {
 		handler, err := it.make()
 		if err != nil {
 			t.Fatal(err)
 		}
-		request := httptest.NewRequest("GET", "http://platform.example"+target, nil)
-		request.Header.Set("Authorization", "Bearer "+token)
-		recorder := httptest.NewRecorder()
-		handler.ServeHTTP(recorder, request)
+		recorder := answerOf(handler, target)
 		if recorder.Code != 503 || strings.Contains(recorder.Body.String(), "is away") {
 			t.Errorf("%s: %d %s", target, recorder.Code, recorder.Body)
 		}
@@ -371,4 +379,86 @@ func TestServedStoreFails(t *testing.T) {
 			t.Errorf("%s: the log: %s", target, written.String())
 		}
 	}
+}
+
+// answerOf is what a handler answers at platform.example, to whoever has the token.
+func answerOf(of http.Handler, target string) *httptest.ResponseRecorder {
+	request, recorder := httptest.NewRequest("GET", "http://platform.example"+target, nil), httptest.NewRecorder()
+	request.Header.Set("Authorization", "Bearer "+token)
+	of.ServeHTTP(recorder, request)
+	return recorder
+}
+
+// A lockedStore lists bindings only once it is let go.
+type lockedStore struct {
+	platform.Store
+	listing chan struct{} // gets a value for each list that waits
+	letGo   chan struct{}
+}
+
+func (s *lockedStore) List(ctx context.Context, filter platform.Filter) ([]platform.Entry, error) {
+	if filter.Bindings != nil && *filter.Bindings {
+		s.listing <- struct{}{}
+		<-s.letGo
+	}
+	return s.Store.List(ctx, filter)
+}
+
+// A lockedBuffer is a buffer that several goroutines write to.
+type lockedBuffer struct {
+	mutex sync.Mutex
+	text  bytes.Buffer
+}
+
+func (b *lockedBuffer) Write(text []byte) (int, error) {
+	b.mutex.Lock()
+	defer b.mutex.Unlock()
+	return b.text.Write(text)
+}
+
+func (b *lockedBuffer) String() string {
+	b.mutex.Lock()
+	defer b.mutex.Unlock()
+	return b.text.String()
+}
+
+// While the API carries out all that it may at once, the page goes on: it asks an API of its own. What it asks isn't in
+// the log.
+func TestPageBesideBusyAPI(t *testing.T) {
+	file, err := sqlite.Open(context.Background(), filepath.Join(t.TempDir(), "store"))
+	if err != nil {
+		t.Fatal(err)
+	}
+	defer file.Close()
+	written := &lockedBuffer{}
+	store := &lockedStore{Store: file, listing: make(chan struct{}), letGo: make(chan struct{})}
+	r := servingOver(t, store, written)
+	api, err := r.api()
+	if err != nil {
+		t.Fatal(err)
+	}
+	page, err := r.page()
+	if err != nil {
+		t.Fatal(err)
+	}
+	const atOnce = 64 // of the API
+	var all sync.WaitGroup
+	for n := 0; n < atOnce; n++ {
+		all.Add(1)
+		go func() {
+			defer all.Done()
+			if got := answerOf(api, "/v1/bindings"); got.Code != 200 {
+				t.Errorf("the API: %d %s", got.Code, got.Body)
+			}
+		}()
+		<-store.listing
+	}
+	if got := answerOf(page, "/"); got.Code != 200 || !strings.Contains(got.Body.String(), "0 instances") {
+		t.Errorf("the page: %d %s", got.Code, got.Body)
+	}
+	if text := written.String(); text != "" {
+		t.Errorf("the log: %s", text)
+	}
+	close(store.letGo)
+	all.Wait()
 }

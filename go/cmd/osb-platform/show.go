@@ -44,9 +44,10 @@ credentials aren't shown.`,
 
 // A whole is a row with its life and the tries of its order.
 type whole struct {
-	entry platform.Entry
-	life  []platform.Stay
-	tries []platform.Entry
+	entry  platform.Entry
+	broker platform.Broker // the zero Broker if it is unknown
+	life   []platform.Stay
+	tries  []platform.Entry
 }
 
 func readWhole(ctx context.Context, store platform.Store, id string) (whole, error) {
@@ -58,8 +59,12 @@ func readWhole(ctx context.Context, store platform.Store, id string) (whole, err
 	if err != nil {
 		return whole{}, err
 	}
+	brokers, err := brokersOf(ctx, store)
+	if err != nil {
+		return whole{}, err
+	}
 	tries, err := triesOf(ctx, store, entry)
-	return whole{entry: entry, life: life, tries: tries}, err
+	return whole{entry: entry, broker: brokers[entry.Broker], life: life, tries: tries}, err
 }
 
 // asked are the texts of what an operator has asked for.
@@ -102,6 +107,7 @@ func (w whole) facts() [][2]string {
 	add("dashboard", printable(e.Dashboard))
 	add("metadata", printable(string(e.Metadata)))
 	add("last reason", at(e.Last))
+	add("broker's reason", at(placed{e, w.broker}.brokerReason()))
 	add("failure", at(e.Failure))
 	add("abandoned because", printable(e.Because))
 	if len(w.tries) > 1 {
@@ -150,6 +156,7 @@ type row struct {
 	LeasedUntil  *time.Time       `json:"leased_until,omitempty"`
 	Last         *platform.Reason `json:"last_reason,omitempty"`
 	Failure      *platform.Reason `json:"failure,omitempty"`
+	BrokerReason *platform.Reason `json:"broker_reason,omitempty"`
 	Because      string           `json:"abandoned_because,omitempty"`
 	Unreadable   string           `json:"unreadable,omitempty"`
 	Dashboard    string           `json:"dashboard_url,omitempty"`
@@ -158,13 +165,14 @@ type row struct {
 	Tries        int              `json:"tries"`
 }
 
-func jsonOf(e platform.Entry) row {
+func jsonOf(e placed) row {
 	return row{
-		ID: idOf(e), Instance: e.Names.Instance, Binding: e.Names.Binding, State: e.State, Since: e.Since.UTC(),
+		ID: idOf(e.Entry), Instance: e.Names.Instance, Binding: e.Names.Binding, State: e.State, Since: e.Since.UTC(),
 		Broker: e.Broker, Service: e.Names.Service, Plan: e.Names.Plan, Organization: e.Organization, Space: e.Space,
 		Asked: asked[e.Removal], Due: timeOf(e.Due), PolledSince: timeOf(e.PolledSince), Operation: e.Operation,
 		Worker: e.Lease.Worker, LeasedUntil: timeOf(e.Lease.Until), Last: reason(e.Last), Failure: reason(e.Failure),
-		Because: e.Because, Unreadable: e.Unreadable, Dashboard: e.Dashboard, Metadata: e.Metadata, Try: e.Try, Tries: e.Tries,
+		BrokerReason: reason(e.brokerReason()), Because: e.Because, Unreadable: e.Unreadable, Dashboard: e.Dashboard,
+		Metadata: e.Metadata, Try: e.Try, Tries: e.Tries,
 	}
 }
 
@@ -201,7 +209,7 @@ type try struct {
 }
 
 func (w whole) json() wholeRow {
-	made := wholeRow{row: jsonOf(w.entry), Life: []stay{}, Chain: []try{}}
+	made := wholeRow{row: jsonOf(placed{w.entry, w.broker}), Life: []stay{}, Chain: []try{}}
 	for _, it := range w.life {
 		made.Life = append(made.Life, stay{State: it.State, Since: it.Since.UTC()})
 	}

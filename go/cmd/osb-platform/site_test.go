@@ -25,6 +25,7 @@ type site struct {
 	instead []int         // statuses with which the next requests are answered, in place of the broker's answers
 	held    chan struct{} // if it isn't nil, answers about instances and bindings wait until it is closed
 	asked   int           // requests about instances and bindings
+	seen    []string      // their methods and targets
 	// password is the one that is accepted, and refused is how many requests about instances and bindings had another.
 	password string
 	refused  int
@@ -142,6 +143,13 @@ func (s *site) requests() int {
 	return s.asked
 }
 
+// since returns the methods and the targets of all requests about instances and bindings but the first.
+func (s *site) since(first int) []string {
+	s.mutex.Lock()
+	defer s.mutex.Unlock()
+	return append([]string(nil), s.seen[first:]...)
+}
+
 // await waits for so many requests about instances and bindings.
 func (s *site) await(t *testing.T, count int) {
 	t.Helper()
@@ -169,6 +177,7 @@ func (s *site) before(next http.Handler) http.Handler {
 		}
 		s.mutex.Lock()
 		s.asked++
+		s.seen = append(s.seen, r.Method+" "+r.URL.RequestURI())
 		if !isAdmitted {
 			s.refused++
 		}

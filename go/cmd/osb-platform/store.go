@@ -72,39 +72,63 @@ func (p *places) keys() []string {
 	return []string{standardKey()}
 }
 
-// checkStore returns an error if the store is a file that doesn't exist. A command that only reads or orders would
-// otherwise create it, and answer from an empty store if its name is misspelt.
-func (p *places) checkStore() error {
-	if pgsession.IsAddress(p.store) {
-		return nil
+// existingStore is openStore of a store that exists. It creates none. A command that only reads or orders would
+// otherwise answer from an empty store if the name of the store is misspelt.
+func existingStore(ctx context.Context, place string, most int) (platform.Store, error) {
+	if !pgsession.IsAddress(place) {
+		store, err := sqlite.OpenExisting(ctx, place)
+		if err != nil {
+			return nil, missing(place, err, ofFile)
+		}
+		return store, nil
 	}
-	if _, err := os.Stat(p.store); errors.Is(err, fs.ErrNotExist) {
-		return program.Unusable(fmt.Errorf("there is no store %s: name the right one with --store or in %s. "+
-			"'osb-platform broker add' and 'osb-platform run' create a new one", p.store, storeVariable))
+	if err := checkAddress(place); err != nil {
+		return nil, err
 	}
-	return nil
+	store, err := postgres.OpenExisting(ctx, place, most)
+	if err != nil {
+		return nil, missing(place, err, away)
+	}
+	return store, nil
 }
 
-// openStore opens the store, with so many connections at most.
+// missing is the error of a store that doesn't exist, or what other makes of any other error.
+func missing(place string, err error, other func(error) error) error {
+	if !errors.Is(err, platform.ErrNoStore) {
+		return other(err)
+	}
+	return program.Unusable(fmt.Errorf("there is no store %s: name the right one with --store or in %s. "+
+		"'osb-platform broker add' and 'osb-platform run' create a new one", place, storeVariable))
+}
+
+// openStore opens the store, with so many connections at most, and creates it if there is none.
 //
 // Errors: program.Unusable for what an operator has to change, and program.Unavailable for a server that is away.
 func openStore(ctx context.Context, place string, most int) (platform.Store, error) {
 	if !pgsession.IsAddress(place) {
 		return openFile(ctx, place)
 	}
-	has, err := pgsession.HasPassword(place)
-	if err != nil {
-		return nil, program.Unusable(fmt.Errorf("the URL of PostgreSQL can't be read: %w", err))
-	}
-	if has {
-		return nil, program.Unusable(errors.New(
-			"a URL must not have a password: put it into PGPASSWORD, or into a file that PGPASSFILE names"))
+	if err := checkAddress(place); err != nil {
+		return nil, err
 	}
 	store, err := postgres.Open(ctx, place, most)
 	if err != nil {
 		return nil, away(err)
 	}
 	return store, nil
+}
+
+// checkAddress returns an error if a URL can't be read, or has a password.
+func checkAddress(place string) error {
+	has, err := pgsession.HasPassword(place)
+	switch {
+	case err != nil:
+		return program.Unusable(fmt.Errorf("the URL of PostgreSQL can't be read: %w", err))
+	case has:
+		return program.Unusable(errors.New(
+			"a URL must not have a password: put it into PGPASSWORD, or into a file that PGPASSFILE names"))
+	}
+	return nil
 }
 
 func openFile(ctx context.Context, path string) (platform.Store, error) {

@@ -452,7 +452,7 @@ func TestStoreThatFails(t *testing.T) {
 		store.setAway(failed)
 		for _, target := range []string{
 			"/v1/instances", "/v1/instances/a", "/v1/instances/a/bindings", "/v1/brokers", "/v1/brokers/shelf",
-			"/v1/counts",
+			"/v1/counts", "/v1/records", "/v1/records?order=newest", "/v1/in-flight",
 		} {
 			got := r.call("GET", target, "").want(want.status, want.code)
 			if strings.Contains(got.text, "10.0.0.1") {

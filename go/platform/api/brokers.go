@@ -223,7 +223,8 @@ type count struct {
 }
 
 type counted struct {
-	Counts []count `json:"counts"`
+	Counts []count   `json:"counts"`
+	Now    time.Time `json:"now"` // the store's
 }
 
 func (a *asked) counts() (answer, error) {
@@ -231,13 +232,17 @@ func (a *asked) counts() (answer, error) {
 	if err != nil {
 		return answer{}, err
 	}
-	found := counted{Counts: []count{}}
+	_, now, err := a.store.NextDue(a.Context(), nil)
+	if err != nil {
+		return answer{}, err
+	}
+	found := counted{Counts: []count{}, Now: utc(now)}
 	for _, it := range counts {
 		kind := "instance"
 		if it.IsBinding {
 			kind = "binding"
 		}
-		found.Counts = append(found.Counts, count{it.Broker, kind, it.State, it.Count, it.Oldest.UTC()})
+		found.Counts = append(found.Counts, count{it.Broker, kind, it.State, it.Count, utc(it.Oldest)})
 	}
 	return answer{status: http.StatusOK, body: found}, nil
 }

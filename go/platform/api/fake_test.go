@@ -196,6 +196,24 @@ func (f *fake) Counts(context.Context) (counts []platform.Count, err error) {
 	return counts, nil
 }
 
+func (f *fake) InFlight(_ context.Context, most int) (found []platform.Entry, err error) {
+	end, err := f.begin()
+	if err != nil {
+		return nil, err
+	}
+	defer end()
+	for _, e := range f.rows {
+		if e.Lease.Worker != "" {
+			found = append(found, e)
+		}
+	}
+	sort.Slice(found, func(a, b int) bool { return found[a].Lease.Until.Before(found[b].Lease.Until) })
+	if len(found) > most {
+		found = found[:most]
+	}
+	return found, nil
+}
+
 func (f *fake) NextDue(context.Context, []string) (due, now time.Time, err error) {
 	end, err := f.begin()
 	if err != nil {

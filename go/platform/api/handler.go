@@ -1,6 +1,7 @@
 package api
 
 import (
+	"bytes"
 	"context"
 	_ "embed"
 	"encoding/json"
@@ -233,8 +234,11 @@ func textOf(body any) ([]byte, error) {
 	case json.RawMessage:
 		return body, nil
 	}
-	text, err := json.Marshal(body)
-	return append(text, '\n'), err
+	var text bytes.Buffer
+	encoder := json.NewEncoder(&text)
+	encoder.SetEscapeHTML(false) // it is no HTML, and a broker's metadata stay as they are
+	err := encoder.Encode(body)
+	return text.Bytes(), err
 }
 
 func addressOf(r *http.Request) string {

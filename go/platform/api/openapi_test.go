@@ -6,6 +6,8 @@ import (
 	"reflect"
 	"strings"
 	"testing"
+
+	"pippinterm/platform/api/apiclient"
 )
 
 // The document has the routes of the handler, and no others, with their parameters and permissions.
@@ -103,9 +105,9 @@ func TestSchemasHaveTheMembers(t *testing.T) {
 	read := readDocument(t)
 	for name, it := range map[string]any{
 		"NewInstance": newInstance{}, "NewBinding": newBinding{}, "Abandon": reasonGiven{}, "NewBroker": newSeller{},
-		"Settings": settings{}, "Broker": seller{}, "Binding": row{}, "Reason": said{}, "Flight": flight{},
-		"Problem": problem{}, "Stay": stay{}, "Instances": list{}, "Bindings": list{}, "Brokers": sellers{},
-		"Counts": counted{},
+		"Settings": settings{}, "Broker": seller{}, "Binding": row{}, "Record": row{}, "Reason": said{},
+		"Flight": flight{}, "Problem": problem{}, "Stay": stay{}, "Instances": list{}, "Bindings": list{},
+		"Records": list{}, "Brokers": sellers{}, "Counts": counted{},
 	} {
 		members := map[string]bool{}
 		of := reflect.TypeOf(it)
@@ -131,6 +133,27 @@ func TestSchemasHaveTheMembers(t *testing.T) {
 	}
 	if enum := read.Components.Schemas["State"].Enum; len(enum) != len(states) || !states[enum[0]] {
 		t.Errorf("the states are %v", enum)
+	}
+}
+
+// The client of this API reads no member that the document doesn't have.
+func TestClientReadsTheMembers(t *testing.T) {
+	read := readDocument(t)
+	count := read.Components.Schemas["Counts"].Properties["counts"].Items
+	for name, it := range map[string]any{
+		"Record": apiclient.Record{}, "Records": apiclient.List{}, "Flight": apiclient.Flight{}, "Broker": apiclient.Broker{},
+		"Reason": apiclient.Reason{}, "Stay": apiclient.Stay{}, "Counts": apiclient.Counts{}, "": apiclient.Count{},
+	} {
+		properties := count.Properties
+		if name != "" {
+			properties = read.Components.Schemas[name].Properties
+		}
+		of := reflect.TypeOf(it)
+		for at := 0; at < of.NumField(); at++ {
+			if member := of.Field(at).Tag.Get("json"); properties[member] == nil {
+				t.Errorf("%s has no member %q", name, member)
+			}
+		}
 	}
 }
 
@@ -160,6 +183,7 @@ func TestValidator(t *testing.T) {
 	}
 	if read.checkText(schema{Type: "string", Format: "date-time"}, []byte(`"0001-01-01T00:00:00Z"`)) == nil ||
 		read.checkText(schema{Type: "string", Format: "uuid"}, []byte(`"x"`)) == nil ||
+		read.checkText(schema{Type: "boolean"}, []byte(`"true"`)) == nil ||
 		read.checkText(schema{Type: "array", Items: &schema{Type: "object"}}, []byte(`[1]`)) == nil {
 		t.Error("a format isn't checked")
 	}

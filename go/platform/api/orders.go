@@ -4,24 +4,9 @@ import (
 	"encoding/json"
 	"net/http"
 	"net/url"
-	"strconv"
-	"strings"
 
-	"pippinterm/osb"
 	"pippinterm/platform"
 )
-
-// How many rows a list has: if nobody says, and at most.
-const (
-	usualLimit = 100
-	mostLimit  = 1000
-)
-
-// A list of rows, and the cursor behind which the next ones are.
-type list struct {
-	Items []row  `json:"items"`
-	Next  string `json:"next,omitempty"`
-}
 
 type newInstance struct {
 	ID           string          `json:"id"`
@@ -48,103 +33,7 @@ type reasonGiven struct {
 	Because string `json:"because"`
 }
 
-func (a *asked) listInstances() (answer, error) {
-	isBinding := false
-	filter := platform.Filter{Bindings: &isBinding}
-	if prefix := a.query.Get("prefix"); prefix != "" {
-		var isPrefix bool
-		if filter.Prefix, isPrefix = prefixOf(prefix); !isPrefix {
-			return answer{}, malformed("a prefix has 1 to 32 hexadecimal digits; its hyphens don't count")
-		}
-	}
-	if first := a.query.Get("first"); first != "" {
-		number, err := osb.IDOfText(first)
-		if err != nil {
-			return answer{}, malformed("first isn't an id")
-		}
-		filter.First = &number
-	}
-	return a.list(filter)
-}
-
-func (a *asked) listBindings() (answer, error) {
-	key, err := a.key()
-	if err != nil {
-		return answer{}, err
-	}
-	if _, err := a.store.Read(a.Context(), key); err != nil {
-		return answer{}, err
-	}
-	return a.list(platform.Filter{Instance: &key.Instance})
-}
-
-func (a *asked) listAllBindings() (answer, error) {
-	isBinding := true
-	return a.list(platform.Filter{Bindings: &isBinding})
-}
-
-// list answers with the rows of a filter that the query asks for. One more than these is read, to see whether there is
-// one.
-func (a *asked) list(filter platform.Filter) (answer, error) {
-	for _, it := range a.query["state"] {
-		if !isState(platform.State(it)) {
-			return answer{}, malformed("there is no state " + strconv.Quote(cut(it, 64)))
-		}
-		filter.States = append(filter.States, platform.State(it))
-	}
-	if filter.Broker = a.query.Get("broker"); filter.Broker != "" && !brokerName.MatchString(filter.Broker) {
-		return answer{}, malformed("the name of a broker has 1 to 63 characters: a-z, 0-9 and hyphens")
-	}
-	var err error
-	if filter.Latest, err = a.flag("latest"); err != nil {
-		return answer{}, err
-	}
-	limit := usualLimit
-	if text := a.query.Get("limit"); text != "" {
-		if limit, err = strconv.Atoi(text); err != nil || limit < 1 || limit > mostLimit {
-			return answer{}, malformed("limit is a number from 1 to " + strconv.Itoa(mostLimit))
-		}
-	}
-	if cursor := a.query.Get("after"); cursor != "" {
-		place, err := placeOf(cursor)
-		if err != nil {
-			return answer{}, malformed(err.Error())
-		}
-		filter.After = place
-	}
-	filter.Most = limit + 1
-	entries, err := a.store.List(a.Context(), filter)
-	if err != nil {
-		return answer{}, err
-	}
-	found := list{Items: []row{}}
-	if len(entries) > limit {
-		entries = entries[:limit]
-		if found.Next, err = cursorOf(entries[limit-1]); err != nil {
-			return answer{}, err
-		}
-	}
-	for _, it := range entries {
-		found.Items = append(found.Items, rowOf(it))
-	}
-	return answer{status: http.StatusOK, body: found}, nil
-}
-
-// prefixOf is the beginning of a GUID with the hyphens where they belong.
-func prefixOf(text string) (prefix string, isPrefix bool) {
-	digits := strings.ToLower(strings.ReplaceAll(text, "-", ""))
-	if digits == "" || len(digits) > 32 || strings.Trim(digits, "0123456789abcdef") != "" {
-		return "", false
-	}
-	for at := range digits {
-		if at == 8 || at == 12 || at == 16 || at == 20 {
-			prefix += "-"
-		}
-		prefix += digits[at : at+1]
-	}
-	return prefix, true
-}
-
+// show answers with a row, its whole life, and the time of the store.
 func (a *asked) show() (answer, error) {
 	key, err := a.key()
 	if err != nil {
@@ -154,11 +43,16 @@ func (a *asked) show() (answer, error) {
 	if err != nil {
 		return answer{}, err
 	}
-	ended, err := a.store.Life(a.Context(), key)
+	shown, err := a.withLife(e, 0)
 	if err != nil {
 		return answer{}, err
 	}
-	return answer{status: http.StatusOK, body: withLife(e, ended)}, nil
+	_, now, err := a.store.NextDue(a.Context(), nil)
+	if err != nil {
+		return answer{}, err
+	}
+	shown.Now = timeOf(now)
+	return answer{status: http.StatusOK, body: shown}, nil
 }
 
 func (a *asked) create() (answer, error) {

@@ -28,20 +28,23 @@ const (
 	brokers   = "/v1/brokers"
 
 	allBindings = "/v1/bindings"
+	records     = "/v1/records"
 )
 
+// listing are the names that the query of a list may have: some of its own, and those of every list.
+func listing(own ...string) []string {
+	return append(own, "order", "latest", "unreadable", "life", "limit", "after", "before", "last")
+}
+
 var routes = []route{
-	{
-		"GET", instances, Read, []string{"state", "broker", "prefix", "first", "latest", "limit", "after"}, false,
-		(*asked).listInstances,
-	},
+	{"GET", instances, Read, listing("state", "broker", "prefix", "first"), false, (*asked).listInstances},
 	{"POST", instances, Write, nil, true, (*asked).create},
 	{"GET", instances + "/{id}", Read, nil, false, (*asked).show},
 	{"DELETE", instances + "/{id}", Write, []string{"bindings"}, false, (*asked).remove},
 	{"POST", instances + "/{id}/retry", Write, nil, false, (*asked).retry},
 	{"POST", instances + "/{id}/abandon", Write, nil, true, (*asked).abandon},
-	{"GET", allBindings, Read, []string{"state", "broker", "latest", "limit", "after"}, false, (*asked).listAllBindings},
-	{"GET", bindings, Read, []string{"state", "latest", "limit", "after"}, false, (*asked).listBindings},
+	{"GET", allBindings, Read, listing("state", "broker", "prefix"), false, (*asked).listAllBindings},
+	{"GET", bindings, Read, listing("state"), false, (*asked).listBindings},
 	{"POST", bindings, Write, nil, true, (*asked).bind},
 	{"GET", bindings + "/{bid}", Read, nil, false, (*asked).show},
 	{"DELETE", bindings + "/{bid}", Write, nil, false, (*asked).remove},
@@ -52,6 +55,8 @@ var routes = []route{
 	{"GET", brokers + "/{name}", Read, nil, false, (*asked).showBroker},
 	{"PUT", brokers + "/{name}", Write, nil, true, (*asked).putBroker},
 	{"DELETE", brokers + "/{name}", Write, nil, false, (*asked).dropBroker},
+	{"GET", records, Read, listing("state", "broker", "prefix"), false, (*asked).listRecords},
+	{"GET", "/v1/in-flight", Read, []string{"life", "limit"}, false, (*asked).listInFlight},
 	{"GET", "/v1/counts", Read, nil, false, (*asked).counts},
 	{"GET", "/v1/openapi.json", 0, nil, false, func(*asked) (answer, error) {
 		return answer{status: http.StatusOK, body: json.RawMessage(document)}, nil

@@ -11,9 +11,11 @@ import (
 // A row as it is answered. What the order was sent with may be secret, and isn't answered: parameters, context, the
 // originating identity.
 type row struct {
-	ID         string `json:"id"`
-	Number     osb.ID `json:"number"`
-	InstanceID string `json:"instance_id,omitempty"` // of a binding
+	ID     string `json:"id"`
+	Number osb.ID `json:"number"`
+	// InstanceID and InstanceNumber are those of the instance of a binding.
+	InstanceID     string  `json:"instance_id,omitempty"`
+	InstanceNumber *osb.ID `json:"instance_number,omitempty"`
 
 	Broker       string `json:"broker"`
 	ServiceID    string `json:"service_id"`
@@ -28,6 +30,7 @@ type row struct {
 
 	Operation   *string    `json:"operation,omitempty"`
 	PolledSince *time.Time `json:"polled_since,omitempty"`
+	Attempt     *uint64    `json:"attempt,omitempty"` // of the request that was sent last
 	Unchanged   int        `json:"unchanged_requests"`
 	InFlight    *flight    `json:"in_flight,omitempty"`
 
@@ -36,6 +39,7 @@ type row struct {
 	First   osb.ID `json:"first"`
 	Last    *said  `json:"last,omitempty"`
 	Failure *said  `json:"failure,omitempty"`
+	Passing bool   `json:"failure_may_pass,omitempty"`
 
 	Dashboard string          `json:"dashboard_url,omitempty"`
 	Metadata  json.RawMessage `json:"metadata,omitempty"`
@@ -43,6 +47,9 @@ type row struct {
 	// Unreadable is platform.Entry.Unreadable.
 	Unreadable string `json:"unreadable,omitempty"`
 	Life       []stay `json:"life,omitempty"`
+	// Omitted is how many states come before those of Life.
+	Omitted int        `json:"life_omitted,omitempty"`
+	Now     *time.Time `json:"now,omitempty"` // the store's time, only of one row
 }
 
 // A flight is the request in flight, and who has it.
@@ -78,26 +85,41 @@ func rowOf(e platform.Entry) row {
 		ID: e.Names.Instance, Number: e.Key.ID(),
 		Broker: e.Broker, ServiceID: e.Names.Service, PlanID: e.Names.Plan,
 		Organization: e.Organization, Space: e.Space,
-		State: e.State, Since: e.Since.UTC(), Removal: removals[e.Removal], Due: timeOf(e.Due),
+		State: e.State, Since: utc(e.Since), Removal: removals[e.Removal], Due: timeOf(e.Due),
 		Operation: e.Operation, PolledSince: timeOf(e.PolledSince), Unchanged: e.Unchanged, InFlight: flightOf(e),
-		Try: e.Try, Tries: e.Tries, First: e.First, Last: saidOf(e.Last), Failure: saidOf(e.Failure),
-		Dashboard: e.Dashboard, Metadata: e.Metadata, Because: e.Because,
-		Unreadable: e.Unreadable,
+		Try: e.Try, Tries: e.Tries, First: e.First, Last: saidOf(e.Last), Failure: saidOf(e.Failure), Passing: e.Passing,
+		Dashboard: e.Dashboard, Because: e.Because, Unreadable: e.Unreadable,
+	}
+	if json.Valid(e.Metadata) { // else no row beside this one could be answered
+		r.Metadata = e.Metadata
+	}
+	if e.IsSent {
+		attempt := e.Record.Attempt()
+		r.Attempt = &attempt
 	}
 	if e.Key.IsBinding {
-		r.ID, r.InstanceID = e.Names.Binding, e.Names.Instance
+		instance := e.Key.Instance
+		r.ID, r.InstanceID, r.InstanceNumber = e.Names.Binding, e.Names.Instance, &instance
 	}
 	return r
 }
 
-// withLife is a row with its life: the states that have ended, and the one that it is in.
-func withLife(e platform.Entry, ended []platform.Stay) row {
-	r := rowOf(e)
-	for _, it := range ended {
-		r.Life = append(r.Life, stay{it.State, it.Since.UTC()})
+// withLife reads the life of a row: the states that have ended, and the one that it is in. It has at most so many
+// states, the last ones, or all of them if most is 0.
+func (a *asked) withLife(e platform.Entry, most int) (row, error) {
+	ended, err := a.store.Life(a.Context(), e.Key)
+	if err != nil {
+		return row{}, err
 	}
-	r.Life = append(r.Life, stay{e.State, e.Since.UTC()})
-	return r
+	r, all := rowOf(e), append(ended, platform.Stay{State: e.State, Since: e.Since})
+	if most > 0 && len(all) > most {
+		r.Omitted = len(all) - most
+		all = all[r.Omitted:]
+	}
+	for _, it := range all {
+		r.Life = append(r.Life, stay{it.State, utc(it.Since)})
+	}
+	return r, nil
 }
 
 var (
@@ -128,7 +150,7 @@ func saidOf(reason platform.Reason) *said {
 		return nil
 	}
 	return &said{
-		At: reason.At.UTC(), Kind: reason.Kind, Status: reason.Status, Error: reason.Error,
+		At: utc(reason.At), Kind: reason.Kind, Status: reason.Status, Error: reason.Error,
 		Description: reason.Description, Lost: reason.Lost,
 	}
 }
@@ -138,6 +160,14 @@ func timeOf(at time.Time) *time.Time {
 	if at.IsZero() {
 		return nil
 	}
-	at = at.UTC()
+	at = utc(at)
 	return &at
+}
+
+// utc is a time in UTC. JSON has no year behind 9999: a time that a damaged store has there is the zero time.
+func utc(at time.Time) time.Time {
+	if at = at.UTC(); at.Year() < 0 || at.Year() > 9999 {
+		return time.Time{}
+	}
+	return at
 }

@@ -132,6 +132,11 @@ func (d *openAPI) check(of schema, value any, at string) error {
 		return checkString(of, value, at)
 	case "integer", "number":
 		return checkNumber(of, value, at)
+	case "boolean":
+		if _, isBoolean := value.(bool); !isBoolean {
+			return fmt.Errorf("%s isn't true or false: %v", at, value)
+		}
+		return nil
 	}
 	return fmt.Errorf("%s: the type %s isn't known", at, of.Type)
 }

@@ -5,10 +5,8 @@ import (
 	"net/url"
 	"strconv"
 	"strings"
-	"time"
 
-	"pippinterm/osb"
-	"pippinterm/platform"
+	"pippinterm/platform/api/apiclient"
 )
 
 // errNoPage reports that a target names no page.
@@ -17,12 +15,14 @@ var errNoPage = errors.New("there is no such page")
 const (
 	inFlight    = "in-flight" // in the place of a state: what has a request in flight
 	longestFind = 255         // bytes
+	// longestPlace is how many bytes a cursor of the API has at most. One of this program's has fewer than 300.
+	longestPlace = 1000
 )
 
 // states are all states, in the order in which they are shown.
-var states = []platform.State{
-	platform.Ordered, platform.Withdrawn, platform.Wanted, platform.Polling, platform.Ready, platform.Cleaning,
-	platform.CleaningPolling, platform.Gone, platform.Unsettled, platform.Abandoned,
+var states = []string{
+	apiclient.Ordered, apiclient.Withdrawn, apiclient.Wanted, apiclient.Polling, apiclient.Ready, apiclient.Cleaning,
+	apiclient.CleaningPolling, apiclient.Gone, apiclient.Unsettled, apiclient.Abandoned,
 }
 
 // What the target of a list asks for.
@@ -31,17 +31,11 @@ type asked struct {
 	find     string // what numbers begin with, or a whole id; if it isn't empty, no state counts
 	bindings bool   // bindings, and not instances
 	isOldest bool   // those first that are longest in their state, and not the newest
-	after    *place // the page that begins behind this place
-	before   *place // the page that ends before this place
+	after    string // the page that begins behind this place, which is a cursor of the API
+	before   string // the page that ends before this place
 	isLast   bool   // the last page
 	skipped  int    // how many rows come before the place, as the page with the link says
 	isStill  bool   // whether the page stays as it is, and isn't refreshed of itself
-}
-
-// A place is one among rows by time and key.
-type place struct {
-	since time.Time
-	key   platform.Key
 }
 
 // isFirst is whether the first page is asked for, with what waits and what is in flight.
@@ -52,7 +46,7 @@ func (a asked) isPaged() bool { return a.find == "" && a.state != inFlight }
 
 // first asks for the first page of the same list.
 func (a asked) first() asked {
-	a.after, a.before, a.isLast, a.skipped = nil, nil, false, 0
+	a.after, a.before, a.isLast, a.skipped = "", "", false, 0
 	return a
 }
 
@@ -68,7 +62,7 @@ func readAsked(query url.Values) (asked, error) {
 		}
 	}
 	places := 0
-	for _, it := range []bool{a.after != nil, a.before != nil, a.isLast} {
+	for _, it := range []bool{a.after != "", a.before != "", a.isLast} {
 		if it {
 			places++
 		}
@@ -124,27 +118,19 @@ func (a *asked) take(name, value string) (err error) {
 
 func isState(text string) bool {
 	for _, it := range states {
-		if string(it) == text {
+		if it == text {
 			return true
 		}
 	}
 	return false
 }
 
-// placeOf reads a place: nanoseconds, the number of an instance, and of a binding.
-func placeOf(text string) (*place, error) {
-	since, key, _ := strings.Cut(text, "_")
-	nanoseconds, err := strconv.ParseInt(since, 10, 64)
-	if err != nil {
-		return nil, err
+// placeOf reads a place. Only the API knows what it says.
+func placeOf(text string) (string, error) {
+	if text == "" || len(text) > longestPlace {
+		return "", errNoPage
 	}
-	at := &place{since: time.Unix(0, nanoseconds).UTC()}
-	at.key, err = platform.ParseKey(key)
-	return at, err
-}
-
-func (p place) String() string {
-	return strconv.FormatInt(p.since.UnixNano(), 10) + "_" + p.key.String()
+	return text, nil
 }
 
 // target is the target that asks for this.
@@ -161,9 +147,9 @@ func (a asked) target() string {
 	if a.isOldest {
 		query.Set("order", "oldest")
 	}
-	for name, at := range map[string]*place{"after": a.after, "before": a.before} {
-		if at != nil {
-			query.Set(name, at.String())
+	for name, at := range map[string]string{"after": a.after, "before": a.before} {
+		if at != "" {
+			query.Set(name, at)
 			query.Set("from", strconv.Itoa(a.skipped))
 		}
 	}
@@ -180,10 +166,18 @@ func (a asked) target() string {
 }
 
 // targetOf is the target of a row's own page.
-func targetOf(key platform.Key, isStill bool) string {
-	target := "/instance/" + key.Instance.String()
-	if key.IsBinding {
-		target += "/binding/" + key.Binding.String()
+func targetOf(r apiclient.Record, isStill bool) string {
+	if r.IsBinding() {
+		return targetOfIDs(isStill, r.InstanceNumber, r.Number)
+	}
+	return targetOfIDs(isStill, r.Number)
+}
+
+// targetOfIDs is the target of the page of an instance, or of a binding of it.
+func targetOfIDs(isStill bool, ids ...string) string {
+	target := "/instance/" + url.PathEscape(ids[0])
+	if len(ids) > 1 {
+		target += "/binding/" + url.PathEscape(ids[1])
 	}
 	if isStill {
 		target += "?still=1"
@@ -191,28 +185,24 @@ func targetOf(key platform.Key, isStill bool) string {
 	return target
 }
 
-// keyOf reads the path of a row's own page. Errors: errNoPage.
-func keyOf(path string) (platform.Key, error) {
+// idsOf reads the path of a row's own page. binding is empty for an instance. Errors: errNoPage.
+func idsOf(path string) (instance, binding string, err error) {
 	parts := strings.Split(path, "/")
 	if len(parts) != 3 && (len(parts) != 5 || parts[3] != "binding") || parts[1] != "instance" {
-		return platform.Key{}, errNoPage
+		return "", "", errNoPage
 	}
-	var numbers []osb.ID
+	var ids []string
 	for at := 2; at < len(parts); at += 2 {
 		text, err := url.PathUnescape(parts[at])
-		if err != nil {
-			return platform.Key{}, errNoPage
+		if err != nil || text == "" {
+			return "", "", errNoPage
 		}
-		number, err := osb.IDOfText(text)
-		if err != nil {
-			return platform.Key{}, errNoPage
-		}
-		numbers = append(numbers, number)
+		ids = append(ids, text)
 	}
-	if len(numbers) == 1 {
-		return platform.InstanceKey(numbers[0]), nil
+	if len(ids) == 1 {
+		return ids[0], "", nil
 	}
-	return platform.BindingKey(numbers[0], numbers[1]), nil
+	return ids[0], ids[1], nil
 }
 
 // prefixOf is the beginning of a GUID with the hyphens where they belong.

@@ -3,12 +3,12 @@ package page
 import (
 	"sort"
 
-	"pippinterm/platform"
+	"pippinterm/platform/api/apiclient"
 )
 
 // An attention is one kind of what waits for a person, as `osb-platform list` reports it.
 type attention struct {
-	states []platform.State
+	states []string
 	todo   string // with commands between `
 	isLong bool   // whether only those wait that are in their state for longer than longCleaning
 	// isUnreadable is whether only those wait that can't be read. Such a row stays in its state, so it is among the
@@ -19,7 +19,7 @@ type attention struct {
 const (
 	todoUnreadable = "Nothing is sent for such a record. `osb-platform show ID` shows why it can't be read, and " +
 		"`osb-platform list` finds all such records."
-	todoUnsettled = "For each, run `osb-platform show ID`, and ask the broker for its last operation. Run " +
+	todoUnsettled = "For each, run `osb-platform ask ID`, which asks the broker what it has. Run " +
 		"`osb-platform remove ID` if the broker answers 410, or if it answers 200 for your service and plan and the " +
 		"instance is yours: that deletes it at the broker."
 	todoLong = "For each, see the broker's reason. `osb-platform retry ID` sends the deletion again, and " +
@@ -28,14 +28,14 @@ const (
 
 var attentions = []attention{
 	{
-		states: []platform.State{
-			platform.Ordered, platform.Wanted, platform.Polling, platform.Cleaning, platform.CleaningPolling,
-			platform.Unsettled,
+		states: []string{
+			apiclient.Ordered, apiclient.Wanted, apiclient.Polling, apiclient.Cleaning, apiclient.CleaningPolling,
+			apiclient.Unsettled,
 		},
 		todo: todoUnreadable, isUnreadable: true,
 	},
-	{states: []platform.State{platform.Unsettled}, todo: todoUnsettled},
-	{states: []platform.State{platform.Cleaning, platform.CleaningPolling}, todo: todoLong, isLong: true},
+	{states: []string{apiclient.Unsettled}, todo: todoUnsettled},
+	{states: []string{apiclient.Cleaning, apiclient.CleaningPolling}, todo: todoLong, isLong: true},
 }
 
 // waiting is what waits for a person.
@@ -52,40 +52,43 @@ func (l look) waiting(a asked, c counts) (all []waiting, err error) {
 	return all, nil
 }
 
-// those are the rows that wait, the longest first: one more than is shown, if there are so many. number is how many there
-// are, or 0 if that isn't counted.
-func (l look) those(of attention, c counts) (found []platform.Entry, number int, err error) {
-	most := short + 1
-	if of.isUnreadable {
-		most = size
-	}
+// those are the rows that wait, the longest first: one more than is shown, if there are so many. number is how many
+// there are, or 0 if that isn't counted.
+func (l look) those(of attention, c counts) (found []apiclient.Record, number int, err error) {
+	var present []string
 	for _, state := range of.states {
-		count := c.of[false][state] + c.of[true][state]
-		if count == 0 {
-			continue
+		if count := c.of[false][state] + c.of[true][state]; count > 0 {
+			present, number = append(present, state), number+count
 		}
-		entries, err := l.store.List(l.ctx, platform.Filter{States: []platform.State{state}, Most: most})
-		if err != nil {
-			return nil, 0, err
-		}
-		found, number = append(found, entries...), number+count
 	}
 	switch {
-	case of.isLong:
-		found, number = l.long(found), 0
+	case len(present) == 0:
 	case of.isUnreadable:
-		found, number = unreadables(found), 0
+		found, err = l.unreadables(present)
+		number = 0
+	default:
+		found, err = l.oldest(present)
 	}
-	sort.SliceStable(found, func(one, other int) bool { return isBefore(found[one], found[other]) })
+	if err == nil && of.isLong {
+		found, number = l.long(found), 0
+	}
 	if len(found) > short+1 {
 		found = found[:short+1]
 	}
-	return found, number, nil
+	return found, number, err
+}
+
+// oldest are those that are longest in one of these states.
+func (l look) oldest(in []string) ([]apiclient.Record, error) {
+	found, err := l.api.List(l.ctx, apiclient.Query{
+		Kind: apiclient.Records, States: in, Order: apiclient.Oldest, Limit: short + 1,
+	})
+	return found.Items, err
 }
 
 // long are those whose deletion goes on for long.
-func (l look) long(entries []platform.Entry) (found []platform.Entry) {
-	for _, it := range entries {
+func (l look) long(records []apiclient.Record) (found []apiclient.Record) {
+	for _, it := range records {
 		if l.now.Sub(it.Since) >= l.longCleaning {
 			found = append(found, it)
 		}
@@ -93,18 +96,23 @@ func (l look) long(entries []platform.Entry) (found []platform.Entry) {
 	return found
 }
 
-// unreadables are those that can't be read.
-func unreadables(entries []platform.Entry) (found []platform.Entry) {
-	for _, it := range entries {
-		if it.Unreadable != "" {
-			found = append(found, it)
+// unreadables are those that can't be read, the longest first.
+func (l look) unreadables(in []string) (all []apiclient.Record, err error) {
+	for _, state := range in {
+		found, err := l.api.List(l.ctx, apiclient.Query{
+			Kind: apiclient.Records, States: []string{state}, Unreadable: true, Limit: size,
+		})
+		if err != nil {
+			return nil, err
 		}
+		all = append(all, found.Items...)
 	}
-	return found
+	sort.SliceStable(all, func(one, other int) bool { return isBefore(all[one], all[other]) })
+	return all, nil
 }
 
-func (l look) waitingOf(of attention, entries []platform.Entry, number int, a asked, c counts) waiting {
-	w := waiting{Todo: marked(of.todo), Heading: thousands(number) + " " + string(of.states[0])}
+func (l look) waitingOf(of attention, entries []apiclient.Record, number int, a asked, c counts) waiting {
+	w := waiting{Todo: marked(of.todo), Heading: thousands(number) + " " + of.states[0]}
 	anchor := "waits"
 	switch {
 	case of.isLong:
@@ -147,9 +155,9 @@ func moreOf(of attention, a asked, c counts) (found []link) {
 			}
 			found = append(found, link{
 				Href: asked{
-					state: string(state), bindings: bindings, isOldest: true, isStill: a.isStill,
+					state: state, bindings: bindings, isOldest: true, isStill: a.isStill,
 				}.target(),
-				Anchor: anchor + string(state), Word: "All " + counted(number, string(state)+" "+word),
+				Anchor: anchor + state, Word: "All " + counted(number, state+" "+word),
 			})
 		}
 	}

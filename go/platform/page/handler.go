@@ -16,7 +16,7 @@ import (
 	"strings"
 	"time"
 
-	"pippinterm/platform"
+	"pippinterm/platform/api/apiclient"
 )
 
 //go:embed page.html
@@ -49,11 +49,12 @@ type Options struct {
 	Limiter Limiter
 	// LongCleaning is for how long a deletion may go on before it waits for a person. It is an hour by default.
 	LongCleaning time.Duration
-	// AtOnce is how many requests read the store at once. It is 16 by default. Further ones wait.
+	// AtOnce is how many requests ask the API at once, each for one thing after another. It is 16 by default. Further
+	// ones wait.
 	AtOnce int
-	// Timeout is how long a request may wait for its turn, and for the store. It is 10 seconds by default.
+	// Timeout is how long a request may wait for its turn, and for the API. It is 10 seconds by default.
 	Timeout time.Duration
-	// Failed is called if the store couldn't be read. It returns at once. It may be nil.
+	// Failed is called if the API couldn't be read. It returns at once. It may be nil.
 	Failed func(error)
 }
 
@@ -67,17 +68,17 @@ type handler struct {
 	head, foot template.HTML // the style and the script, in their elements
 }
 
-// NewHandler makes the page over a store, of which it calls only what reads. The server that calls it has to bound how
-// long a client may take to send a request and to accept an answer (pippinterm/program/server does).
+// NewHandler makes the page over an API, which it only reads. The server that calls it has to bound how long a client
+// may take to send a request and to accept an answer (pippinterm/program/server does).
 //
 // The page answers GET and HEAD at /, /instance/ID and /instance/ID/binding/ID. It answers only to a Host that is the
 // address of the connection, Options.Host or one of Options.Hosts, or on this machine localhost, so that no site reads
 // it whose name leads to the address. Every other request is rejected with a page that shows nothing of the store.
 //
-// Errors: the store is nil, or a limit is negative.
-func NewHandler(store platform.Store, options Options) (http.Handler, error) {
-	if store == nil {
-		return nil, errors.New("page: a page needs a Store")
+// Errors: the API is nil, or a limit is negative.
+func NewHandler(api API, options Options) (http.Handler, error) {
+	if api == nil {
+		return nil, errors.New("page: a page needs an API")
 	}
 	if options.LongCleaning < 0 || options.AtOnce < 0 || options.Timeout < 0 {
 		return nil, errors.New("page: no limit is negative")
@@ -99,7 +100,7 @@ func NewHandler(store platform.Store, options Options) (http.Handler, error) {
 		return nil, err
 	}
 	return &handler{
-		Options: options, reader: reader{store: store, longCleaning: options.LongCleaning}, shown: shown,
+		Options: options, reader: reader{api: api, longCleaning: options.LongCleaning}, shown: shown,
 		slots: make(chan struct{}, options.AtOnce), passwords: digests(options.Users),
 		// No script, no style and nothing else is loaded, but what stands in the page and has these hashes.
 		policy: "default-src 'none'; style-src '" + hash(style) + "'; script-src '" + hash(script) + "'; " +
@@ -167,7 +168,7 @@ func (h *handler) page(ctx context.Context, w http.ResponseWriter, r *http.Reque
 	frame := frame{Style: h.head, Script: h.foot}
 	name, shown, err := h.read(ctx, r.URL, frame)
 	switch {
-	case errors.Is(err, errNoPage), errors.Is(err, platform.ErrUnknown):
+	case errors.Is(err, errNoPage), errors.Is(err, apiclient.ErrUnknown):
 		return h.failed(http.StatusNotFound, "There is no such page, and no instance or binding of this id.")
 	case err != nil:
 		h.Failed(err)

@@ -2,12 +2,13 @@ package page
 
 import (
 	"errors"
+	"strings"
 
-	"pippinterm/platform"
+	"pippinterm/platform/api/apiclient"
 )
 
 // list reads the rows of a list.
-func (l look) list(o *overview, a asked, c counts, flights []platform.Entry) error {
+func (l look) list(o *overview, a asked, c counts, flights []apiclient.Record) error {
 	var err error
 	shown, total, order := leaf{}, -1, "newest in their state first"
 	if a.isOldest {
@@ -16,15 +17,17 @@ func (l look) list(o *overview, a asked, c counts, flights []platform.Entry) err
 	switch {
 	case a.find != "":
 		order = "by state"
-		shown.entries, err = l.found(a)
+		shown.Items, err = l.found(a)
 	case a.state == inFlight:
-		shown.entries, total, order = flights, len(flights), "by the end of their lease"
+		shown.Items, total, order = flights, len(flights), "by the end of their lease"
 	case a.state != "":
-		total = c.of[a.bindings][platform.State(a.state)]
-		shown, err = l.leaf(a, []platform.State{platform.State(a.state)}, total)
+		total = c.of[a.bindings][a.state]
+		shown, err = l.leaf(a, []string{a.state}, total)
 	default:
 		total = c.all[a.bindings]
-		shown, err = l.leaf(a, present(c.of[a.bindings]), total)
+		if of := present(c.of[a.bindings]); len(of) > 0 { // no state stands for all
+			shown, err = l.leaf(a, of, total)
+		}
 	}
 	if err != nil {
 		return err
@@ -33,12 +36,12 @@ func (l look) list(o *overview, a asked, c counts, flights []platform.Entry) err
 		o.Pages, o.Orders = pagesOf(a, shown), ordersOf(a)
 	}
 	o.Nothing = marked(nothing(a, c))
-	o.Caption = position(shown.skipped, len(shown.entries), total, order)
-	if a.find != "" && len(shown.entries) >= size {
-		o.Caption = "The first " + thousands(len(shown.entries)) + ", " + order + ": more digits find fewer"
+	o.Caption = position(shown.skipped, len(shown.Items), total, order)
+	if a.find != "" && len(shown.Items) >= size {
+		o.Caption = "The first " + thousands(len(shown.Items)) + ", " + order + ": more digits find fewer"
 	}
-	o.Rows, err = l.rowsOf(shown.entries, "i")
-	return err
+	o.Rows = l.rowsOf(shown.Items, "i")
+	return nil
 }
 
 func position(skipped, shown, total int, order string) string {
@@ -63,7 +66,7 @@ func nothing(a asked, c counts) string {
 }
 
 // present are the states in which there are rows.
-func present(of map[platform.State]int) (found []platform.State) {
+func present(of map[string]int) (found []string) {
 	for _, it := range states {
 		if of[it] > 0 {
 			found = append(found, it)
@@ -73,24 +76,36 @@ func present(of map[platform.State]int) (found []platform.State) {
 }
 
 // found are the rows whose numbers begin with what is sought, and before them the row that has it as its whole id.
-func (l look) found(a asked) (all []platform.Entry, err error) {
+func (l look) found(a asked) (all []apiclient.Record, err error) {
 	if prefix, isPrefix := prefixOf(a.find); isPrefix {
-		if all, err = l.store.List(l.ctx, platform.Filter{Prefix: prefix, Most: size}); err != nil {
+		found, err := l.api.List(l.ctx, apiclient.Query{
+			Kind: apiclient.Records, Prefix: prefix, Life: spans + 1, Limit: size,
+		})
+		if err != nil {
 			return nil, err
 		}
+		all = found.Items
 	}
-	key, err := platform.ParseKey(a.find)
-	if err != nil {
-		return all, nil // it is no id
+	instance, binding, isOfTwo := strings.Cut(a.find, "/")
+	if instance == "" || isOfTwo && binding == "" || holds(all, a.find) {
+		return all, nil // it is no id, or is there
 	}
-	for _, it := range all {
-		if it.Key == key {
-			return all, nil
-		}
-	}
-	e, err := l.store.Read(l.ctx, key)
-	if errors.Is(err, platform.ErrUnknown) {
+	whole, err := l.api.Show(l.ctx, instance, binding)
+	if errors.Is(err, apiclient.ErrUnknown) || err == nil && holds(all, whole.Key()) {
 		return all, nil
 	}
-	return append([]platform.Entry{e}, all...), err
+	if before := len(whole.Life) - spans - 1; before > 0 {
+		whole.Life, whole.Omitted = whole.Life[before:], before
+	}
+	return append([]apiclient.Record{whole}, all...), err
+}
+
+// holds is whether one of these rows has an id, as it is sent or as a number.
+func holds(all []apiclient.Record, id string) bool {
+	for _, it := range all {
+		if it.Key() == id || it.ID == id && !it.IsBinding() || it.IsBinding() && it.InstanceID+"/"+it.ID == id {
+			return true
+		}
+	}
+	return false
 }

@@ -41,7 +41,7 @@ func TestFind(t *testing.T) {
 func many(number int) *fake {
 	store := &fake{now: now}
 	for n := 0; n < number; n++ {
-		e := entryOf(platform.InstanceKey(idOf(number-n)), states[n%3])
+		e := entryOf(platform.InstanceKey(idOf(number-n)), platform.State(states[n%3]))
 		e.Since = began.Add(time.Duration(n/7) * time.Second)
 		store.rows = append(store.rows, e)
 	}
@@ -146,8 +146,11 @@ func TestFewRows(t *testing.T) {
 			t.Errorf("%s: %s", target, mainOf(text))
 		}
 	}
-	behind := place{since: began.Add(-time.Hour), key: platform.InstanceKey(idOf(1))}
-	text := got(t, h, asked{after: &behind, skipped: 50}.target())
+	store.rows = append(store.rows, many(51).rows[0]) // the second page has the oldest row alone, until it is gone
+	store.rows[50].Key, store.rows[50].Since = platform.InstanceKey(idOf(0x51)), began.Add(-time.Hour)
+	behind := linkOf(got(t, h, "/"), "page-next")
+	store.rows = store.rows[:50]
+	text := got(t, h, behind)
 	if rows := listed(got(t, h, linkOf(text, "page-first"))); len(listed(text)) != 0 || len(rows) != 50 {
 		t.Errorf("it leads to %v", rows)
 	}
@@ -155,7 +158,7 @@ func TestFewRows(t *testing.T) {
 
 // What is asked for is written as what it is read from.
 func TestTargets(t *testing.T) {
-	at := &place{since: began.Add(123 * time.Millisecond), key: platform.BindingKey(idOf(1), idOf(2))}
+	const at = "eyJz-_0+ &="
 	for _, a := range []asked{
 		{}, {state: "gone"}, {state: inFlight}, {find: "a b&c=<"}, {isOldest: true}, {state: "ready", after: at, skipped: 3},
 		{before: at, skipped: 50, isOldest: true}, {isLast: true, bindings: true}, {state: "gone", isStill: true},

@@ -1,93 +1,62 @@
 package page
 
 import (
-	"sort"
+	"errors"
 
-	"pippinterm/platform"
+	"pippinterm/platform/api/apiclient"
 )
 
 // A leaf is one page of a list.
 type leaf struct {
-	entries              []platform.Entry
+	apiclient.List
 	skipped              int // how many rows come before it
 	hasPrevious, hasNext bool
 }
 
 // leaf reads a page of the rows in these states, of which there are so many.
-func (l look) leaf(a asked, of []platform.State, total int) (leaf, error) {
-	isBack := a.before != nil || a.isLast // it is read from its end
-	entries, err := l.merged(a, of, isBack)
+func (l look) leaf(a asked, of []string, total int) (leaf, error) {
+	found, err := l.listed(a, of)
 	if err != nil {
 		return leaf{}, err
 	}
-	isMore := len(entries) > size
-	if isMore {
-		entries = entries[:size]
-	}
-	switch {
+	switch isBack := a.before != "" || a.isLast; {
 	case !isBack:
-		return leaf{entries: entries, skipped: a.skipped, hasPrevious: a.after != nil, hasNext: isMore}, nil
-	case !isMore: // it begins where the list begins
-		entries, err = l.merged(a.first(), of, false)
-		isMore = len(entries) > size
-		if isMore {
-			entries = entries[:size]
+		return leaf{List: found, skipped: a.skipped, hasPrevious: a.after != "", hasNext: found.Next != ""}, nil
+	case found.Previous == "": // it begins where the list begins
+		if !a.isLast {
+			found, err = l.listed(a.first(), of)
 		}
-		return leaf{entries: entries, hasNext: isMore}, err
-	}
-	for one, other := 0, len(entries)-1; one < other; one, other = one+1, other-1 {
-		entries[one], entries[other] = entries[other], entries[one]
+		return leaf{List: found, hasNext: found.Next != ""}, err
 	}
 	end := a.skipped
 	if a.isLast {
 		end = total
 	}
-	skipped := end - len(entries)
+	skipped := end - len(found.Items)
 	if skipped < 0 { // rows were added, or have gone, since the page with the link
 		skipped = 0
 	}
-	return leaf{entries: entries, skipped: skipped, hasPrevious: isMore, hasNext: !a.isLast}, nil
+	return leaf{List: found, skipped: skipped, hasPrevious: true, hasNext: !a.isLast}, nil
 }
 
-// merged reads the rows of these states by time and key, from the place that is asked for, and one more than a page
-// has. isBack is whether they are read against the order that is asked for. A Store lists by state first, so each state
-// is read by itself, and the rows are merged.
-func (l look) merged(a asked, of []platform.State, isBack bool) (all []platform.Entry, err error) {
-	at, isLatest := a.after, !a.isOldest
-	if isBack {
-		at, isLatest = a.before, a.isOldest
+// listed asks for the rows in these states by time and key, from the place that is asked for. Errors: errNoPage if that
+// is no place.
+func (l look) listed(a asked, of []string) (apiclient.List, error) {
+	query := apiclient.Query{
+		Kind: apiclient.Instances, States: of, Order: apiclient.Newest, Life: spans + 1, Limit: size,
+		After: a.after, Before: a.before, Last: a.isLast,
 	}
-	for _, state := range of {
-		filter := platform.Filter{
-			States: []platform.State{state}, Bindings: &a.bindings, Latest: isLatest, Most: size + 1,
-		}
-		if at != nil {
-			filter.After = &platform.Place{State: state, Since: at.since, Key: at.key}
-		}
-		entries, err := l.store.List(l.ctx, filter)
-		if err != nil {
-			return nil, err
-		}
-		all = append(all, entries...)
+	if a.bindings {
+		query.Kind = apiclient.Bindings
 	}
-	sort.SliceStable(all, func(one, other int) bool {
-		if isLatest {
-			one, other = other, one
-		}
-		return isBefore(all[one], all[other])
-	})
-	if len(all) > size+1 {
-		all = all[:size+1]
+	if a.isOldest {
+		query.Order = apiclient.Oldest
 	}
-	return all, nil
-}
-
-// isBefore is whether a row comes before another one by time and key.
-func isBefore(a, b platform.Entry) bool {
-	if !a.Since.Equal(b.Since) {
-		return a.Since.Before(b.Since)
+	found, err := l.api.List(l.ctx, query)
+	if errors.Is(err, apiclient.ErrMalformed) && a.after+a.before != "" {
+		return apiclient.List{}, errNoPage
 	}
-	return a.Key.String() < b.Key.String()
+	return found, err
 }
 
 // pagesOf are the links to other pages of a list. There are none if the list has one page.
@@ -97,10 +66,9 @@ func pagesOf(a asked, shown leaf) []link {
 	}
 	first, previous, next, last := a.first(), a.first(), a.first(), a.first()
 	last.isLast = true
-	if entries := shown.entries; len(entries) > 0 {
-		begin, end := entries[0], entries[len(entries)-1]
-		previous.before, previous.skipped = &place{begin.Since, begin.Key}, shown.skipped
-		next.after, next.skipped = &place{end.Since, end.Key}, shown.skipped+len(entries)
+	if len(shown.Items) > 0 {
+		previous.before, previous.skipped = shown.Previous, shown.skipped
+		next.after, next.skipped = shown.Next, shown.skipped+len(shown.Items)
 	}
 	return []link{
 		{Word: "First", Anchor: "page-first", Href: first.target(), IsNone: !shown.hasPrevious},

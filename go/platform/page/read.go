@@ -2,13 +2,13 @@ package page
 
 import (
 	"context"
+	"errors"
 	"net/http"
 	"net/url"
 	"strings"
 	"time"
 
-	"pippinterm/osb"
-	"pippinterm/platform"
+	"pippinterm/platform/api/apiclient"
 )
 
 const (
@@ -21,9 +21,28 @@ const (
 	mostBound  = 200  // bindings and tries on the page of an instance
 )
 
-// A reader makes pages of what a store has. It calls only what reads.
+// An API is what the page asks: what apiclient.Client reads. Its errors are those of apiclient.
+type API interface {
+	// Counts returns how many records there are, and the store's time.
+	Counts(ctx context.Context) (apiclient.Counts, error)
+	// Brokers returns all brokers, by name.
+	Brokers(ctx context.Context) ([]apiclient.Broker, error)
+	// InFlight returns what has a request in flight.
+	InFlight(ctx context.Context, limit, life int) ([]apiclient.Record, error)
+	// List returns a page of records.
+	List(ctx context.Context, query apiclient.Query) (apiclient.List, error)
+	// Show returns an instance, or one of its bindings, with its whole life.
+	Show(ctx context.Context, instance, binding string) (apiclient.Record, error)
+}
+
+var _ API = (*apiclient.Client)(nil)
+
+// errNoTime reports an answer without the store's time, by which the page tells how long something lasts.
+var errNoTime = errors.New("the API hasn't answered the store's time")
+
+// A reader makes pages of what an API answers.
 type reader struct {
-	store        platform.Store
+	api          API
 	longCleaning time.Duration
 }
 
@@ -31,22 +50,17 @@ type reader struct {
 type look struct {
 	reader
 	ctx     context.Context
-	now     time.Time
-	isStill bool // whether the page isn't refreshed, and neither are those that it links to
+	now     time.Time // the store's, from the first answer on
+	isStill bool      // whether the page isn't refreshed, and neither are those that it links to
 }
 
-// read makes what a URL asks for: the name of a template, and what it shows. Errors: errNoPage, those of the Store.
+// read makes what a URL asks for: the name of a template, and what it shows. Errors: errNoPage, those of the API.
 func (r reader) read(ctx context.Context, at *url.URL, f frame) (name string, shown any, err error) {
 	query, err := url.ParseQuery(at.RawQuery)
 	if err != nil {
 		return "", nil, errNoPage
 	}
-	_, now, err := r.store.NextDue(ctx, nil)
-	if err != nil {
-		return "", nil, err
-	}
-	l := look{reader: r, ctx: ctx, now: now, isStill: query.Has("still")}
-	f.Now = *momentOf(now, now)
+	l := look{reader: r, ctx: ctx, isStill: query.Has("still")}
 	if strings.HasPrefix(at.Path, "/instance/") {
 		shown, err = l.one(at.EscapedPath(), query, f)
 		return "one", shown, err
@@ -62,33 +76,45 @@ func (r reader) read(ctx context.Context, at *url.URL, f frame) (name string, sh
 	return "overview", shown, err
 }
 
+// asOf has the page show what is so at a time.
+func (l *look) asOf(now time.Time, f *frame) error {
+	if now.IsZero() {
+		return errNoTime
+	}
+	l.now, f.Now = now, *momentOf(now, now)
+	return nil
+}
+
 // Counts of rows.
 type counts struct {
-	of  map[bool]map[platform.State]int // by whether they are of bindings
+	of  map[bool]map[string]int // by whether they are of bindings
 	all map[bool]int
 }
 
-func (l look) counts() (counts, error) {
-	c := counts{of: map[bool]map[platform.State]int{false: {}, true: {}}, all: map[bool]int{}}
-	found, err := l.store.Counts(l.ctx)
+func countsOf(found []apiclient.Count) counts {
+	c := counts{of: map[bool]map[string]int{false: {}, true: {}}, all: map[bool]int{}}
 	for _, it := range found {
-		c.of[it.IsBinding][it.State] += it.Count
-		c.all[it.IsBinding] += it.Count
+		isBinding := it.Kind == "binding"
+		c.of[isBinding][it.State] += it.Count
+		c.all[isBinding] += it.Count
 	}
-	return c, err
+	return c
 }
 
 func (l look) overview(a asked, f frame) (*overview, error) {
-	c, err := l.counts()
+	read, err := l.api.Counts(l.ctx)
 	if err != nil {
 		return nil, err
 	}
-	other := a
+	if err := l.asOf(read.Now, &f); err != nil {
+		return nil, err
+	}
+	c, other := countsOf(read.Counts), a
 	other.isStill = !a.isStill
 	f.still(a.isStill, other.target())
 	f.Find = a.find
 	o := &overview{frame: f, Heading: heading(a), IsFirst: a.isFirst()}
-	flights, err := l.flights()
+	flights, err := l.flights(a)
 	if err != nil {
 		return nil, err
 	}
@@ -105,7 +131,7 @@ func (l look) overview(a asked, f frame) (*overview, error) {
 // titleOf tells in the browser's tab what waits.
 func titleOf(a asked, c counts) string {
 	title := counted(c.all[false], "instance")
-	if waiting := c.of[false][platform.Unsettled] + c.of[true][platform.Unsettled]; waiting > 0 {
+	if waiting := c.of[false][apiclient.Unsettled] + c.of[true][apiclient.Unsettled]; waiting > 0 {
 		title += ", " + thousands(waiting) + " unsettled"
 	}
 	if a.state != "" || a.find != "" || a.bindings {
@@ -132,7 +158,7 @@ func heading(a asked) string {
 
 // navs are the links to the rows of each state: for instances of all states, and for bindings of those in which there
 // are some.
-func navs(a asked, c counts, flights []platform.Entry) []nav {
+func navs(a asked, c counts, flights []apiclient.Record) []nav {
 	instances := navOf(a, c, false)
 	flying := thousands(len(flights))
 	if len(flights) == mostFlying {
@@ -163,27 +189,25 @@ func navOf(a asked, c counts, bindings bool) nav {
 	}
 	add("", "all", c.all[bindings])
 	for _, it := range states {
-		if number := c.of[bindings][it]; number > 0 || !bindings || a.state == string(it) && a.bindings {
-			add(string(it), string(it), number)
+		if number := c.of[bindings][it]; number > 0 || !bindings || a.state == it && a.bindings {
+			add(it, it, number)
 		}
 	}
 	return n
 }
 
 // flights are the rows with a request in flight. A lease that has run out may be that of a slow worker, or of one that
-// is dead: the request is in flight until it is given up.
-func (l look) flights() (flying []platform.Entry, err error) {
-	leased, err := l.store.InFlight(l.ctx, mostFlying)
-	for _, it := range leased {
-		if it.IsSent && it.Record.InFlight() != osb.KindNone {
-			flying = append(flying, it)
-		}
+// is dead: the request is in flight until it is given up. They have their lives if they are the list of the page.
+func (l look) flights(a asked) ([]apiclient.Record, error) {
+	life := 0
+	if a.find == "" && a.state == inFlight {
+		life = spans + 1
 	}
-	return flying, err
+	return l.api.InFlight(l.ctx, mostFlying, life)
 }
 
 // parts are those of the first page: what waits, what is in flight, the brokers.
-func (l look) parts(o *overview, a asked, c counts, flights []platform.Entry) error {
+func (l look) parts(o *overview, a asked, c counts, flights []apiclient.Record) error {
 	var err error
 	if o.Waiting, err = l.waiting(a, c); err != nil { // what needs attention comes first
 		return err
@@ -197,7 +221,7 @@ func (l look) parts(o *overview, a asked, c counts, flights []platform.Entry) er
 	if len(flights) > short {
 		o.MoreFlights = asked{state: inFlight, isStill: a.isStill}.target()
 	}
-	brokers, err := l.store.Brokers(l.ctx)
+	brokers, err := l.api.Brokers(l.ctx)
 	if err != nil {
 		return err
 	}

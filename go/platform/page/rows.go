@@ -3,30 +3,34 @@ package page
 import (
 	"time"
 
-	"pippinterm/platform"
+	"pippinterm/platform/api/apiclient"
 )
 
 // rowsOf are rows with their lives.
-func (l look) rowsOf(entries []platform.Entry, kind string) (all []row, err error) {
-	for _, it := range entries {
+func (l look) rowsOf(records []apiclient.Record, kind string) (all []row) {
+	for _, it := range records {
 		shown := l.row(it, kind)
-		stays, err := l.store.Life(l.ctx, it.Key)
-		if err != nil {
-			return nil, err
+		if it.Omitted > 0 {
+			shown.Before = counted(it.Omitted, "state")
 		}
-		if before := len(stays) - spans; before > 0 {
-			shown.Before, stays = counted(before, "state"), stays[before:]
-		}
-		shown.Life = l.life(stays, it)
+		shown.Life = l.life(livedBy(it))
 		all = append(all, shown)
 	}
-	return all, nil
+	return all
+}
+
+// livedBy are the states of a life that were answered, the one that lasts last.
+func livedBy(r apiclient.Record) []apiclient.Stay {
+	if len(r.Life) == 0 {
+		return []apiclient.Stay{{State: r.State, Since: r.Since}}
+	}
+	return r.Life
 }
 
 // life are the states of a life: those that have ended, and the one that lasts.
-func (l look) life(stays []platform.Stay, e platform.Entry) (found []span) {
+func (l look) life(stays []apiclient.Stay) (found []span) {
 	day := ""
-	for _, it := range append(append([]platform.Stay(nil), stays...), platform.Stay{State: e.State, Since: e.Since}) {
+	for _, it := range stays {
 		at := l.moment(it.Since)
 		told := at.Text
 		if len(told) > 11 && told[:10] == day {
@@ -34,7 +38,7 @@ func (l look) life(stays []platform.Stay, e platform.Entry) (found []span) {
 		} else if len(told) > 10 {
 			day = told[:10]
 		}
-		found = append(found, span{State: plain(string(it.State)), Since: at, Told: told})
+		found = append(found, span{State: plain(it.State), Since: at, Told: told})
 	}
 	return found
 }
@@ -48,24 +52,24 @@ func (l look) moment(at time.Time) moment {
 }
 
 // row is a row without its life. kind keeps links to one row apart if a page has several.
-func (l look) row(e platform.Entry, kind string) row {
+func (l look) row(r apiclient.Record, kind string) row {
 	shown := row{
-		ID: cut(nameOf(e), longestID), Href: targetOf(e.Key, l.isStill), Anchor: kind + "-" + e.Key.String(),
-		State: plain(string(e.State)), Since: l.moment(e.Since),
+		ID: cut(nameOf(r), longestID), Href: targetOf(r, l.isStill), Anchor: kind + "-" + r.Key(),
+		State: plain(r.State), Since: l.moment(r.Since),
 	}
-	if e.Key.IsBinding {
-		shown.Of = cut(plain(e.Names.Instance), longestID)
+	if r.IsBinding() {
+		shown.Of = cut(plain(r.InstanceID), longestID)
 	}
-	shown.Flight, shown.Worker = flightOf(e, l.now)
+	shown.Flight, shown.Worker = flightOf(r, l.now)
 	for _, it := range []string{shown.Flight, shown.Worker} {
 		if it != "" {
 			shown.Notes = append(shown.Notes, it)
 		}
 	}
-	if e.Removal != platform.NotRemoved && e.State != platform.Gone && e.State != platform.Withdrawn {
+	if removals[r.Removal] != "" && r.State != apiclient.Gone && r.State != apiclient.Withdrawn {
 		shown.Notes = append(shown.Notes, "removal is asked for")
 	}
-	if shown.Reason = cut(why(e), longestReason); shown.Reason != "" {
+	if shown.Reason = cut(why(r), longestReason); shown.Reason != "" {
 		shown.Notes = append(shown.Notes, shown.Reason)
 	}
 	return shown
@@ -73,38 +77,42 @@ func (l look) row(e platform.Entry, kind string) row {
 
 // why is what explains the state of a row: that it can't be read, why it was abandoned, what its deletion was answered,
 // or why its creation has failed. It is empty if nothing is wrong.
-func why(e platform.Entry) string {
-	if text := unreadable(e); text != "" {
+func why(r apiclient.Record) string {
+	if text := unreadable(r); text != "" {
 		return text
 	}
-	isRejected := e.Last.Lost != "" || e.Last.Status >= 400
-	switch e.State {
-	case platform.Abandoned:
-		return plain(e.Because)
-	case platform.Cleaning, platform.CleaningPolling, platform.Wanted, platform.Polling:
+	isRejected := r.Last.Lost != "" || r.Last.Status >= 400
+	switch r.State {
+	case apiclient.Abandoned:
+		return plain(r.Because)
+	case apiclient.Cleaning, apiclient.CleaningPolling, apiclient.Wanted, apiclient.Polling:
 		if isRejected {
-			return inOne(e.Last)
+			return inOne(r.Last)
 		}
 	}
-	return inOne(e.Failure)
+	return inOne(r.Failure)
 }
 
 // unreadable is why a row can't be read, as a sentence, or empty.
-func unreadable(e platform.Entry) string {
-	if e.Unreadable == "" {
+func unreadable(r apiclient.Record) string {
+	if r.Unreadable == "" {
 		return ""
 	}
-	return "its record can't be read: " + plain(e.Unreadable)
+	return "its record can't be read: " + plain(r.Unreadable)
 }
 
 // nameOf is the id as it is sent, or its number if it isn't known.
-func nameOf(e platform.Entry) string {
-	name := e.Names.Instance
-	if e.Key.IsBinding {
-		name = e.Names.Binding
+func nameOf(r apiclient.Record) string {
+	if r.ID == "" {
+		return plain(r.Number)
 	}
-	if name == "" {
-		name = e.Key.ID().String()
+	return plain(r.ID)
+}
+
+// isBefore is whether a row comes before another one by time and key.
+func isBefore(a, b apiclient.Record) bool {
+	if !a.Since.Equal(b.Since) {
+		return a.Since.Before(b.Since)
 	}
-	return plain(name)
+	return a.Key() < b.Key()
 }

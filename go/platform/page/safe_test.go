@@ -2,6 +2,7 @@ package page
 
 import (
 	"context"
+	"encoding/json"
 	"errors"
 	"fmt"
 	"net/http"
@@ -13,6 +14,8 @@ import (
 	"time"
 
 	"pippinterm/platform"
+	"pippinterm/platform/api"
+	"pippinterm/platform/api/apiclient"
 	"pippinterm/program/server"
 )
 
@@ -33,7 +36,7 @@ func TestEscaping(t *testing.T) {
 		e.Broker, e.Names.Service, e.Names.Plan, e.Operation = harmful, harmful, harmful, &operation
 		e.Names.Instance, e.Because, e.Dashboard, e.Organization, e.Space = harmful, harmful, harmful, harmful, harmful
 		e.Last = platform.Reason{At: began, Kind: harmful, Error: harmful, Description: harmful, Lost: harmful}
-		e.Failure, e.Metadata = e.Last, []byte(`{"a": "`+harmful+`"}`)
+		e.Failure, e.Metadata = e.Last, objectOf(t, harmful)
 		if e.Key.IsBinding {
 			e.Names.Binding = harmful
 		}
@@ -62,6 +65,14 @@ func TestEscaping(t *testing.T) {
 			t.Errorf("%s has a link to a script", target)
 		}
 	}
+}
+
+// objectOf is an object of JSON with a member of this name and value.
+func objectOf(t *testing.T, text string) []byte {
+	t.Helper()
+	object, err := json.Marshal(map[string]string{text: text})
+	must(t, err)
+	return object
 }
 
 // No page shows a password, credentials, parameters, or the identity of an order.
@@ -207,8 +218,10 @@ func TestMethods(t *testing.T) {
 // What fails tells nothing of the store and of the request, and what is rejected nothing of the program either.
 func TestErrorsTellNothing(t *testing.T) {
 	store := shelf()
-	var failures []error
-	h := pageOf(t, store, Options{Failed: func(err error) { failures = append(failures, err) }})
+	var failures, causes []error
+	client := clientOf(t, store, func(of api.Exchange) { causes = append(causes, of.Err) })
+	h, err := NewHandler(client, Options{Failed: func(err error) { failures = append(failures, err) }})
+	must(t, err)
 	answers := []*httptest.ResponseRecorder{
 		answerTo(h, request("GET", "/secret-path")), answerTo(h, request("GET", "/instance/secret-path")),
 		answerTo(h, request("GET", "/?secret-path")),
@@ -223,8 +236,11 @@ func TestErrorsTellNothing(t *testing.T) {
 		if answered.Code != http.StatusServiceUnavailable || answered.Header().Get("Retry-After") == "" {
 			t.Errorf("%s: %d", target, answered.Code)
 		}
-		if len(failures) == 0 || !errors.Is(failures[len(failures)-1], store.err) {
+		if len(failures) == 0 || !errors.Is(failures[len(failures)-1], apiclient.ErrUnavailable) {
 			t.Errorf("%s: the failures are %v", target, failures)
+		}
+		if !errors.Is(causes[len(causes)-1], store.err) {
+			t.Errorf("%s: the API tells the log %v", target, causes)
 		}
 		answers = append(answers, answered)
 	}
@@ -357,13 +373,13 @@ func TestAtOnce(t *testing.T) {
 
 func TestNewHandler(t *testing.T) {
 	for name, it := range map[string]struct {
-		store   platform.Store
+		api     API
 		options Options
 	}{
-		"no store": {nil, Options{}}, "cleaning": {shelf(), Options{LongCleaning: -1}},
-		"at once": {shelf(), Options{AtOnce: -1}}, "timeout": {shelf(), Options{Timeout: -1}},
+		"no API": {nil, Options{}}, "cleaning": {&apiclient.Client{}, Options{LongCleaning: -1}},
+		"at once": {&apiclient.Client{}, Options{AtOnce: -1}}, "timeout": {&apiclient.Client{}, Options{Timeout: -1}},
 	} {
-		if _, err := NewHandler(it.store, it.options); err == nil {
+		if _, err := NewHandler(it.api, it.options); err == nil {
 			t.Errorf("%s: it is taken", name)
 		}
 	}

@@ -2,6 +2,7 @@ package page
 
 import (
 	"context"
+	"crypto/sha256"
 	"encoding/json"
 	"fmt"
 	"net"
@@ -15,6 +16,8 @@ import (
 
 	"pippinterm/osb"
 	"pippinterm/platform"
+	"pippinterm/platform/api"
+	"pippinterm/platform/api/apiclient"
 )
 
 var background = context.Background()
@@ -62,7 +65,7 @@ func flying(e platform.Entry) platform.Entry {
 func shelf() *fake {
 	f := &fake{now: now, lives: map[platform.Key][]platform.Stay{}}
 	for n, state := range states {
-		f.rows = append(f.rows, entryOf(platform.InstanceKey(idOf(n+1)), state))
+		f.rows = append(f.rows, entryOf(platform.InstanceKey(idOf(n+1)), platform.State(state)))
 	}
 	f.rows[2] = flying(f.rows[2])
 	bound := entryOf(platform.BindingKey(f.rows[4].Key.Instance, idOf(0x51)), platform.Ready)
@@ -83,11 +86,28 @@ func shelf() *fake {
 	return f
 }
 
+// pageOf is the page over the API of a store, in this process.
 func pageOf(t *testing.T, store platform.Store, options Options) http.Handler {
 	t.Helper()
-	h, err := NewHandler(store, options)
+	h, err := NewHandler(clientOf(t, store, nil), options)
 	must(t, err)
 	return h
+}
+
+// clientOf asks the API of a store, which tells observe of each request, unless that is nil.
+func clientOf(t *testing.T, store platform.Store, observe func(api.Exchange)) *apiclient.Client {
+	t.Helper()
+	token := strings.Repeat("t", api.ShortestToken)
+	handler, err := api.NewHandler(platform.NewOrders(store, nil), store, api.Options{
+		Tokens:  []api.Token{{Name: "page", Permissions: api.Read, Digest: sha256.Sum256([]byte(token))}},
+		Observe: observe,
+	})
+	must(t, err)
+	client, err := apiclient.New(apiclient.Options{
+		URL: "http://api.invalid", Token: token, Transport: apiclient.Local(handler),
+	})
+	must(t, err)
+	return client
 }
 
 // A request as it comes to a page at 127.0.0.1:8090.
@@ -102,7 +122,12 @@ func requestAt(address, method, target string) *http.Request {
 }
 
 // pageOn is the target of a row's own page.
-func pageOn(key platform.Key) string { return targetOf(key, false) }
+func pageOn(key platform.Key) string {
+	if key.IsBinding {
+		return targetOfIDs(false, key.Instance.String(), key.Binding.String())
+	}
+	return targetOfIDs(false, key.Instance.String())
+}
 
 func answerTo(h http.Handler, r *http.Request) *httptest.ResponseRecorder {
 	recorder := httptest.NewRecorder()

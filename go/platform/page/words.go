@@ -7,8 +7,7 @@ import (
 	"time"
 	"unicode"
 
-	"pippinterm/osb"
-	"pippinterm/platform"
+	"pippinterm/platform/api/apiclient"
 )
 
 // A moment is a time as it is shown: in UTC, and how long ago that was.
@@ -115,37 +114,55 @@ func cut(text string, most int) string {
 	return text
 }
 
-var (
-	kinds = map[osb.Kind]string{
-		osb.KindProvision: "Provision", osb.KindPoll: "Poll", osb.KindDeprovision: "Deprovision",
-	}
-	kindsOfBindings = map[osb.Kind]string{
-		osb.KindProvision: "Bind", osb.KindPoll: "Poll", osb.KindDeprovision: "Unbind",
-	}
-)
+// kinds are the requests by their names in the standard.
+var kinds = map[string]string{
+	"provision": "Provision", "poll": "Poll", "deprovision": "Deprovision", "bind": "Bind", "unbind": "Unbind",
+}
 
 // flightOf is the kind of the request in flight, and who has it. Both are empty if none is in flight. What nobody has
 // was left so by a crash, or by a store that failed.
-func flightOf(e platform.Entry, now time.Time) (kind, worker string) {
-	if !e.IsSent || e.Record.InFlight() == osb.KindNone {
+func flightOf(r apiclient.Record, now time.Time) (kind, worker string) {
+	flight := r.InFlight
+	if flight == nil {
 		return "", ""
 	}
-	kind = kinds[e.Record.InFlight()]
-	if e.Key.IsBinding {
-		kind = kindsOfBindings[e.Record.InFlight()]
+	if kind = kinds[flight.Kind]; kind == "" {
+		kind = plain(flight.Kind)
 	}
 	switch {
-	case e.Lease.Worker == "":
+	case flight.Worker == "":
 		return kind, "no worker has it"
-	case e.Lease.Until.Before(now):
-		return kind, plain(e.Lease.Worker) + ", lease ran out " + ago(now.Sub(e.Lease.Until))
+	case flight.Until.Before(now):
+		return kind, plain(flight.Worker) + ", lease ran out " + ago(now.Sub(flight.Until))
 	}
-	return kind, plain(e.Lease.Worker)
+	return kind, plain(flight.Worker)
+}
+
+// spaced is a value of JSON in one line, with a blank behind each comma and colon, however it was written.
+func spaced(value []byte) string {
+	var out strings.Builder
+	isText, isEscaped := false, false
+	for _, it := range value {
+		switch {
+		case isText:
+			isText = it != '"' || isEscaped
+			isEscaped = it == '\\' && !isEscaped
+		case it == '"':
+			isText = true
+		case it == ' ' || it == '\t' || it == '\n' || it == '\r':
+			continue
+		}
+		out.WriteByte(it)
+		if !isText && (it == ',' || it == ':') {
+			out.WriteByte(' ')
+		}
+	}
+	return out.String()
 }
 
 // reasonOf is what was said, in parts.
-func reasonOf(reason platform.Reason) (parts []string) {
-	if reason == (platform.Reason{}) {
+func reasonOf(reason apiclient.Reason) (parts []string) {
+	if reason == (apiclient.Reason{}) {
 		return nil
 	}
 	if reason.Kind != "" {
@@ -163,7 +180,7 @@ func reasonOf(reason platform.Reason) (parts []string) {
 }
 
 // inOne is what was said, in one text.
-func inOne(reason platform.Reason) string { return strings.Join(reasonOf(reason), ", ") }
+func inOne(reason apiclient.Reason) string { return strings.Join(reasonOf(reason), ", ") }
 
 // How many characters of a broker's text are shown, and how many of a reason in a table.
 const (

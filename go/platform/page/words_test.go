@@ -55,3 +55,15 @@ func TestMarked(t *testing.T) {
 		t.Errorf("it is %v", got)
 	}
 }
+
+// JSON is shown in one line, and texts in it stay as they are.
+func TestSpaced(t *testing.T) {
+	for value, want := range map[string]string{
+		`{}`: `{}`, `{"a":[1,2],"b":{}}`: `{"a": [1, 2], "b": {}}`, "{\n \"a\" :\t1 }": `{"a": 1}`,
+		`{"a:b , c":"d,\"e: \\","f":1}`: `{"a:b , c": "d,\"e: \\", "f": 1}`, "": "",
+	} {
+		if got := spaced([]byte(value)); got != want {
+			t.Errorf("%s is %s, want %s", value, got, want)
+		}
+	}
+}

@@ -3,7 +3,6 @@ package postgres
 import (
 	"context"
 	"database/sql"
-	"fmt"
 	"strings"
 	"testing"
 
@@ -47,6 +46,7 @@ func TestQueriesUseIndexes(t *testing.T) {
 	queries := map[string]string{
 		lockDue:        "'{one}', 16, 96",
 		nextDue:        "'{one}'",
+		oldestDue:      "",
 		lockInstance:   quoted(key),
 		lockBinding:    quoted(key, key),
 		writeRows:      quoted(row, row, row, "{"+key+"}", "{"+key+"}"),
@@ -74,7 +74,10 @@ func wantIndexed(t *testing.T, conn *sql.Conn, query, values, mode string) {
 			t.Fatalf("%s: %v", it, err)
 		}
 	}
-	rows, err := conn.QueryContext(ctx, fmt.Sprintf("EXPLAIN EXECUTE planned (%s)", values))
+	if values != "" {
+		values = "(" + values + ")"
+	}
+	rows, err := conn.QueryContext(ctx, "EXPLAIN EXECUTE planned "+values)
 	plan := []string{}
 	err = each(rows, err, func(rows *sql.Rows) error {
 		var step string

@@ -260,11 +260,16 @@ var nextDue = "SELECT min(due), " + clock + " FROM unnest($1::text[]) AS k (brok
 
 // NextDue returns when the next row is due, as platform.Store says.
 func (s *Store) NextDue(ctx context.Context, brokers []string) (due, now time.Time, err error) {
+	return s.dueAndNow(ctx, nextDue, array(brokers))
+}
+
+// dueAndNow reads a time, or none, and the time of the server.
+func (s *Store) dueAndNow(ctx context.Context, query string, of ...any) (due, now time.Time, err error) {
 	type times struct{ due, now time.Time }
 	found, err := within(ctx, s, func(*call) (found times, err error) {
 		var first sql.NullFloat64
 		var at float64
-		if err = s.db.QueryRowContext(ctx, nextDue, array(brokers)).Scan(&first, &at); err != nil {
+		if err = s.db.QueryRowContext(ctx, query, of...).Scan(&first, &at); err != nil {
 			return found, err
 		}
 		if first.Valid {
@@ -274,6 +279,16 @@ func (s *Store) NextDue(ctx context.Context, brokers []string) (due, now time.Ti
 		return found, nil
 	})
 	return found.due, found.now, err
+}
+
+// oldestDue reads what platform.Entry.LastText writes. Within a text of that column, a quote stands behind a backslash.
+var oldestDue = `SELECT min(coalesce(substring(last from '"due_since":([0-9]+)')::float8 / 1000, due)), ` + clock + `
+FROM (SELECT last, greatest(due, leased_until) AS due FROM osb_instances WHERE due IS NOT NULL
+    UNION ALL SELECT last, greatest(due, leased_until) FROM osb_bound WHERE due IS NOT NULL) AS t`
+
+// OldestDue returns since when the row is due that waits for longest, as platform.Store says.
+func (s *Store) OldestDue(ctx context.Context) (due, now time.Time, err error) {
+	return s.dueAndNow(ctx, oldestDue)
 }
 
 // each calls with each row that a query has returned, unless it has returned an error.

@@ -106,7 +106,7 @@ func (r *row) writeTexts(entry platform.Entry) (err error) {
 	if r.Names, err = textOf(ids); err != nil {
 		return err
 	}
-	if r.Last, err = reasonText(entry.Last); err != nil {
+	if r.Last, err = lastText(entry); err != nil {
 		return err
 	}
 	if r.Failure, err = reasonText(entry.Failure); err != nil {
@@ -176,7 +176,7 @@ func (r *row) readTexts(entry *platform.Entry) (failed error) {
 		{"plan", func() error { return entry.Plan.UnmarshalText([]byte(r.Plan)) }},
 		{"first", func() error { return entry.First.UnmarshalText([]byte(r.First)) }},
 		{"names", func() error { return json.Unmarshal([]byte(r.Names), &ids) }},
-		{"last", func() error { return readReason(r.Last, &entry.Last) }},
+		{"last", func() error { return readLast(r.Last, entry) }},
 		{"failure", func() error { return readReason(r.Failure, &entry.Failure) }},
 		{"record", func() error { return r.readRecord(entry) }},
 	} {
@@ -294,6 +294,23 @@ func (s *sealed) UnmarshalJSON(text []byte) error {
 	bytes, err := hex.DecodeString(strings.TrimPrefix(*read, `\x`))
 	*s = bytes
 	return err
+}
+
+// lastText is the last reason, with since when the row is due.
+func lastText(entry platform.Entry) (*string, error) {
+	text, err := entry.LastText()
+	if text == nil || err != nil {
+		return nil, err
+	}
+	kept := string(text)
+	return &kept, nil
+}
+
+func readLast(text *string, entry *platform.Entry) error {
+	if text == nil {
+		return nil
+	}
+	return entry.ReadLast([]byte(*text))
 }
 
 func reasonText(reason platform.Reason) (*string, error) {

@@ -22,6 +22,7 @@ import (
 	"database/sql"
 	"errors"
 	"fmt"
+	"net"
 	"sync"
 	"time"
 
@@ -74,6 +75,17 @@ type Store struct {
 // Store return platform.ErrAway if the server can't be reached for now, and also if the answer to a COMMIT was lost
 // (session.ErrUnknownCommit): after any other error nothing is written.
 func Open(ctx context.Context, url string, most int) (*Store, error) {
+	return open(ctx, url, most, extend)
+}
+
+// OpenExisting is Open of a database that has the tables, of this version or of version 0.2. Otherwise it creates
+// nothing, and the error is platform.ErrNoStore.
+func OpenExisting(ctx context.Context, url string, most int) (*Store, error) {
+	return open(ctx, url, most, extendExisting)
+}
+
+// open opens the store. bring brings its tables up to date.
+func open(ctx context.Context, url string, most int, bring extension) (*Store, error) {
 	if most < 1 {
 		return nil, fmt.Errorf("the store needs at least 1 connection, and not %d", most)
 	}
@@ -82,7 +94,7 @@ func Open(ctx context.Context, url string, most int) (*Store, error) {
 		return nil, fmt.Errorf("the store: %w", err)
 	}
 	store := &Store{url: url, db: db, most: most, prepared: map[string]*sql.Stmt{}}
-	if err := store.prepare(ctx); err != nil {
+	if err := store.prepare(ctx, bring); err != nil {
 		_ = db.Close()
 		return nil, fmt.Errorf("the store: %w", asAway(err))
 	}
@@ -94,7 +106,7 @@ func options(most int, statement time.Duration) session.Options {
 }
 
 // prepare checks the database, and brings its tables up to date.
-func (s *Store) prepare(ctx context.Context) error {
+func (s *Store) prepare(ctx context.Context, bring extension) error {
 	var encoding string
 	if err := s.db.QueryRowContext(ctx, "SHOW server_encoding").Scan(&encoding); err != nil {
 		return err
@@ -103,7 +115,7 @@ func (s *Store) prepare(ctx context.Context) error {
 		return session.Lasting(fmt.Errorf("the encoding of the database is %s. Create one with: CREATE DATABASE .. "+
 			"ENCODING 'UTF8' TEMPLATE template0", encoding))
 	}
-	return s.migrate(ctx)
+	return s.migrate(ctx, bring)
 }
 
 // statement is a statement that is prepared, once for the store and then once in each session: the server plans it for
@@ -129,7 +141,11 @@ func (s *Store) Close() error {
 	s.isClosed = true
 	s.turn.Unlock()
 	s.running.Wait()
-	return session.Close(s.db)
+	err := session.Close(s.db)
+	if errors.Is(err, net.ErrClosed) { // of a connection that a cancelled call has closed
+		return nil
+	}
+	return err
 }
 
 // enter begins a call that Close waits for, unless the store is closed. The caller calls s.running.Done at the end.

@@ -37,6 +37,13 @@ func TestStore(t *testing.T) {
 	storetest.Test(t, func(t *testing.T) platform.Store { return open(t, all.url(t)) })
 }
 
+// A worker that is paused between two statements, while another one goes on over the same database.
+func TestPausedWorker(t *testing.T) {
+	pgtest.URL(t)
+	all := &schemas{urls: map[string]string{}}
+	storetest.TestPausedWorker(t, func(t *testing.T) platform.Store { return open(t, all.url(t)) })
+}
+
 func open(t testing.TB, url string) *postgres.Store {
 	t.Helper()
 	store, err := postgres.Open(background, url, 4)

@@ -8,6 +8,7 @@ import (
 	"time"
 
 	"pippinterm/broker/postgres/session"
+	"pippinterm/platform"
 )
 
 // The tables of version 0.2, but for an index that is replaced.
@@ -93,9 +94,15 @@ const longestMigration = 15 * time.Minute
 
 var errWorkers = errors.New("a worker of version 0.2 runs over these tables. Stop all of its workers first")
 
-// migrate creates or extends the tables, unless nothing is missing. In that case a role without the right to do so can
+// hasTables is whether there are tables of a platform, of any version.
+const hasTables = "SELECT to_regclass('osb_instances') IS NOT NULL"
+
+// An extension brings the tables up to date in a transaction, and returns whether it has changed any.
+type extension func(ctx context.Context, tx *sql.Tx) (bool, error)
+
+// migrate brings the tables up to date, unless nothing is missing. In that case a role without the right to do so can
 // serve, and no table is locked.
-func (s *Store) migrate(ctx context.Context) error {
+func (s *Store) migrate(ctx context.Context, bring extension) error {
 	var isDone bool
 	if err := s.db.QueryRowContext(ctx, isCurrent).Scan(&isDone); err != nil || isDone {
 		return err
@@ -110,11 +117,23 @@ func (s *Store) migrate(ctx context.Context) error {
 		return err
 	}
 	defer conn.Close()
-	err = session.Transaction(ctx, conn, func(tx *sql.Tx) (bool, error) { return extend(ctx, tx) })
-	if err != nil && !errors.Is(err, errWorkers) {
+	err = session.Transaction(ctx, conn, func(tx *sql.Tx) (bool, error) { return bring(ctx, tx) })
+	if err != nil && !errors.Is(err, errWorkers) && !errors.Is(err, platform.ErrNoStore) {
 		err = fmt.Errorf("the tables can't be created or extended. Start a platform once as their owner: %w", err)
 	}
 	return err
+}
+
+// extendExisting extends the tables that there are. If there are none, the error is platform.ErrNoStore.
+func extendExisting(ctx context.Context, tx *sql.Tx) (bool, error) {
+	var isThere bool
+	if err := tx.QueryRowContext(ctx, hasTables).Scan(&isThere); err != nil {
+		return false, err
+	}
+	if !isThere {
+		return false, session.Lasting(platform.ErrNoStore)
+	}
+	return extend(ctx, tx)
 }
 
 // extend creates or extends the tables, and returns whether it has.

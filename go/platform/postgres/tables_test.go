@@ -2,6 +2,7 @@ package postgres_test
 
 import (
 	"context"
+	"errors"
 	"fmt"
 	"strings"
 	"sync"
@@ -312,6 +313,34 @@ func TestManyOpen(t *testing.T) {
 			}()
 		}
 		all.Wait()
+	}
+}
+
+// OpenExisting creates no tables, extends those of version 0.2, and opens those that are current.
+func TestOpenExisting(t *testing.T) {
+	url := pgtest.Schema(t, pgtest.URL(t), "osb_platform_existing")
+	db := pgtest.DB(t, url)
+	_, err := postgres.OpenExisting(background, url, 1)
+	if _, isLasting := session.Remedy(err); !errors.Is(err, platform.ErrNoStore) || !isLasting {
+		t.Errorf("without tables: %v", err)
+	}
+	var relations int
+	query := "SELECT count(*) FROM pg_class WHERE relnamespace = 'osb_platform_existing'::regnamespace"
+	if err := db.QueryRow(query).Scan(&relations); err != nil || relations != 0 {
+		t.Errorf("%d relations are there: %v", relations, err)
+	}
+	pgtest.Exec(t, db, of02...)
+	for _, tables := range []string{"those of version 0.2", "those of this version"} {
+		store, err := postgres.OpenExisting(background, url, 1)
+		if err != nil {
+			t.Fatalf("%s: %v", tables, err)
+		}
+		if brokers, err := store.Brokers(background); err != nil || len(brokers) != 1 {
+			t.Errorf("%s: %+v, %v", tables, brokers, err)
+		}
+		if err := store.Close(); err != nil {
+			t.Error(err)
+		}
 	}
 }
 

@@ -21,6 +21,7 @@ type connection struct {
 	due                          map[int]*sqlitefile.Statement // by the number of brokers
 	lists                        map[string]*sqlitefile.Statement
 	life, inFlight, counts       *sqlitefile.Statement
+	oldestDue                    *sqlitefile.Statement
 	brokers, broker              *sqlitefile.Statement
 	insertBroker, updateBroker   *sqlitefile.Statement
 	dropBroker, brokerUsed       *sqlitefile.Statement
@@ -94,6 +95,10 @@ func (c *connection) ofOthers() map[**sqlitefile.Statement]string {
 	}
 }
 
+// dueSince is since when a row is due. It reads what platform.Entry.LastText writes, also of a row that can't be read.
+const dueSince = "coalesce(CASE WHEN json_valid(last) THEN json_extract(last, '$.due_since') / 1000.0 END, " +
+	"max(due, coalesce(leased_until, due)))"
+
 // ofReading are the statements that read for people.
 func (c *connection) ofReading() map[**sqlitefile.Statement]string {
 	oldest := func(table string) string {
@@ -105,6 +110,9 @@ func (c *connection) ofReading() map[**sqlitefile.Statement]string {
 			"SELECT leased_until, instance, id FROM osb_bindings WHERE worker IS NOT NULL ORDER BY 1, 2, 3 LIMIT ?",
 		&c.counts: "SELECT broker, is_binding, state, count, CASE is_binding WHEN 0 THEN " + oldest("osb_instances") +
 			" ELSE " + oldest("osb_bindings") + " END FROM osb_counts AS counts WHERE count > 0",
+		&c.oldestDue: "SELECT min(due) FROM (" +
+			"SELECT " + dueSince + " AS due FROM osb_instances INDEXED BY osb_instances_to_do WHERE due IS NOT NULL " +
+			"UNION ALL SELECT " + dueSince + " FROM osb_bindings INDEXED BY osb_bindings_to_do WHERE due IS NOT NULL)",
 	}
 }
 

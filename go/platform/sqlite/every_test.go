@@ -26,3 +26,15 @@ func TestStore(t *testing.T) {
 		return store
 	})
 }
+
+// A worker that is paused between two statements, while another one goes on over the same file.
+func TestPausedWorker(t *testing.T) {
+	folder := t.TempDir()
+	storetest.TestPausedWorker(t, func(t *testing.T) platform.Store {
+		store, err := sqlite.Open(context.Background(), filepath.Join(folder, storetest.NameOf(t)))
+		if err != nil {
+			t.Fatal(err)
+		}
+		return store
+	})
+}

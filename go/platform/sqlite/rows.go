@@ -90,7 +90,7 @@ func stateValues(entry platform.Entry) ([]driver.Value, error) {
 	if err != nil {
 		return nil, err
 	}
-	last, err := reasonValue(entry.Last)
+	last, err := lastValue(entry)
 	if err != nil {
 		return nil, err
 	}
@@ -133,6 +133,15 @@ func recordValue(entry platform.Entry) (driver.Value, error) {
 	}
 	text, err := write()
 	return string(text), err
+}
+
+// lastValue is the last reason, with since when the row is due.
+func lastValue(entry platform.Entry) (driver.Value, error) {
+	text, err := entry.LastText()
+	if text == nil || err != nil {
+		return nil, err
+	}
+	return string(text), nil
 }
 
 func reasonValue(reason platform.Reason) (driver.Value, error) {
@@ -277,6 +286,14 @@ func (r *row) id(otherwise osb.ID) osb.ID {
 	return otherwise
 }
 
+func (r *row) last(entry *platform.Entry) {
+	if text := r.optional(); text != nil {
+		if err := entry.ReadLast([]byte(*text)); err != nil && r.err == nil {
+			r.err = err
+		}
+	}
+}
+
 func (r *row) reason() (reason platform.Reason) {
 	if text := r.optional(); text != nil {
 		if err := json.Unmarshal([]byte(*text), &reason); err != nil && r.err == nil {
@@ -357,7 +374,8 @@ func (r *row) state(entry *platform.Entry) {
 	entry.Removal, entry.HasLast = platform.Removal(r.number()), r.number() != 0
 	entry.Due, entry.Unchanged = r.at(), int(r.number())
 	entry.Lease.Worker, entry.Lease.Until = r.text(""), r.at()
-	entry.Last, entry.Failure = r.reason(), r.reason()
+	r.last(entry)
+	entry.Failure = r.reason()
 	entry.Passing, entry.After = r.number() != 0, time.Duration(r.number())*time.Millisecond
 	entry.Dashboard, entry.Metadata, entry.Because = r.text(""), r.json(), r.text("")
 }

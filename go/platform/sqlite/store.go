@@ -9,6 +9,8 @@ import (
 	"database/sql/driver"
 	"errors"
 	"fmt"
+	"io/fs"
+	"os"
 	"sort"
 	"time"
 
@@ -17,8 +19,9 @@ import (
 )
 
 const (
-	readers  = 4   // as many read at once
-	together = 256 // as many changes are written in one transaction at most
+	readers  = 4        // as many read at once
+	together = 256      // as many changes are written in one transaction at most
+	cache    = 64 << 10 // KiB of pages that are kept: with fewer, the pages of 10,000 due rows are read again and again
 )
 
 // A Store is a platform.Store.
@@ -33,9 +36,24 @@ var _ platform.Store = (*Store)(nil)
 //
 // Errors name the file: it can't be opened or extended, it is of a later version or of another program, or it is of
 // version 0.2 and a worker of that version runs. Nothing was changed then.
-func Open(ctx context.Context, path string) (*Store, error) {
+func Open(ctx context.Context, path string) (*Store, error) { return opened(ctx, path, migrate) }
+
+// OpenExisting is Open of a file that has the tables, of this version or of version 0.2. Otherwise it creates nothing,
+// and the error is platform.ErrNoStore: there is no file, or it has no tables.
+func OpenExisting(ctx context.Context, path string) (*Store, error) {
+	about, err := os.Stat(path)
+	if errors.Is(err, fs.ErrNotExist) || err == nil && about.Mode().IsRegular() && about.Size() == 0 {
+		return nil, fmt.Errorf("sqlite: %s: %w", path, platform.ErrNoStore)
+	}
+	return opened(ctx, path, migrateExisting)
+}
+
+// opened is a store over a file. bring brings its tables up to date.
+func opened(
+	ctx context.Context, path string, bring func(ctx context.Context, conn *sqlitefile.Conn, path string) error,
+) (*Store, error) {
 	file, err := sqlitefile.Open(ctx, path, sqlitefile.Options[*connection]{
-		Readers: readers, Together: together, Migrate: migrate, Prepare: prepared,
+		Readers: readers, Together: together, Cache: cache, Migrate: bring, Prepare: prepared,
 	})
 	if err != nil {
 		return nil, err
@@ -189,6 +207,20 @@ func (s *Store) NextDue(ctx context.Context, brokers []string) (due, at time.Tim
 		found, err := c.keysDue(brokers, never, seconds(at), 1)
 		if len(found) > 0 {
 			due = found[0].at
+		}
+		return err
+	})
+	return due, at, err
+}
+
+// OldestDue returns since when the row is due that waits for longest.
+func (s *Store) OldestDue(ctx context.Context) (due, at time.Time, err error) {
+	at = now()
+	err = s.read(ctx, func(c *connection) error {
+		values, err := c.oldestDue.One()
+		if err == nil {
+			r := &row{values: values}
+			due, err = r.at(), r.err
 		}
 		return err
 	})

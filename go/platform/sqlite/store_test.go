@@ -137,6 +137,43 @@ func oldRows() []platform.Entry {
 	return rows
 }
 
+// OpenExisting creates no file and no tables, extends a file of version 0.2, and opens one that is current.
+func TestOpenExisting(t *testing.T) {
+	missing, empty, bare := filepath.Join(t.TempDir(), "missing"), filepath.Join(t.TempDir(), "empty"),
+		filepath.Join(t.TempDir(), "bare")
+	if err := os.WriteFile(empty, nil, 0o600); err != nil {
+		t.Fatal(err)
+	}
+	executed(t, bare, "PRAGMA journal_mode = WAL", "CREATE TABLE one (one)", "DROP TABLE one")
+	for _, path := range []string{missing, empty, bare} {
+		if _, err := OpenExisting(background, path); !errors.Is(err, platform.ErrNoStore) {
+			t.Errorf("%s: %v", path, err)
+		}
+	}
+	if _, err := os.Stat(missing); !os.IsNotExist(err) {
+		t.Errorf("the missing file: %v", err)
+	}
+	if about, err := os.Stat(empty); err != nil || about.Size() != 0 {
+		t.Errorf("the empty file: %v, %v", about, err)
+	}
+	if found := queried(t, bare, "SELECT name FROM sqlite_master"); len(found) != 0 {
+		t.Errorf("the file without tables has %v", found)
+	}
+	path := old(t)
+	for _, tables := range []string{"those of version 0.2", "those of this version"} {
+		store, err := OpenExisting(background, path)
+		if err != nil {
+			t.Fatalf("%s: %v", tables, err)
+		}
+		if brokers, err := store.Brokers(background); err != nil || len(brokers) != 1 {
+			t.Errorf("%s: %+v, %v", tables, brokers, err)
+		}
+		if err := store.Close(); err != nil {
+			t.Error(err)
+		}
+	}
+}
+
 // A file of version 0.2 is extended, and each of its rows is read.
 func TestMigration(t *testing.T) {
 	s := open(t, old(t))
@@ -469,11 +506,31 @@ func TestQueriesUseIndexes(t *testing.T) {
 		} {
 			wantIndexed(t, c, others[it]+reading[it], values, false)
 		}
-		return nil
+		return wantOfDue(t, c, reading[&c.oldestDue])
 	})
 	if err != nil {
 		t.Fatal(err)
 	}
+}
+
+// wantOfDue fails if a query reads rows that rest: the two indexes have none.
+func wantOfDue(t *testing.T, c *connection, query string) error {
+	t.Helper()
+	scans := 0
+	err := c.Each("EXPLAIN QUERY PLAN "+query, nil, func(row []driver.Value) error {
+		step := fmt.Sprint(row[3])
+		if !strings.Contains(step, "SCAN osb_") {
+			return nil
+		}
+		if scans++; !strings.HasSuffix(step, "_to_do") {
+			t.Errorf("%s\n%s", step, query)
+		}
+		return nil
+	})
+	if scans != 2 {
+		t.Errorf("%d scans\n%s", scans, query)
+	}
+	return err
 }
 
 // wantIndexed fails if a query reads a table or an index from end to end, or sorts what it has read, unless that is

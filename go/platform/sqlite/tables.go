@@ -6,6 +6,7 @@ import (
 	"errors"
 	"fmt"
 
+	"pippinterm/platform"
 	"pippinterm/program/sqlite"
 )
 
@@ -134,6 +135,24 @@ func migrate(ctx context.Context, conn *sqlitefile.Conn, path string) error {
 		}
 		return extend(conn)
 	})
+}
+
+// migrateExisting is migrate of a file that has tables. If it has none, the error is platform.ErrNoStore.
+func migrateExisting(ctx context.Context, conn *sqlitefile.Conn, path string) error {
+	count := int64(0)
+	err := sqlitefile.Patiently(ctx, func() error {
+		return conn.Each("SELECT count(*) FROM sqlite_master", nil, func(row []driver.Value) error {
+			count, _ = row[0].(int64)
+			return nil
+		})
+	})
+	switch {
+	case err != nil:
+		return err
+	case count == 0:
+		return platform.ErrNoStore
+	}
+	return migrate(ctx, conn, path)
 }
 
 // isCurrent is whether the tables are those of this version.

@@ -73,6 +73,7 @@ func full(t *testing.T, key platform.Key) platform.Entry {
 	entry.Body = json.RawMessage(`{ "parameters": {"x":[1, 2.0,"\u0000"],"a":null} , "context":{}}`)
 	entry.Operation, entry.Since, entry.SentUntil, entry.PolledSince = &operation, past(1), past(2), past(3)
 	entry.Removal, entry.HasLast, entry.Due, entry.Unchanged = platform.RemovedWhole, true, past(4), 6
+	entry.DueSince = past(3)
 	entry.Lease = platform.Lease{Worker: "worker.1", Until: past(5)}
 	entry.Last, entry.Failure = reason, platform.Reason{At: past(8), Kind: "poll"}
 	entry.Passing, entry.After = true, 90*time.Second
@@ -220,8 +221,8 @@ func differences(got, want platform.Entry) (found []string) {
 
 func toMilliseconds(entry platform.Entry) platform.Entry {
 	for _, at := range []*time.Time{
-		&entry.Since, &entry.SentUntil, &entry.PolledSince, &entry.Due, &entry.Lease.Until, &entry.Last.At,
-		&entry.Failure.At,
+		&entry.Since, &entry.SentUntil, &entry.PolledSince, &entry.Due, &entry.DueSince, &entry.Lease.Until,
+		&entry.Last.At, &entry.Failure.At,
 	} {
 		*at = milliseconds(*at)
 	}

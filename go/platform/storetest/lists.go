@@ -296,6 +296,48 @@ func testNextDue(t *testing.T, open opener) {
 	wantDue("of none", nil, time.Time{})
 }
 
+// The oldest row counts by its Due, or by its DueSince. What is leased counts by its DueSince, or once its lease is
+// over.
+func testOldestDue(t *testing.T, open opener) {
+	store := opened(t, open)
+	wantDue := func(what string, want time.Time) {
+		t.Helper()
+		got, now, err := store.OldestDue(background)
+		if err != nil || milliseconds(got) != milliseconds(want) {
+			t.Errorf("%s: %v, %v, want %v", what, got, err, want)
+		}
+		if now.Before(time.Now().Add(-deadline)) || now.After(time.Now().Add(deadline)) {
+			t.Errorf("%s: the time is %v", what, now)
+		}
+	}
+	since := func(entry platform.Entry, at time.Time) platform.Entry {
+		entry.DueSince = at
+		return entry
+	}
+	wantDue("an empty store", time.Time{})
+	insert(t, store, since(due(order(instance(1)), time.Time{}), past(0)), due(order(binding(1, 1)), future(9)))
+	wantDue("beside a row that rests", future(9))
+	another := due(order(instance(2)), future(8))
+	another.Broker = "two"
+	insert(t, store, another)
+	wantDue("of another broker", future(8))
+	insert(t, store, leased(due(order(instance(3)), past(1)), "a worker", future(7)))
+	wantDue("of a leased row", future(7))
+	insert(t, store, leased(due(order(binding(3, 3)), past(9)), "a worker", past(2)))
+	wantDue("of a row whose lease is over", past(9))
+	insert(t, store, since(leased(due(order(instance(4)), future(3)), "a worker", future(3)), past(8)))
+	wantDue("of an instance that was put off", past(8))
+	insert(t, store, since(due(order(binding(4, 3)), future(3)), past(7)))
+	wantDue("of a binding that was put off", past(7))
+	tricky := order(instance(5))
+	tricky.Due, tricky.Last.Description = past(20), `"due_since":1`
+	insert(t, store, tricky)
+	wantDue("beside a text of a broker", past(7))
+	tricky.Key, tricky.Due, tricky.DueSince = instance(6), past(20), past(6)
+	insert(t, store, tricky)
+	wantDue("with a text of a broker", past(6))
+}
+
 // All leases of a worker end, and its rows are due at once.
 func testFree(t *testing.T, open opener) {
 	store, other := opened(t, open), opened(t, open)

@@ -47,6 +47,7 @@ func Test(t *testing.T, open func(t *testing.T) platform.Store) {
 		{"counts", testCounts},
 		{"rows in flight", testInFlight},
 		{"the next row that is due", testNextDue},
+		{"since when the oldest row is due", testOldestDue},
 		{"freeing a worker's rows", testFree},
 		{"the only worker of a name", testOnly},
 		{"brokers", testBrokers},

@@ -21,6 +21,9 @@ import (
 type Options[C any] struct {
 	Readers  int // as many read at once, at least 1
 	Together int // as many jobs are written in one transaction at most, at least 1
+	// Cache is how many KiB of pages the connection that writes keeps in memory at most. If it is 0, SQLite's default
+	// of 2,000 counts.
+	Cache int
 
 	// OneStatement leaves out the savepoint of each job, which undoes a job that fails. It may be set only if each job
 	// writes with at most one statement, and does nothing after it that can fail: a job that fails has then written
@@ -110,7 +113,13 @@ func (f *File[C]) connect(ctx context.Context, path string) (err error) {
 	if f.writer, err = f.side(ctx, path, f.options.Migrate); err != nil {
 		return err
 	}
-	if err = synced(path + "-wal"); err == nil {
+	if f.options.Cache > 0 {
+		err = f.writer.conn.Exec(fmt.Sprintf("PRAGMA cache_size = -%d", f.options.Cache))
+	}
+	if err == nil {
+		err = synced(path + "-wal")
+	}
+	if err == nil {
 		err = f.openReaders(ctx, path)
 	}
 	if err != nil {
