@@ -8,7 +8,7 @@ PYTHON is the Python that has pytest. The steps, one after another; with --tests
 1. `rt ci`: all proofs, the mutants that the prover must reject, and the tests and programs of the crates.
 2. `scripts/prebuilt --compare`: the prebuilt files are what these sources give. It builds them over the libraries that
    `rt ci` has just proved and built.
-3. pytest, several tests at once; then by themselves those that go by the clock.
+3. pytest, several tests at once; then, few at once, those that go by the clock.
 
 Hosts differ, so the cost is also given in units: one is what `rt check` of osb_message takes from nothing, in processor
 seconds. It is measured before the steps, by itself.
@@ -208,7 +208,8 @@ def steps(python: str, *options: str) -> dict[str, Callable[[], Result]]:
         found["rt ci"] = prove
         found["scripts/prebuilt --compare"] = compare
     found["pytest -n auto -m 'not alone'"] = partial(test, python, "-n", "auto", "-m", "not alone")
-    found["pytest -m alone"] = partial(test, python, "-m", "alone")
+    few = "3" if len(os.sched_getaffinity(0)) >= 4 else "1"
+    found["pytest -m alone"] = partial(test, python, "-n", few, "--dist", "loadgroup", "-m", "alone")
     return found
 
 

@@ -70,13 +70,19 @@ def but_osb(packages: Packages) -> list[str]:
     return [it for it in packages("list", "-tags", "libsqlite3", "./...").split() if it != "pippinterm/osb"]
 
 
+def with_crash_points() -> list[str]:
+    """The packages with tests that need the build tag crashpoints."""
+    tests = [it for it in (TOP / "go").rglob("*_test.go") if "//go:build crashpoints" in it.read_text(encoding="utf-8")]
+    return sorted({f"./{it.parent.relative_to(TOP / 'go')}" for it in tests})
+
+
 def test_crashes(packages: Packages, tmp_path: Path) -> None:
     """The broker is killed at each crash point, over a network that does its worst. After each event the platform's
-    records, the broker's holdings and the resources are what the proved model says. The other packages are killed at
-    their crash points too.
+    records, the broker's holdings and the resources are what the proved model says. The other packages that have tests
+    of their crash points run these too.
     """
     walks = tmp_path / "walks"
-    line = ["-count=1", "-timeout", "10m", "-tags", "libsqlite3 crashpoints", *but_osb(packages)]
+    line = ["-count=1", "-timeout", "10m", "-tags", "libsqlite3 crashpoints", *with_crash_points()]
     packages("test", *line, WALKS=str(walks), SEEDS=str(SEEDS), OSB_TEST_POSTGRESQL="")
     assert compared(walks) > 20 * SEEDS
 

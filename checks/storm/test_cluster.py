@@ -11,7 +11,7 @@ from waiting import until
 
 
 def states(server: Cluster) -> set[str]:
-    """The states of the server's processes, as /proc has them, but of those that have ended and aren't waited for yet."""
+    """The states of the server's processes, as /proc has them, but for those that have ended (Z)."""
     assert server._process is not None
     pid = server._process.pid
     return {Path(f"/proc/{it}/stat").read_text().rpartition(") ")[2][0] for it in (pid, *_children(pid))} - {"Z"}

@@ -1,4 +1,4 @@
-"""What the storm puts into both programs, in Go: go vet, and its tests."""
+"""What the storm puts into both programs, in Go: its tests. checks/go vets all packages with its tag."""
 from __future__ import annotations
 
 import pytest
@@ -7,11 +7,6 @@ from go.toolchain import Packages
 pytestmark = pytest.mark.slow
 
 TAGS = ("-tags", "libsqlite3 storm")
-
-
-@pytest.mark.parametrize("tags", ["libsqlite3 storm", "libsqlite3 crashpoints storm"])
-def test_vet(packages: Packages, tags: str) -> None:
-    assert packages("vet", "-tags", tags, "./storm", "./broker", "./cmd/osb-broker", "./cmd/osb-platform") == ""
 
 
 def test_tests(packages: Packages) -> None:

@@ -20,11 +20,13 @@ def assert_as_expected(*arguments: str) -> None:
     assert report.faults == []
 
 
+@pytest.mark.xdist_group("storm over files")
 def test_over_files() -> None:
     """A minute over SQLite and folders, or up to two, until each crash point was hit and each fault met a request."""
     assert_as_expected("--workers", "2")
 
 
+@pytest.mark.xdist_group("storm over PostgreSQL")
 @pytest.mark.postgres
 def test_over_postgresql() -> None:
     """Half a minute, or up to two, of three workers, and three brokers behind HAProxy. PostgreSQL is the store and the
@@ -39,6 +41,7 @@ def test_over_postgresql() -> None:
     assert_as_expected(*counts, *places)
 
 
+@pytest.mark.xdist_group("storm without pending work")
 def test_without_pending_work() -> None:
     """A storm of half a minute finds what a broker leaves behind that writes down its work only once it is done."""
     assert_as_expected("--without", "work", "--seconds", "30", "--instances", "150", "--settle", "20", "--no-points")
