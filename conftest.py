@@ -34,12 +34,10 @@ def pytest_configure(config: pytest.Config) -> None:
             config.stash[PORT] = _choose_server()
 
 
-@pytest.hookimpl(tryfirst=True)  # before pytest-xdist reads the groups
-def pytest_collection_modifyitems(items: list[pytest.Item]) -> None:
+def pytest_itemcollected(item: pytest.Item) -> None:
     """Has one process run all tests that are marked `alone` and belong to no group (pytest -n 3 --dist loadgroup)."""
-    for item in items:
-        if item.get_closest_marker("alone") and not item.get_closest_marker("xdist_group"):
-            item.add_marker(pytest.mark.xdist_group("alone"))
+    if item.get_closest_marker("alone") and not item.get_closest_marker("xdist_group"):
+        item.add_marker(pytest.mark.xdist_group("alone"))
 
 
 # ---- The library and the programs.
