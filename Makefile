@@ -7,7 +7,7 @@ FAST = not slow and not postgres and not browser and not alone
 # Debian has staticcheck as sources only (golang-honnef-go-tools-dev). The first `make quick` builds it, in half a minute.
 STATICCHECK = $(CURDIR)/build/staticcheck
 
-.PHONY: help quick test check one prebuilt generate format
+.PHONY: help quick test check one prebuilt generate format release
 .PHONY: quick-format quick-lint quick-shell quick-go quick-types quick-tests
 
 help: ## print this list
@@ -30,6 +30,9 @@ prebuilt: ## prove and build the library and osb-replay, and write prebuilt/
 
 generate: ## write the header, the constants of the packages and the table of docs/c.md from api/table.py
 	$(PYTHON) -m api.generate
+
+release: ## write the packages that people install to dist/: docs/install.md
+	$(PYTHON) -m release
 
 format: generate ## generate, format all Python, bash and Go, and embed files in the documents
 	scripts/files python | xargs black -q

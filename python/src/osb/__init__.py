@@ -6,8 +6,9 @@ osb-platform, with an API over HTTP (docs/platform-guide.md).
 - `osb.wire`: requests and answers as HTTP and JSON have them. `osb.binding_wire`: those of bindings.
 - `osb.tables`: the platform's tables.
 
-The environment variable LIBOSB names the library's file. If it isn't set, libosb.so.0 is loaded, as the system finds
-it. If the library doesn't do what a call asks, the call raises `OsbError`. docs/python.md has a first program.
+The environment variable LIBOSB names the library's file. If it isn't set, libosb.so.0 is loaded: in a wheel the file
+beside the package, else the one that the system finds. If the library doesn't do what a call asks, the call raises
+`OsbError`. docs/python.md has a first program.
 """
 from __future__ import annotations
 

@@ -11,7 +11,8 @@ from osb._header import EXPORTS, VERSION
 
 
 def _load() -> c.PyDLL:
-    name = os.environ.get("LIBOSB", "libosb.so.0")
+    beside = os.path.join(os.path.dirname(__file__), "libosb.so.0")  # a wheel has the library inside
+    name = os.environ.get("LIBOSB", beside if os.path.exists(beside) else "libosb.so.0")
     try:
         library = c.PyDLL(name)
     except OSError as error:

@@ -1,0 +1,40 @@
+"""The files of a release, which are made once for all tests."""
+
+from __future__ import annotations
+
+import fcntl
+import subprocess
+from pathlib import Path
+
+import pytest
+from go.toolchain import NEEDS, SOURCES, TOOLS, TOP, needs
+
+from release import sources
+from release.making import make
+
+MODULES = ("setuptools", "wheel")
+
+
+@pytest.fixture(scope="session")
+def dist(tmp_path_factory: pytest.TempPathFactory) -> Path:
+    """The folder with the files of a release. The first process of pytest that needs it makes it."""
+    needs({**TOOLS, **sources.TOOLS})
+    for name, package in NEEDS.items():
+        if not (SOURCES / "src" / name).is_dir():
+            pytest.skip(f"{name} isn't installed (Debian: {package})")
+    for module in MODULES:
+        found = subprocess.run(["/usr/bin/python3", "-c", f"import {module}"], capture_output=True, cwd="/")
+        if found.returncode != 0:
+            pytest.skip(f"{module} isn't installed (Debian: python3-{module})")
+    folder = tmp_path_factory.getbasetemp().parent / "dist"
+    with open(tmp_path_factory.getbasetemp().parent / "dist.lock", "w") as lock:
+        fcntl.flock(lock, fcntl.LOCK_EX)
+        if not folder.exists():
+            make(folder)
+    return folder
+
+
+@pytest.fixture(scope="session")
+def version() -> str:
+    """The version of the release."""
+    return (TOP / "VERSION").read_text(encoding="utf-8").strip()

@@ -1,0 +1,18 @@
+"""Makes a release."""
+
+from __future__ import annotations
+
+import os
+import subprocess
+import sys
+from pathlib import Path
+
+from go.toolchain import TOP
+
+
+def make(to: Path) -> None:
+    """Makes a release in this folder."""
+    kept = {name: it for name, it in os.environ.items() if name not in ("LIBOSB_FOLDER", "OSB_REPLAY", "LIBOSB")}
+    line = [sys.executable, "-m", "release", "--to", str(to)]
+    ran = subprocess.run(line, cwd=TOP, env=kept, stdin=subprocess.DEVNULL, capture_output=True, text=True, timeout=600)
+    assert ran.returncode == 0, ran.stdout + ran.stderr

@@ -1,0 +1,184 @@
+"""The package for Debian in a fresh Debian, without the repository: installed, run by systemd, updated and purged."""
+
+from __future__ import annotations
+
+import re
+import shutil
+import subprocess
+from pathlib import Path
+from typing import Iterator
+
+import pytest
+from docs.pages import block
+
+from release.fresh import Fresh, fresh
+
+pytestmark = pytest.mark.slow
+
+INSTALL = "apt-get install -y -qq --no-install-recommends"
+OLDER = "0.2.99"
+"""A version from which the package is updated."""
+STATE = re.compile(r"/var/lib/(private/)?osb-(broker|platform)(/|$)|/etc/osb(/platform-key)?$|/var/lib/private$")
+"""What a purge leaves: the state, and the key without which nobody can read it."""
+PLACES = ("/etc", "/lib/systemd", "/opt", "/srv", "/usr", "/var/lib", "/var/cache", "/var/spool", "/home")
+NOT_OURS = re.compile(
+    r"/var/lib/(apt|dpkg|systemd/(catalog|coredump|linger|pstore|random-seed|timers|timesync))(/|$)"
+    r"|/var/cache/(apt|ldconfig|debconf|private)(/|$)|/etc/(machine-id|mtab|ld\.so\.cache|resolv\.conf|\.pwd\.lock)$"
+    r"|__pycache__"
+)
+"""What apt, dpkg and systemd write for themselves."""
+
+
+def older(package: Path, folder: Path) -> Path:
+    """The same package as another version."""
+    unpacked = folder / "older"
+    subprocess.run(["dpkg-deb", "-R", package, unpacked], check=True)
+    control = unpacked / "DEBIAN" / "control"
+    control.write_text(re.sub("(?m)^Version: .*$", f"Version: {OLDER}", control.read_text()))
+    made = folder / f"osb_{OLDER}_amd64.deb"
+    subprocess.run(["dpkg-deb", "--root-owner-group", "-Znone", "-b", unpacked, made], check=True, capture_output=True)
+    shutil.rmtree(unpacked)
+    return made
+
+
+def files(debian: Fresh) -> set[str]:
+    """What is in it, but for what its own programs write."""
+    found = debian.run(f"find {' '.join(PLACES)} -xdev").splitlines()
+    return {it for it in found if not NOT_OURS.search(it)}
+
+
+@pytest.fixture
+def debian(tmp_path: Path) -> Iterator[Fresh]:
+    """A fresh Debian, with what README's commands and the package need."""
+    yield fresh(tmp_path / "debian", "curl", "python3", "systemd-sysv")
+    shutil.rmtree(tmp_path / "debian")
+
+
+def test_package(dist: Path, version: str, debian: Fresh, tmp_path: Path) -> None:
+    before = files(debian)
+    old = debian.put(older(dist / f"osb_{version}_amd64.deb", tmp_path), f"osb_{OLDER}_amd64.deb")
+    new = debian.put(dist / f"osb_{version}_amd64.deb", f"osb_{version}_amd64.deb")
+    debian.run(f"{INSTALL} {old}", network=True)
+    assert debian.run("dpkg-query -W -f '${Version}' osb") == OLDER
+    check_units(debian)
+    check_readme(debian)
+    check_replay(debian)
+    with debian.booted():
+        instance = check_services(debian)
+        update(debian, new, version, instance)
+        purge(debian)
+    after = files(debian)
+    left = sorted(it for it in after - before if not STATE.search(it))
+    assert left == []
+    assert before - after == set()
+    for state in ("/osb-broker/holdings.sqlite", "/osb-broker/instances", "/osb-platform/instances.sqlite"):
+        assert f"/var/lib/private{state}" in after
+
+
+def check_units(debian: Fresh) -> None:
+    """systemd understands them, and finds their programs."""
+    assert debian.run("systemd-analyze verify --man=no /lib/systemd/system/osb-*.service 2>&1") == ""
+
+
+def check_readme(debian: Fresh) -> None:
+    """The first commands of README create an instance and delete it."""
+    commands = block("README.md", "OSB_BROKER_PASSWORD=secret ./osb-broker serve &\n").replace("./osb-", "osb-")
+    assert "osb-platform create" in commands
+    quiet = commands.replace("serve &", "serve 2>/dev/null &").replace(
+        "platform run &", "platform run >/dev/null 2>&1 &"
+    )
+    out = debian.run(f"{LOOPBACK}\ncd /tmp\n{quiet}\nls ~/.local/state/osb-broker/instances\nkill %2 %1; wait")
+    assert out == 'my-db\n{"state":"succeeded"}'
+    # A state folder of root becomes that of the service, as docs/install.md says.
+    debian.run("mv ~/.local/state/osb-broker /var/lib/osb-broker; rm -r ~/.local")
+
+
+LOOPBACK = """/usr/bin/python3 -c '
+import fcntl, socket, struct
+with socket.socket() as it:
+    fcntl.ioctl(it, 0x8914, struct.pack("16sh14x", b"lo", 1))'"""
+"""Brings the loopback of a new network up: SIOCSIFFLAGS with IFF_UP."""
+
+
+def check_replay(debian: Fresh) -> None:
+    """Both programs replay, the one in Python also from another folder with a module of the same name."""
+    plan, service, instance = (f"00000000-0000-0000-0000-00000000000{it}" for it in (1, 2, 3))
+    lines = (
+        f"plan {service} {plan} sync",
+        f"create {instance} {service} {plan} no",
+        f"deliver {instance} done",
+        f"answer {instance}",
+    )
+    events = "".join(f"{it}\\n" for it in lines)
+    wanted = f"{instance} ready ready\napplied 3\nskipped 0\n"
+    write = f"cd /tmp && printf '{events}' >log && mkdir -p osb_replay_log"
+    assert debian.run(f"{write} && osb-replay replay <log") == wanted
+    assert debian.run(f"{write} && osb-replay-log replay --engine processes --workers 2 log") == wanted
+
+
+def client(command: str) -> str:
+    """A command of the platform, over the store of its service."""
+    store, key = "/var/lib/osb-platform/instances.sqlite", "/etc/osb/platform-key"
+    return f"OSB_PLATFORM_STORE={store} OSB_PLATFORM_KEY_FILE={key} timeout 30 osb-platform {command}"
+
+
+def check_services(debian: Fresh) -> str:
+    """By the commands of docs/install.md, both services start as accounts of their own, and create an instance. Returns
+    its id.
+    """
+    failed = debian.run("systemctl start osb-broker 2>&1 || systemctl show -p AssertResult osb-broker")
+    assert failed.splitlines()[-1] == "AssertResult=no"
+    started = "|| { journalctl -o cat -n 50; exit 1; }"
+    for beginning in ("sudo sh -c 'umask 077; ", "sudo osb-platform key "):
+        debian.run(commands(beginning).replace("osb-broker\n", f"osb-broker {started}\n"))
+    for unit in ("osb-broker", "osb-platform"):
+        about = properties(debian, unit)
+        assert (about["ActiveState"], about["SubState"], about["Type"]) == ("active", "running", "notify")
+        status = debian.run(f"cat /proc/{about['MainPID']}/status")
+        (user,) = re.findall(r"^Uid:\t(\d+)", status, re.MULTILINE)
+        assert 61184 <= int(user) <= 65519  # the accounts of DynamicUser
+        assert re.search(r"^CapEff:\t0+$", status, re.MULTILINE) and "NoNewPrivs:\t1\nSeccomp:\t2\n" in status
+    instance = debian.run(commands("export OSB_PLATFORM_STORE=")).split()[-1]
+    debian.run(client(f"bind {instance} --wait"))
+    assert len(debian.run("ls /var/lib/osb-broker/instances").split()) == 1
+    reload(debian)
+    return instance
+
+
+def commands(beginning: str) -> str:
+    """The commands of a block of docs/install.md, for root."""
+    return block("docs/install.md", beginning).replace("sudo ", "")
+
+
+def reload(debian: Fresh) -> None:
+    """`systemctl reload` sends SIGHUP. The credential is a copy, so a new password needs a restart."""
+    debian.run("systemctl reload osb-broker osb-platform")
+    assert properties(debian, "osb-broker")["ActiveState"] == "active"
+    assert "users_reloaded" in debian.run("journalctl -u osb-broker -o cat")
+
+
+def properties(debian: Fresh, unit: str) -> dict[str, str]:
+    shown = debian.run(f"systemctl show {unit} -p ActiveState,SubState,Type,MainPID,NRestarts")
+    return dict(it.split("=", 1) for it in shown.splitlines())
+
+
+def update(debian: Fresh, package: str, version: str, instance: str) -> None:
+    """Both services are started again over the state that was there, and go on."""
+    before = {it: properties(debian, it)["MainPID"] for it in ("osb-broker", "osb-platform")}
+    debian.run(f"{INSTALL} {package}")
+    assert debian.run("dpkg-query -W -f '${Version}' osb") == version
+    for unit, number in before.items():
+        about = properties(debian, unit)
+        assert about["ActiveState"] == "active" and about["MainPID"] != number
+    assert debian.run(client("list")).startswith(f"{instance}\tready\t")
+    poll = f"http://127.0.0.1:8080/v2/service_instances/{instance}/last_operation"
+    ask = f"curl -s -u platform:secret -H 'X-Broker-API-Version: 2.17' {poll}"
+    assert debian.run(ask) == '{"state":"succeeded"}'
+
+
+def purge(debian: Fresh) -> None:
+    """Both services are stopped."""
+    debian.run("apt-get purge -y -qq osb")
+    assert debian.run("systemctl list-units --all --no-legend 'osb-*' | grep -v not-found || true") == ""
+    assert debian.run("ps -e -o comm= 2>/dev/null | grep osb- || true") == ""
+    debian.run("! test -e /etc/osb/broker-password")
