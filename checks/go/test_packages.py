@@ -27,8 +27,9 @@ FURTHER: dict[str, list[str]] = {
     "crashpoints": ["crashpoints"],
     "storm": ["storm"],
     "both": ["crashpoints", "storm"],
+    "pages": ["pages"],
 }
-"""All combinations of the build tags that change the packages."""
+"""All combinations of the build tags that change the packages. With `pages` a program writes its manual pages."""
 
 TAGS = pytest.mark.parametrize("tags", [" ".join(["libsqlite3", *it]) for it in FURTHER.values()], ids=list(FURTHER))
 
