@@ -65,5 +65,6 @@ def test_archive_depends_on_nothing_else(monkeypatch: pytest.MonkeyPatch) -> Non
 def test_make_has_the_target() -> None:
     if shutil.which("make") is None:
         pytest.skip("make isn't installed (Debian: make)")
-    ran = subprocess.run(["make", "-n", "release"], cwd=sources.TOP, capture_output=True, text=True)
+    line = ["make", "--no-print-directory", "-n", "release"]
+    ran = subprocess.run(line, cwd=sources.TOP, capture_output=True, text=True)
     assert ran.returncode == 0 and ran.stdout.endswith(" -m release\n")
