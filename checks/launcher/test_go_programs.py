@@ -1,4 +1,4 @@
-"""Which osb-broker and which osb-platform run, when the launcher builds them, and what is reported."""
+"""Which osb-broker, which osb-platform and which osb-storm run, when the launcher builds them, and what is reported."""
 
 from __future__ import annotations
 
@@ -17,7 +17,7 @@ pytestmark = pytest.mark.slow
 BUILDS = "building the program from the sources in go/, which takes up to a minute"
 
 
-@pytest.fixture(params=["osb-broker", "osb-platform"])
+@pytest.fixture(params=["osb-broker", "osb-platform", "osb-storm"])
 def repository(request: pytest.FixtureRequest, tmp_path: Path) -> GoRepository:
     for name, package in NEEDS.items():
         if not (SOURCES / "src" / name).is_dir():

@@ -1,0 +1,124 @@
+"""`osb-storm conform` as a user runs it: its report, its statuses, and what is left at the broker."""
+from __future__ import annotations
+
+import json
+import os
+import re
+import signal
+import socket
+import subprocess
+from collections.abc import Iterator
+from pathlib import Path
+
+import pytest
+from conform.small_broker import SmallBroker
+from waiting import until
+
+pytestmark = pytest.mark.slow
+
+ENVIRONMENT = {**os.environ, "OSB_BROKER_PASSWORD": "secret"}
+# What docs/DECISIONS.md has a reason for: "A Bind is answered with 503 if its instance isn't available".
+DECIDED = "async-bind-during-provision"
+
+
+def conform(storm: Path, url: str, *arguments: str) -> subprocess.CompletedProcess[str]:
+    line = [str(storm), "conform", "--url", url, "--poll-seconds", "0.01", *arguments]
+    return subprocess.run(line, env=ENVIRONMENT, stdin=subprocess.DEVNULL, capture_output=True, text=True, timeout=60)
+
+
+@pytest.fixture
+def served(broker: Path, tmp_path: Path) -> Iterator[str]:
+    """The URL of osb-broker, which keeps its state in the folder `state`. Afterwards no folder is left there."""
+    with socket.create_server(("127.0.0.1", 0)) as free:
+        port = free.getsockname()[1]
+    line = [
+        str(broker),
+        "serve",
+        "--state",
+        str(tmp_path / "state"),
+        "--listen",
+        f"127.0.0.1:{port}",
+        "--sweep-seconds",
+        "0.1",
+    ]
+    with open(tmp_path / "log", "wb") as log:
+        process = subprocess.Popen(line, env=ENVIRONMENT, stdin=subprocess.DEVNULL, stderr=log)
+    try:
+        until(lambda: _answers(port), 20)
+        yield f"http://127.0.0.1:{port}"
+    finally:
+        process.terminate()
+        assert process.wait(20) == 0
+    sold = [it.name for it in (tmp_path / "state" / "instances").iterdir() if not it.name.startswith(".")]
+    assert sold == []
+
+
+def _answers(port: int) -> bool:
+    try:
+        socket.create_connection(("127.0.0.1", port)).close()
+    except OSError:
+        return False
+    return True
+
+
+def test_broker_passes(storm: Path, served: str, tmp_path: Path) -> None:
+    """The first bindable plan; all MUSTs pass. The table and the JSON have the same verdicts."""
+    ran = conform(storm, served, "--json", str(tmp_path / "report.json"))
+    assert ran.returncode == 0, ran.stdout + ran.stderr
+    report = json.loads((tmp_path / "report.json").read_text())
+    table = re.findall(r"^(pass|FAIL|not run) +(MUST|SHOULD|MAY) +(\S+)  ", ran.stdout, re.MULTILINE)
+    assert table == [(it["verdict"], it["level"], it["name"]) for it in report["results"]]
+    assert ("pass", "MUST", "bind-new") in table
+    assert report["plan"] == "at-once" and report["leftovers"] == []
+    assert f"Each id begins with {report['prefix']}.\n" in ran.stdout
+
+
+def test_decided_deviation(storm: Path, served: str) -> None:
+    """The asynchronous plan fails one MUST. With --except it doesn't change the status."""
+    arguments = "--service", "folder", "--plan", "by-worker"
+    ran = conform(storm, served, *arguments)
+    failed = re.findall(r"^FAIL +MUST +(\S+)", ran.stdout, re.MULTILINE)
+    assert (ran.returncode, failed) == (1, [DECIDED])
+    assert conform(storm, served, *arguments, "--except", DECIDED).returncode == 0
+
+
+@pytest.mark.parametrize("number", [signal.SIGINT, signal.SIGTERM])
+def test_signal(storm: Path, number: int) -> None:
+    """After a signal no further case is tried, and everything that exists is deleted."""
+    with SmallBroker(seconds=0.03).running() as small:
+        line = [str(storm), "conform", "--url", small.url, "--poll-seconds", "0.01"]
+        with subprocess.Popen(line, env=ENVIRONMENT, stdout=subprocess.PIPE, text=True) as process:
+            until(lambda: len(small.instances) >= 3, 30)
+            process.send_signal(number)
+            text, _ = process.communicate(timeout=30)
+        assert process.returncode == 1
+        assert "not every case was tried: the run was ended before\n" in text
+        assert small.instances == set()
+
+
+def test_leftovers(storm: Path) -> None:
+    """What can't be deleted is listed with its id, and the status says so."""
+    with SmallBroker(delete=500).running() as small:
+        ran = conform(storm, small.url)
+        listed = set(re.findall(r"^not deleted: instance (.*?): the deletion was answered with 500", ran.stdout, re.M))
+        assert ran.returncode == 3
+        plain = {it for it in small.instances if "%" not in it}
+        assert plain and plain <= listed
+
+
+def test_statuses(storm: Path) -> None:
+    with socket.create_server(("127.0.0.1", 0)) as free:
+        unused = f"http://127.0.0.1:{free.getsockname()[1]}"
+    ran = conform(storm, unused)
+    assert (ran.returncode, "osb-storm: the broker can't be reached: " in ran.stderr) == (69, True)
+    with SmallBroker().running() as small:
+        assert conform(storm, small.url).returncode == 1
+        for wrong in (
+            ["--plan", "small"],
+            ["--service", "things", "--plan", "big"],
+            ["--except", "x"],
+            ["--instances", "0"],
+        ):
+            ran = conform(storm, small.url, *wrong)
+            assert (ran.returncode, ran.stderr.count("\n")) == (2, 1), wrong
+        assert small.instances == set()

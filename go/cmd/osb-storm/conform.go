@@ -1,0 +1,199 @@
+package main
+
+import (
+	"context"
+	"errors"
+	"fmt"
+	"io"
+	"os"
+	"os/signal"
+	"strings"
+	"syscall"
+	"time"
+
+	"github.com/spf13/cobra"
+
+	"pippinterm/conform"
+	"pippinterm/program"
+	"pippinterm/program/secrets"
+)
+
+// conformSettings are the options of `osb-storm conform`.
+type conformSettings struct {
+	config               conform.Config
+	passwordFile, json   string
+	except               []string
+	runTime, cleanupTime time.Duration
+}
+
+const conformHelp = `Send requests without faults to a broker, and compare each answer with the Open Service Broker
+API 2.17.
+
+Each instance and binding has an id that begins with a random prefix, which is printed first. All of
+them are deleted at the end, also after SIGINT or SIGTERM. A second signal ends the deletions, too.
+
+environment:
+  OSB_BROKER_PASSWORD      the password, if --password-file isn't given
+
+exit status: 0 every MUST passed that was run; 1 a MUST failed, or the run ended before all cases
+were tried; 2 change something first: an argument, a file or a name; 3 an instance or a binding could
+not be deleted, and standard output lists it; 69 the broker can't be reached; 70 any other error`
+
+func conformCommand(o *outcome) *cobra.Command {
+	s := &conformSettings{}
+	made := &cobra.Command{
+		Use:   "conform --url URL",
+		Short: "Compare the answers of a broker with the standard",
+		Long:  conformHelp,
+		RunE: func(c *cobra.Command, _ []string) (err error) {
+			o.status, err = s.run(c.Context(), c.OutOrStdout(), c.ErrOrStderr())
+			return err
+		},
+	}
+	made.SetUsageTemplate(strings.ReplaceAll(made.UsageTemplate(), ".FlagUsages", ".FlagUsagesWrapped 110"))
+	flags, config := made.Flags(), &s.config
+	flags.SortFlags = false
+	flags.StringVar(&config.URL, "url", "", "the `URL` of the broker, without /v2")
+	flags.StringVar(&config.User, "user", "platform", "the `name` with which to log in")
+	flags.StringVar(&s.passwordFile, "password-file", "", "a `file` with the password")
+	flags.StringVar(&config.Service, "service", "",
+		"the `name` or id of the service to order; with --plan. Default: the first bindable plan")
+	flags.StringVar(&config.Plan, "plan", "", "the `name` or id of the plan to order; with --service")
+	flags.Var(program.Count(&config.Instances, 50, 1, 10000), "instances", "the most instances to order")
+	flags.Var(program.Seconds(&s.runTime, 10*time.Minute), "seconds", "after which no further case is tried")
+	flags.Var(program.Seconds(&config.RequestTime, 30*time.Second), "request-seconds", "for the answer to a request")
+	flags.Var(program.Seconds(&config.OperationTime, 2*time.Minute), "operation-seconds",
+		"for an asynchronous operation")
+	flags.Var(program.Seconds(&config.Pause, time.Second), "poll-seconds", "between two polls of an operation")
+	flags.Var(program.Seconds(&s.cleanupTime, 5*time.Minute), "cleanup-seconds", "for the deletions at the end")
+	flags.StringSliceVar(&s.except, "except", nil, "`cases` that don't change the exit status, separated by commas")
+	flags.StringVar(&s.json, "json", "", "a `file` to which the report is written as JSON, too")
+	if err := made.MarkFlagRequired("url"); err != nil {
+		panic(err) // there is no such flag
+	}
+	return made
+}
+
+// run checks the broker, deletes what it has created, and writes the report. It returns the exit status.
+func (s *conformSettings) run(ctx context.Context, out, stderr io.Writer) (int, error) {
+	runner, err := s.runner(stderr)
+	if err != nil {
+		return 0, program.Unusable(err)
+	}
+	running, deleting, forget := untilSignals(ctx)
+	defer forget()
+	fmt.Fprintf(out, "Each id begins with %s.\n\n", runner.Prefix())
+	limited, cancel := context.WithTimeout(running, s.runTime)
+	report, failure := runner.Run(limited)
+	cancel()
+	deletions, cancel := context.WithTimeout(deleting, s.cleanupTime)
+	report.Leftovers = runner.CleanUp(deletions)
+	cancel()
+	if failure != nil {
+		return s.failed(failure, stderr)
+	}
+	if err := s.write(report, out); err != nil {
+		return 0, err
+	}
+	return s.status(report), nil
+}
+
+// runner reads the password, and returns a Runner for the settings.
+func (s *conformSettings) runner(warnings io.Writer) (*conform.Runner, error) {
+	if err := s.checkExcept(); err != nil {
+		return nil, err
+	}
+	passwords, warning, err := secrets.Passwords("OSB_BROKER_PASSWORD", s.passwordFile)
+	if err != nil {
+		return nil, fmt.Errorf("the password: %w", err)
+	}
+	if warning != "" {
+		fmt.Fprintf(warnings, "osb-storm: %s\n", warning)
+	}
+	s.config.Password = passwords[0]
+	return conform.New(s.config)
+}
+
+func (s *conformSettings) checkExcept() error {
+	known := map[string]bool{}
+	for _, it := range conform.Cases() {
+		known[it.Name] = true
+	}
+	for _, name := range s.except {
+		if !known[name] {
+			return fmt.Errorf("--except: there is no case %q", name)
+		}
+	}
+	return nil
+}
+
+// failed returns the exit status of a run that has tried no case.
+func (s *conformSettings) failed(failure error, stderr io.Writer) (int, error) {
+	if errors.Is(failure, conform.ErrUnreachable) {
+		fmt.Fprintf(stderr, "osb-storm: %v\n", failure)
+		return statusUnreachable, nil
+	}
+	return 0, program.Unusable(failure)
+}
+
+// write writes the report as text, and as JSON if there is a file for it.
+func (s *conformSettings) write(report *conform.Report, out io.Writer) error {
+	if err := report.WriteText(out); err != nil {
+		return fmt.Errorf("the report can't be written: %w", err)
+	}
+	if s.json == "" {
+		return nil
+	}
+	file, err := os.Create(s.json)
+	if err != nil {
+		return program.Unusable(fmt.Errorf("the report can't be written: %w", err))
+	}
+	if err := report.WriteJSON(file); err != nil {
+		_ = file.Close()
+		return fmt.Errorf("the report can't be written: %w", err)
+	}
+	return file.Close()
+}
+
+// status returns the exit status for a report.
+func (s *conformSettings) status(report *conform.Report) int {
+	if len(report.Leftovers) > 0 {
+		return statusLeft
+	}
+	excepted := map[string]bool{}
+	for _, name := range s.except {
+		excepted[name] = true
+	}
+	for _, it := range report.Results {
+		if it.Level == conform.Must && it.Verdict == conform.Fail && !excepted[it.Name] {
+			return statusDeviates
+		}
+	}
+	if report.Ended != "" {
+		return statusDeviates
+	}
+	return program.StatusDone
+}
+
+// untilSignals returns a context that the first SIGINT or SIGTERM ends, and one that the second one ends.
+func untilSignals(ctx context.Context) (first, second context.Context, forget func()) {
+	first, endFirst := context.WithCancel(ctx)
+	second, endSecond := context.WithCancel(ctx)
+	signals := make(chan os.Signal, 2)
+	signal.Notify(signals, syscall.SIGINT, syscall.SIGTERM)
+	go func() {
+		for _, end := range []func(){endFirst, endSecond} {
+			select {
+			case <-signals:
+				end()
+			case <-second.Done():
+				return
+			}
+		}
+	}()
+	return first, second, func() {
+		signal.Stop(signals)
+		endFirst()
+		endSecond()
+	}
+}

@@ -1,0 +1,48 @@
+// osb-storm tests a broker under the Open Service Broker API 2.17 (docs/storm.md).
+package main
+
+import (
+	"context"
+	"os"
+
+	"github.com/spf13/cobra"
+
+	"pippinterm/program"
+)
+
+func main() {
+	outcome := &outcome{}
+	status := program.Run(context.Background(), rootCommand(outcome))
+	if status == program.StatusDone {
+		status = outcome.status
+	}
+	os.Exit(status)
+}
+
+// An outcome is what a command has found. It is the exit status of the program if the command itself has succeeded.
+type outcome struct{ status int }
+
+// The exit statuses besides those of the package program.
+const (
+	statusDeviates    = 1  // the broker deviates from the standard, or not every case was tried
+	statusLeft        = 3  // something couldn't be deleted
+	statusUnreachable = 69 // the broker doesn't answer (EX_UNAVAILABLE in sysexits.h)
+)
+
+func rootCommand(o *outcome) *cobra.Command {
+	root := &cobra.Command{
+		Use:     "osb-storm",
+		Short:   "Test a broker under the Open Service Broker API 2.17",
+		Version: program.Version(),
+		Long: `Test a broker under the Open Service Broker API 2.17.
+
+It creates instances and bindings of its own at the broker, and deletes them again.
+
+    ./osb-storm conform --url http://127.0.0.1:8080 --user platform --password-file FILE
+
+docs/storm.md says how to run it against a broker of your own.`,
+	}
+	root.AddCommand(conformCommand(o))
+	root.CompletionOptions.DisableDefaultCmd = true
+	return root
+}

@@ -1,0 +1,300 @@
+package conform
+
+import (
+	"encoding/json"
+	"fmt"
+	"strings"
+)
+
+const sectionCatalog = "Catalog Management"
+
+var catalogCases = scenario{
+	cases: []Case{
+		{"catalog-status", sectionCatalog, Must, "200 and an object with the list services"},
+		{"catalog-services", sectionCatalog, Must,
+			"each service has the strings id, name and description, the boolean bindable, and a plan"},
+		{"catalog-plans", sectionCatalog, Must, "each plan has the strings id, name and description"},
+		{"catalog-ids-unique", sectionCatalog, Must, "no two services have one id, and no two plans"},
+		{"catalog-names-unique", sectionCatalog, Must, "no two services have one name, and no two plans of a service"},
+		{"catalog-flags", sectionCatalog, Must, "each flag is a boolean, and each other optional field has its type"},
+		{"catalog-names-for-cli", sectionCatalog, Should,
+			"names have only letters, digits, periods, hyphens and underscores"},
+	},
+	run: func(r *Runner) {
+		x := r.fetched
+		problem := x.want(200)
+		services, is := listOf(x.object["services"])
+		if problem == "" && !is {
+			problem = "the body has no list services"
+		}
+		r.judge("catalog-status", x, problem)
+		if problem != "" {
+			r.because = "the catalogue can't be read"
+			return
+		}
+		for name, check := range map[string]func([]object) string{
+			"catalog-services": checkServices, "catalog-plans": checkPlans, "catalog-ids-unique": checkIDs,
+			"catalog-names-unique": checkNames, "catalog-flags": checkFlags, "catalog-names-for-cli": checkForCLI,
+		} {
+			r.judge(name, x, check(services))
+		}
+	},
+}
+
+type object = map[string]any
+
+// listOf returns a value that is a list of objects.
+func listOf(value any) (objects []object, is bool) {
+	list, is := value.([]any)
+	for _, it := range list {
+		one, isObject := it.(object)
+		if !isObject {
+			return nil, false
+		}
+		objects = append(objects, one)
+	}
+	return objects, is
+}
+
+// plansOf returns the plans of a service, or none if they are no list of objects.
+func plansOf(service object) []object {
+	plans, _ := listOf(service["plans"])
+	return plans
+}
+
+// textIn returns a member that is a string, or "".
+func textIn(from object, member string) string {
+	text, _ := from[member].(string)
+	return text
+}
+
+func checkServices(services []object) string {
+	for at, it := range services {
+		if missing := missingText(it); missing != "" {
+			return fmt.Sprintf("service %d has no %s that is a non-empty string", at+1, missing)
+		}
+		if _, is := it["bindable"].(bool); !is {
+			return fmt.Sprintf("service %d has no boolean bindable", at+1)
+		}
+		if len(plansOf(it)) == 0 {
+			return fmt.Sprintf("service %d has no plan", at+1)
+		}
+	}
+	return ""
+}
+
+func checkPlans(services []object) string {
+	for _, service := range services {
+		for at, it := range plansOf(service) {
+			if missing := missingText(it); missing != "" {
+				return fmt.Sprintf("plan %d of service %q has no %s that is a non-empty string",
+					at+1, textIn(service, "name"), missing)
+			}
+		}
+	}
+	return ""
+}
+
+func missingText(of object) string {
+	for _, member := range []string{"id", "name", "description"} {
+		if textIn(of, member) == "" {
+			return member
+		}
+	}
+	return ""
+}
+
+func checkIDs(services []object) string {
+	ofServices, ofPlans := seen{}, seen{}
+	for _, service := range services {
+		if ofServices.again(service["id"]) {
+			return fmt.Sprintf("two services have the id %v", service["id"])
+		}
+		for _, plan := range plansOf(service) {
+			if ofPlans.again(plan["id"]) {
+				return fmt.Sprintf("two plans have the id %v", plan["id"])
+			}
+		}
+	}
+	return ""
+}
+
+func checkNames(services []object) string {
+	ofServices := seen{}
+	for _, service := range services {
+		if ofServices.again(service["name"]) {
+			return fmt.Sprintf("two services have the name %v", service["name"])
+		}
+		ofPlans := seen{}
+		for _, plan := range plansOf(service) {
+			if ofPlans.again(plan["name"]) {
+				return fmt.Sprintf("two plans of a service have the name %v", plan["name"])
+			}
+		}
+	}
+	return ""
+}
+
+// seen are the strings that have been met.
+type seen map[string]bool
+
+// again returns whether a value is a string that has been met before.
+func (s seen) again(value any) bool {
+	text, is := value.(string)
+	before := s[text]
+	s[text] = true
+	return is && before
+}
+
+func checkFlags(services []object) string {
+	flags := []string{
+		"bindable", "plan_updateable", "instances_retrievable", "bindings_retrievable", "allow_context_updates",
+	}
+	for _, service := range services {
+		problem := wrongType(service, flags)
+		if value, has := service["tags"]; has && problem == "" && !isTexts(value) {
+			problem = "tags is no list of strings"
+		}
+		if value, has := service["requires"]; has && problem == "" && !isTexts(value) {
+			problem = "requires is no list of strings"
+		}
+		for _, plan := range plansOf(service) {
+			if problem == "" {
+				problem = wrongType(plan, []string{"free", "bindable", "plan_updateable", "binding_rotatable"})
+			}
+			if value, has := plan["maximum_polling_duration"]; has && problem == "" && !isWhole(value) {
+				problem = "maximum_polling_duration is no whole number"
+			}
+		}
+		if problem != "" {
+			return fmt.Sprintf("service %q: %s", textIn(service, "name"), problem)
+		}
+	}
+	return ""
+}
+
+// wrongType returns a problem if one of these members is present and isn't a boolean, or metadata isn't an object.
+func wrongType(of object, flags []string) string {
+	for _, flag := range flags {
+		if value, has := of[flag]; has {
+			if _, is := value.(bool); !is {
+				return flag + " is no boolean"
+			}
+		}
+	}
+	if value, has := of["metadata"]; has {
+		if _, is := value.(object); !is {
+			return "metadata is no object"
+		}
+	}
+	return ""
+}
+
+func isTexts(value any) bool {
+	list, is := value.([]any)
+	for _, it := range list {
+		if _, isText := it.(string); !isText {
+			return false
+		}
+	}
+	return is
+}
+
+func isWhole(value any) bool {
+	number, is := value.(float64)
+	return is && number == float64(int64(number))
+}
+
+func checkForCLI(services []object) string {
+	for _, service := range services {
+		for _, it := range append([]object{service}, plansOf(service)...) {
+			name := textIn(it, "name")
+			if strings.Trim(strings.ToLower(name), "abcdefghijklmnopqrstuvwxyz0123456789.-_") != "" {
+				return fmt.Sprintf("the name %q has another character", name)
+			}
+		}
+	}
+	return ""
+}
+
+// A target is the plan that is ordered.
+type target struct {
+	pair
+	serviceName, planName                   string
+	other                                   pair // another plan, or an empty pair
+	bindable                                bool
+	instancesRetrievable, bindingsRetrieved bool
+}
+
+// choose chooses the plan to order. If the catalogue has no plan at all and none is given, the target stays empty.
+func (r *Runner) choose() error {
+	services, _ := listOf(r.fetched.object["services"])
+	all := []target{}
+	for _, service := range services {
+		all = append(all, targetsOf(service)...)
+	}
+	if len(all) == 0 {
+		r.target = target{pair: pair{r.config.Service, r.config.Plan}}
+		r.target.serviceName, r.target.planName = r.config.Service, r.config.Plan
+		return nil
+	}
+	at := r.find(all)
+	if at < 0 {
+		return fmt.Errorf("%w: service %q, plan %q", ErrNoPlan, r.config.Service, r.config.Plan)
+	}
+	r.target = all[at]
+	for _, it := range all {
+		if it.plan != r.target.plan && (r.target.other.plan == "" || it.service == r.target.service) {
+			r.target.other = it.pair
+			if it.service == r.target.service {
+				break
+			}
+		}
+	}
+	return nil
+}
+
+// find returns the place of the plan that the Config names, or -1.
+func (r *Runner) find(all []target) int {
+	if r.config.Plan == "" {
+		for at, it := range all {
+			if it.bindable {
+				return at
+			}
+		}
+		return 0
+	}
+	for at, it := range all {
+		ofService := r.config.Service == it.serviceName || r.config.Service == it.service
+		if ofService && (r.config.Plan == it.planName || r.config.Plan == it.plan) {
+			return at
+		}
+	}
+	return -1
+}
+
+func targetsOf(service object) (all []target) {
+	flag := func(of object, member string) bool { return of[member] == true }
+	for _, plan := range plansOf(service) {
+		it := target{
+			pair:        pair{textIn(service, "id"), textIn(plan, "id")},
+			serviceName: textIn(service, "name"), planName: textIn(plan, "name"), bindable: flag(service, "bindable"),
+			instancesRetrievable: flag(service, "instances_retrievable"),
+			bindingsRetrieved:    flag(service, "bindings_retrievable"),
+		}
+		if of, has := plan["bindable"].(bool); has {
+			it.bindable = of
+		}
+		all = append(all, it)
+	}
+	return all
+}
+
+// text returns a value as JSON.
+func text(value any) string {
+	bytes, err := json.Marshal(value)
+	if err != nil {
+		panic(err) // values of this package are JSON
+	}
+	return string(bytes)
+}

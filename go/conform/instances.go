@@ -1,0 +1,255 @@
+package conform
+
+import "fmt"
+
+const (
+	sectionProvision     = "Provisioning"
+	sectionLastOperation = "Polling Last Operation for Service Instances"
+	sectionDeprovision   = "Deprovisioning"
+	sectionFetch         = "Fetching a Service Instance"
+	sectionExtensions    = "Vendor Extension Fields"
+	sectionOriginating   = "Originating Identity"
+	sectionRequest       = "Request Identity"
+	sectionContentType   = "Content Type"
+	sectionBlocking      = "Blocking Operations"
+
+	longestOperation = 10000 // characters
+)
+
+// rejected are the Provisions that have to be rejected with 400: each is a case, with its level and its body.
+var rejected = []struct {
+	name     string
+	level    Level
+	expected string
+	change   func(*Runner, object)
+}{
+	{"provision-without-service-id", Must, "400 without service_id", lacks("service_id")},
+	{"provision-without-plan-id", Must, "400 without plan_id", lacks("plan_id")},
+	{"provision-without-organization", Must, "400 without organization_guid", lacks("organization_guid")},
+	{"provision-without-space", Must, "400 without space_guid", lacks("space_guid")},
+	{"provision-malformed", Must, "400 to a body that isn't JSON", nil},
+	{"provision-unknown-service", Should, "400 to a service_id that isn't in the catalogue", unknown("service_id")},
+	{"provision-unknown-plan", Should, "400 to a plan_id that isn't in the catalogue", unknown("plan_id")},
+}
+
+func lacks(member string) func(*Runner, object) {
+	return func(_ *Runner, body object) { delete(body, member) }
+}
+
+func unknown(member string) func(*Runner, object) {
+	return func(r *Runner, body object) { body[member] = r.id() }
+}
+
+var rejectedCases = scenario{
+	cases: func() (cases []Case) {
+		for _, it := range rejected {
+			cases = append(cases, Case{it.name, sectionProvision, it.level, it.expected})
+		}
+		return cases
+	}(),
+	run: func(r *Runner) {
+		if !r.hasPlan() {
+			return
+		}
+		for _, it := range rejected {
+			k, body := key{instance: r.id()}, object{}
+			sent := r.provision(k.instance, func(of object) {
+				if it.change != nil {
+					it.change(r, of)
+				}
+				body = of
+			})
+			if it.change == nil {
+				sent.body = sent.body[:len(sent.body)-1]
+			}
+			x := r.create(k, pair{textIn(body, "service_id"), textIn(body, "plan_id")}, sent)
+			r.judge(it.name, x, x.want(400))
+		}
+	},
+}
+
+var lifeCases = scenario{
+	cases: []Case{
+		{"provision-new", sectionProvision, Must, "201, or 202 if the Provision is asynchronous"},
+		{"provision-fields", sectionProvision, Must,
+			"dashboard_url and operation, if present, are strings, and metadata is an object"},
+		{"last-operation-state", sectionLastOperation, Must, "200 with the state in progress, succeeded or failed"},
+		{"provision-ends", sectionLastOperation, Should, "the operation succeeds within the time for operations"},
+		{"provision-repeated", sectionProvision, Must, "200 to the same Provision once the instance exists"},
+		{"provision-conflict-plan", sectionProvision, Must,
+			"409 to a Provision of an existing instance with another plan"},
+		{"provision-conflict-parameters", sectionProvision, Must,
+			"409 to a Provision of an existing instance with other parameters, or 400 if the plan takes no parameters"},
+		{"fetch-instance", sectionFetch, Must,
+			"200 with the service and the plan of the instance, as far as the body has them"},
+		{"fetch-instance-unknown", sectionFetch, Must, "404 for an instance that doesn't exist"},
+	},
+	run: func(r *Runner) {
+		if !r.hasPlan() {
+			return
+		}
+		k := key{instance: r.id()}
+		x := r.put(k, r.provision(k.instance, nil))
+		r.judge("provision-new", x, x.want(201, 202))
+		r.judge("provision-fields", x, wrongFields(x, []string{"dashboard_url", "operation"}, []string{"metadata"}))
+		r.isAsync = x.is(202)
+		if r.isAsync {
+			state, last := r.await(k, x.string("operation"))
+			problem := ""
+			if state != "succeeded" {
+				problem = "the operation doesn't succeed"
+			}
+			r.judge("provision-ends", last, problem)
+			if problem != "" {
+				return
+			}
+		} else if !x.is(200, 201) {
+			return
+		}
+		r.skip("the plan is provisioned synchronously", "last-operation-state", "provision-ends")
+		r.existing = k.instance
+		r.repeatedProvisions(k)
+		r.fetches(k)
+	},
+}
+
+func (r *Runner) repeatedProvisions(k key) {
+	x := r.put(k, r.provision(k.instance, nil))
+	r.judge("provision-repeated", x, x.want(200))
+	x = r.put(k, r.provision(k.instance, with("parameters", object{"osb-storm": "other"})))
+	r.judge("provision-conflict-parameters", x, x.want(409, 400))
+	other := r.target.other
+	if other.plan == "" {
+		r.skip("the catalogue has one plan", "provision-conflict-plan")
+		return
+	}
+	x = r.create(k, other, r.provision(k.instance, func(body object) {
+		body["service_id"], body["plan_id"] = other.service, other.plan
+	}))
+	r.judge("provision-conflict-plan", x, x.want(409))
+}
+
+func (r *Runner) fetches(k key) {
+	if !r.target.instancesRetrievable {
+		r.skip("the service isn't instances_retrievable", "fetch-instance", "fetch-instance-unknown")
+		return
+	}
+	x := r.send(request{method: "GET", path: pathOf(k), query: namesOf(r.target.pair)})
+	problem := x.want(200)
+	for member, wanted := range map[string]string{"service_id": r.target.service, "plan_id": r.target.plan} {
+		if value, has := x.object[member]; has && problem == "" && value != wanted {
+			problem = member + " is another one"
+		}
+	}
+	r.judge("fetch-instance", x, problem)
+	x = r.send(request{method: "GET", path: pathOf(key{instance: r.id()}), query: namesOf(r.target.pair)})
+	r.judge("fetch-instance-unknown", x, x.want(404))
+}
+
+// wrongFields returns a problem if one of these members is present in a success and has another type.
+func wrongFields(x *exchange, texts, objects []string) string {
+	if !x.is(200, 201, 202) {
+		return ""
+	}
+	for _, member := range texts {
+		value, has := x.object[member]
+		text, is := value.(string)
+		isLong := member == "operation" && len([]rune(text)) > longestOperation
+		if has && value != nil && (!is || isLong) {
+			return fmt.Sprintf("%s is no string of the right length", member)
+		}
+	}
+	for _, member := range objects {
+		value, has := x.object[member]
+		if _, is := value.(object); has && value != nil && !is {
+			return member + " is no object"
+		}
+	}
+	return ""
+}
+
+var deletionCases = scenario{
+	cases: []Case{
+		{"deprovision-without-service-id", sectionDeprovision, Must, "400 without service_id"},
+		{"deprovision-without-plan-id", sectionDeprovision, Must, "400 without plan_id"},
+		{"deprovision-existing", sectionDeprovision, Must, "200, or 202 if the Deprovision is asynchronous"},
+		{"deprovision-repeated", sectionDeprovision, Must, "410 once the instance is deleted"},
+		{"deprovision-unknown", sectionDeprovision, Must, "410 for an instance that never existed"},
+		{"provision-again-after-deletion", sectionProvision, May,
+			"201 or 202 for the id of an instance that was deleted"},
+	},
+	run: func(r *Runner) {
+		id := r.ready()
+		for _, it := range r.lackingPairs("deprovision") {
+			if id == "" {
+				return
+			}
+			k := key{instance: id}
+			x := r.send(deletion(k, it.pair, true)) // CleanUp deletes it, whatever the answer says
+			r.judge(it.name, x, x.want(400))
+			if !x.is(400) { // it may be gone
+				id = r.ready()
+			}
+		}
+		if id != "" {
+			r.deletesOne(key{instance: id})
+		}
+	},
+}
+
+func (r *Runner) deletesOne(k key) {
+	x := r.delete(k)
+	r.judge("deprovision-existing", x, x.want(200, 202))
+	isGone := x.is(200)
+	if x.is(202) {
+		state, _ := r.await(k, x.string("operation"))
+		isGone = state == "gone" || state == "succeeded"
+	}
+	if isGone {
+		x = r.delete(k)
+		r.judge("deprovision-repeated", x, x.want(410))
+		x = r.put(k, r.provision(k.instance, nil))
+		r.judge("provision-again-after-deletion", x, x.want(201, 202))
+	}
+	x = r.delete(key{instance: r.id()})
+	r.judge("deprovision-unknown", x, x.want(410))
+}
+
+var acceptedCases = scenario{
+	cases: []Case{
+		{"unknown-fields", sectionExtensions, Must, "a Provision with unknown fields is accepted"},
+		{"content-type-missing", sectionContentType, Must, "a Provision without Content-Type is accepted"},
+		{"originating-identity", sectionOriginating, Should,
+			"a Provision with X-Broker-API-Originating-Identity is accepted"},
+		{"request-identity", sectionRequest, Should,
+			"a Provision with X-Broker-API-Request-Identity is accepted, and its answer has the same header"},
+		{"id-percent-encoded", sectionProvision, May,
+			"a Provision of an id with a space, % and a letter beyond ASCII is accepted"},
+	},
+	run: func(r *Runner) {
+		if !r.hasPlan() {
+			return
+		}
+		r.accepted("unknown-fields", r.id(), with("x-osb-storm-unknown", []int{1}), nil)
+		r.accepted("content-type-missing", r.id(), nil, map[string]string{"Content-Type": ""})
+		r.accepted("originating-identity", r.id(), nil, map[string]string{
+			// {"user_id":"osb-storm"}
+			"X-Broker-API-Originating-Identity": "cloudfoundry eyJ1c2VyX2lkIjoib3NiLXN0b3JtIn0=",
+		})
+		identity := r.id()
+		x := r.accepted("request-identity", r.id(), nil, map[string]string{"X-Broker-API-Request-Identity": identity})
+		if x.err == nil && x.header.Get("X-Broker-API-Request-Identity") != identity {
+			r.judge("request-identity", x, "the answer has no such header")
+		}
+		r.accepted("id-percent-encoded", r.id()+" %2é", nil, nil)
+	},
+}
+
+// accepted judges a case whose Provision has to be accepted.
+func (r *Runner) accepted(name, id string, change func(object), headers map[string]string) *exchange {
+	sent := r.provision(id, change)
+	sent.headers = headers
+	x := r.put(key{instance: id}, sent)
+	r.judge(name, x, x.want(201, 202))
+	return x
+}
