@@ -61,8 +61,9 @@ type BindingBackend interface {
 	DeleteBinding(ctx context.Context, request Request) error
 }
 
-// A CredentialsBackend can tell the credentials of a binding that exists, because it derives or stores them. Without it
-// a binding that was created by work that was broken off is deleted and created again: nobody knows its credentials.
+// A CredentialsBackend can tell the credentials of a binding that exists, because it derives or stores them. Without it,
+// or if Credentials fails, a binding that was created by work that was broken off is deleted and created again: nobody
+// knows its credentials.
 type CredentialsBackend interface {
 	Credentials(ctx context.Context, request Request) (json.RawMessage, error)
 }

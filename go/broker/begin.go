@@ -75,7 +75,19 @@ func (s *Service) answered(held Held, asked Asked, answer osb.Answer) (Answered,
 	if answer.Body == osb.BodyFailed {
 		return Answered{Answer: answer, Description: held.Description}, nil
 	}
+	if asked.Asked.Kind == osb.KindProvision && answer.Status == http.StatusInternalServerError {
+		return failedBefore(held, asked, answer)
+	}
 	return Answered{Answer: answer}, nil
+}
+
+// failedBefore answers the creation of what has failed. It says why, unless a deletion has failed since.
+func failedBefore(held Held, asked Asked, answer osb.Answer) (Answered, error) {
+	request, err := requestOf(asked.Key, rowOf(held.Holding), held.Request)
+	if err != nil || request.Deletion != nil {
+		return Answered{Answer: answer}, err
+	}
+	return Answered{Answer: answer, Description: held.Description}, nil
 }
 
 // begun writes down, beside a holding that has changed, what the worker needs.

@@ -16,6 +16,7 @@ type calls struct {
 	request    Request
 	isCreation bool            // whether the credentials of a binding count
 	binding    json.RawMessage // the object of the binding, once its credentials are known
+	useless    error           // why the credentials of a binding that existed couldn't be read or sent, or nil
 }
 
 // requestID is the id of the request that began the work, or empty if it isn't known.
@@ -76,7 +77,11 @@ func (c *calls) lookBinding(ctx context.Context) (there There, err error) {
 	return there, err
 }
 
-// withCredentials is what exists of a binding of which all exists: a part, if nobody knows its credentials.
+// withCredentials is what exists of a binding of which all exists: a part, if nobody knows its credentials. A binding
+// that is being created hasn't been reported to anybody. So if its credentials can't be read or sent, whatever the
+// reason, it can be deleted and created again.
+//
+// Errors: if the broker stops. Nobody knows then whether the credentials can be read.
 func (c *calls) withCredentials(ctx context.Context) (There, error) {
 	if c.binding != nil {
 		return Whole, nil
@@ -90,13 +95,14 @@ func (c *calls) withCredentials(ctx context.Context) (There, error) {
 		credentials, err = backend.Credentials(ctx, c.request)
 		return err
 	})
-	if err != nil {
+	if err != nil && ctx.Err() != nil {
 		return Whole, err
 	}
-	if err := c.keep(credentials); err != nil { // what can't be sent is of no use to anybody
-		c.observer.Failed(Failure{
-			Event: "credentials_useless", RequestID: c.request.RequestID, Key: c.request.Key, IsNamed: true, Err: err,
-		})
+	if err == nil {
+		err = c.keep(credentials)
+	}
+	if err != nil {
+		c.useless = err
 		return Part, nil
 	}
 	return Whole, nil

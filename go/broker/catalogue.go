@@ -1,9 +1,7 @@
 package broker
 
 import (
-	"encoding/json"
 	"errors"
-	"fmt"
 
 	"pippinterm/osb"
 )
@@ -19,12 +17,9 @@ type Catalogue struct {
 
 type plan struct{ service, plan osb.ID }
 
-// ErrRotatable reports a catalogue that promises binding rotation, which this broker doesn't serve.
-var ErrRotatable = errors.New("binding_rotatable is true, and rotation isn't served")
-
 // NewCatalogue reads a document as osb.CheckCatalogue does. If sellsBindings is false, no service may be bindable.
 //
-// Errors: those of osb.CheckCatalogue, osb.BindingModes and osb.ServedCatalogue, and ErrRotatable.
+// Errors: those of osb.CheckCatalogue, osb.BindingModes and osb.ServedCatalogue, and ErrCatalogueMember.
 func NewCatalogue(document []byte, sellsBindings bool) (*Catalogue, error) {
 	serves := osb.Endpoints{Bindings: sellsBindings, FetchingBindings: sellsBindings}
 	if err := osb.CheckCatalogue(document, serves); err != nil {
@@ -59,7 +54,7 @@ func (c *Catalogue) readRest(document []byte) (err error) {
 			return err
 		}
 	}
-	return checkRotation(document)
+	return checkMembers(document)
 }
 
 func versionsOf(document []byte, modes map[plan]osb.Mode) (map[plan]string, error) {
@@ -75,32 +70,6 @@ func versionsOf(document []byte, modes map[plan]osb.Mode) (map[plan]string, erro
 		}
 	}
 	return versions, nil
-}
-
-func checkRotation(document []byte) error {
-	type rotatable struct {
-		BindingRotatable bool `json:"binding_rotatable"`
-	}
-	var read struct {
-		Services []struct {
-			Plans []rotatable `json:"plans"`
-			rotatable
-		} `json:"services"`
-	}
-	if err := json.Unmarshal(document, &read); err != nil {
-		return fmt.Errorf("binding_rotatable can't be read: %w", err)
-	}
-	for _, service := range read.Services {
-		if service.BindingRotatable {
-			return ErrRotatable
-		}
-		for _, plan := range service.Plans {
-			if plan.BindingRotatable {
-				return ErrRotatable
-			}
-		}
-	}
-	return nil
 }
 
 func modesOf(plans []osb.Plan) map[plan]osb.Mode {

@@ -9,6 +9,7 @@ import (
 	"net"
 	"net/http"
 	"strconv"
+	"strings"
 	"sync"
 	"sync/atomic"
 	"time"
@@ -19,9 +20,12 @@ import (
 // A Config is what a Handler is made of, beside its service.
 type Config struct {
 	Users       *Users
-	LongestBody int     // in bytes, 1 or more; a longer body is answered with 413
-	AtOnce      int     // so many requests are carried out at once, 1 or more; others wait
-	Limiter     Limiter // of the passwords that can be tried, or nil for no limit
+	LongestBody int // in bytes, 1 or more; a longer body is answered with 413
+	// AtOnce is how many requests are carried out at once, 1 or more; others wait. Of 2 or more, a quarter, and at least
+	// one, is kept for requests that do no work. A request that may do work waits at most 30 seconds for its turn, and
+	// is answered with 503 then. Rules.LocksAtOnce should be less than three quarters.
+	AtOnce  int
+	Limiter Limiter // of the passwords that can be tried, or nil for no limit
 	// Touch is called with a key that somebody has to go on with: Sweeper.Touch.
 	Touch    func(Key)
 	Observer Observer
@@ -35,6 +39,8 @@ type Handler struct {
 	service     *Service
 	reading     chan struct{} // a place for each body that is read
 	slots       chan struct{} // a place for each request that is carried out
+	working     chan struct{} // a place for each of them that may do work
+	patience    time.Duration // how long a request waits for a place in working
 	isStopping  atomic.Bool
 	first, next uint64   // of which the ids of requests that have none are made
 	bodies      sync.Map // of answers: wording to []byte
@@ -52,13 +58,27 @@ func NewHandler(ctx context.Context, service *Service, config Config) (*Handler,
 		Config: config, ctx: ctx, service: service,
 		reading: make(chan struct{}, config.AtOnce+slowBodies),
 		slots:   make(chan struct{}, config.AtOnce),
-		first:   rand.New(rand.NewSource(time.Now().UnixNano())).Uint64(),
+		working: make(chan struct{}, mayWorkAtOnce(config.AtOnce)), patience: longestQueue,
+		first: rand.New(rand.NewSource(time.Now().UnixNano())).Uint64(),
 	}, nil
 }
 
 // slowBodies is how many bodies may be read at once, besides those of the requests that are carried out. So some
 // platforms that send slowly don't keep others waiting.
 const slowBodies = 256
+
+// longestQueue is how long a request waits until it may do work.
+const longestQueue = 30 * time.Second
+
+// mayWorkAtOnce is how many of the requests that are carried out at once may do work. The others are kept for requests
+// that do none, such as polls, since work may take minutes.
+func mayWorkAtOnce(all int) int {
+	kept := all / 4
+	if kept == 0 && all > 1 {
+		kept = 1
+	}
+	return all - kept
+}
 
 // Stop has every request from now on answered with 503.
 func (h *Handler) Stop() { h.isStopping.Store(true) }
@@ -95,7 +115,7 @@ type reply struct {
 func (h *Handler) ServeHTTP(w http.ResponseWriter, r *http.Request) {
 	began := time.Now()
 	x := &exchange{request: r, header: w.Header(), Exchange: Exchange{
-		RequestID: h.requestID(r), Route: "other", Method: atMost(r.Method, 20), Target: atMost(r.RequestURI, 1000),
+		RequestID: h.requestID(r), Route: "other", Method: atMost(r.Method, 20), Target: LoggedTarget(r.RequestURI),
 		Address: hostOf(r.RemoteAddr), Traceparent: first(r.Header, "Traceparent"),
 		VcapRequest: first(r.Header, "X-Vcap-Request-Id"),
 	}}
@@ -105,6 +125,7 @@ func (h *Handler) ServeHTTP(w http.ResponseWriter, r *http.Request) {
 		x.header.Set("Connection", "close")
 	}
 	given := h.answer(x)
+	x.header["Content-Length"] = []string{strconv.Itoa(len(given.body))} // so that it ends before the body has come
 	w.WriteHeader(given.status)
 	_, _ = w.Write(given.body) // a platform that has gone isn't told
 	x.Status, x.Duration = given.status, time.Since(began)
@@ -174,6 +195,16 @@ func (h *Handler) catalogue(x *exchange) reply {
 
 // carriedOut carries a request out, and has gone on with what isn't finished.
 func (h *Handler) carriedOut(x *exchange, asked Asked) reply {
+	if h.mayWork(asked) {
+		if !h.takeTurn() {
+			x.header.Set("Retry-After", "30")
+			return h.otherError(x, http.StatusServiceUnavailable, allWork)
+		}
+		defer func() { <-h.working }()
+		if h.isStopping.Load() { // nothing was begun
+			return reply{http.StatusServiceUnavailable, stopping}
+		}
+	}
 	h.slots <- struct{}{}
 	defer func() { <-h.slots }()
 	var answered Answered
@@ -186,6 +217,33 @@ func (h *Handler) carriedOut(x *exchange, asked Asked) reply {
 	}
 	h.follow(x, asked, answered)
 	return h.told(x, answered, h.sentence(asked, answered))
+}
+
+// mayWork is whether a request may do work before it is answered: the creations and deletions of synchronous plans.
+func (h *Handler) mayWork(asked Asked) bool {
+	if asked.IsFetch {
+		return false
+	}
+	of := plan{asked.Asked.Service, asked.Asked.Plan}
+	work := osb.WorkOf(asked.Asked.Kind, h.service.catalogue.mode(asked.Key.IsBinding, of))
+	return work == osb.WorkMake || work == osb.WorkDelete
+}
+
+// takeTurn waits until a request may do work, and returns whether that came about in time.
+func (h *Handler) takeTurn() bool {
+	select {
+	case h.working <- struct{}{}:
+		return true
+	default:
+	}
+	timer := time.NewTimer(h.patience)
+	defer timer.Stop()
+	select {
+	case h.working <- struct{}{}:
+		return true
+	case <-timer.C:
+		return false
+	}
 }
 
 // follow has somebody go on with a key: an operation has begun, or work is pending whose worker may be dead. After the
@@ -202,7 +260,15 @@ func (h *Handler) follow(x *exchange, asked Asked, answered Answered) {
 	if kind != osb.KindDeprovision || !isConcurrent || asked.Key.IsBinding {
 		return
 	}
-	if err := safely(func() error { return h.service.UnbindFailed(h.ctx, asked.Key.Instance) }); err != nil {
+	var begun []Key
+	err := safely(func() (err error) {
+		begun, err = h.service.UnbindFailed(h.ctx, asked.Key.Instance)
+		return err
+	})
+	for _, key := range begun {
+		h.Touch(key)
+	}
+	if err != nil {
 		h.report(x, "failed_binding_not_deleted", err)
 	}
 }
@@ -274,6 +340,25 @@ func (h *Handler) requestID(r *http.Request) string {
 		return given[0]
 	}
 	return strconv.FormatUint(h.first, 16) + "-" + strconv.FormatUint(atomic.AddUint64(&h.next, 1), 16)
+}
+
+// LoggedTarget returns what may be logged of the target of a request: at most 1000 bytes, without the user and the
+// password that the host of a whole URL can have.
+func LoggedTarget(target string) string {
+	target = withoutUser(target)
+	if scheme, rest, isURL := strings.Cut(target, "//"); isURL && !strings.ContainsAny(scheme, "/?#") {
+		target = scheme + "//" + withoutUser(rest)
+	}
+	return atMost(target, 1000)
+}
+
+// withoutUser removes USER:PASSWORD@ from a text that begins with a host.
+func withoutUser(text string) string {
+	end := strings.IndexAny(text, "/?#")
+	if end < 0 {
+		end = len(text)
+	}
+	return text[strings.LastIndexByte(text[:end], '@')+1:]
 }
 
 // hostOf is the host of an address HOST:PORT.

@@ -508,8 +508,19 @@ func TestFirstPoll(t *testing.T) {
 		}
 	}
 	body := s.expect(t, 200, "GET", instances+"i/last_operation", "")
-	if !strings.Contains(body, "failed") || !strings.Contains(body, "polled in time") {
+	const says = "No Poll of the last operation has arrived in time, so the creation has timed out."
+	if !strings.Contains(body, "failed") || !strings.Contains(body, says) {
 		t.Error(body)
+	}
+	body = s.expect(t, 500, "PUT", instances+"i?accepts_incomplete=true", bodyOf(later, ""))
+	if description, _ := descriptionIn(t, body); !strings.HasPrefix(description, says) {
+		t.Errorf("the Provision is answered %s", body)
+	}
+	s.observed.turn.Lock()
+	defer s.observed.turn.Unlock()
+	if found := s.observed.failures; len(found) != 1 || found[0].Event != "creation_timed_out" ||
+		found[0].Key != keyOf("i") || !strings.HasPrefix(found[0].RequestID, "request-") || found[0].Err == nil {
+		t.Errorf("reported is %+v", found)
 	}
 }
 

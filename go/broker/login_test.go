@@ -1,6 +1,7 @@
 package broker_test
 
 import (
+	"io"
 	"net/http"
 	"strings"
 	"sync"
@@ -105,6 +106,26 @@ func TestWhatALoginIsTold(t *testing.T) {
 	if wrong := s.expect(t, 401, "GET", "/v2/catalog", "", wrongLogin); wrong != user ||
 		!strings.Contains(wrong, "The user or the password is wrong.") {
 		t.Error(wrong, user)
+	}
+}
+
+// An unread body fails the test if it is read.
+type unread struct{ t *testing.T }
+
+func (u unread) Read([]byte) (int, error) {
+	u.t.Error("the body is read")
+	return 0, io.EOF
+}
+
+// Who asks, and in which version, is judged on the headers. None of the body is read before.
+func TestALoginIsJudgedBeforeTheBody(t *testing.T) {
+	s := newSite(t, setting{})
+	for status, change := range map[int]func(*http.Request){
+		401: wrongLogin, 412: header("X-Broker-API-Version", "3.0"),
+	} {
+		s.expect(t, status, "PUT", instances+"i", bodyOf(now, ""), change, func(r *http.Request) {
+			r.Body = io.NopCloser(unread{t})
+		})
 	}
 }
 

@@ -1,6 +1,7 @@
 package broker
 
 import (
+	"errors"
 	"fmt"
 	"net/http"
 
@@ -17,7 +18,14 @@ const (
 	awayNow     = "The broker can't work now, and doesn't know what came of the request. Send it again later."
 	idTaken     = "The id is taken. Choose another id."
 	notByUs     = "The backend rejected the request."
+	allWork     = "The broker is busy, and nothing was done. Send the request again later."
+	notJSON     = "The body must be an object of JSON, in UTF-8, and nothing else. Nest at most 127 arrays and objects, " +
+		"the body included. Write no number beyond 1.7e308, and no lone surrogate such as \\ud800."
+	noPoll = "No Poll of the last operation has arrived in time, so the creation has timed out. Nothing was created."
 )
+
+// errNoPoll is the reason of the event creation_timed_out.
+var errNoPoll = errors.New("no Poll of the last operation has arrived in time, so nothing was created")
 
 // refusal is the sentence for a refusal of the library, or "" if the library's own says what to do.
 func (h *Handler) refusal(refusal osb.Status) string {
@@ -33,7 +41,7 @@ func (h *Handler) refusal(refusal osb.Status) string {
 	case osb.ErrRefusedRepeated:
 		return "A parameter of the query stands twice. Send each once."
 	case osb.ErrRefusedBody:
-		return "The body must be an object of JSON, in UTF-8."
+		return notJSON
 	}
 	return ""
 }

@@ -1,6 +1,7 @@
 package broker_test
 
 import (
+	"context"
 	"encoding/json"
 	"net/http"
 	"strings"
@@ -17,6 +18,18 @@ func descriptionIn(t *testing.T, body string) (description, code string) {
 		t.Fatalf("%s: %v", body, err)
 	}
 	return read.Description, read.Error
+}
+
+// nested is an object in which so many arrays and objects nest, itself included.
+func nested(depth int) string {
+	return strings.Repeat(`{"a":`, depth) + "1" + strings.Repeat("}", depth)
+}
+
+// What the sentence about a body allows is accepted: 127 levels with the body itself, the number, and a whole pair.
+func TestWhatABodyMayHave(t *testing.T) {
+	for _, it := range []string{nested(126), `{"a":1.7e308}`, `{"a":-1.7e308}`, `{"a":"\ud83d\ude00"}`} {
+		newSite(t, setting{}).expect(t, 201, "PUT", instances+"i", bodyOf(now, `,"parameters":`+it))
+	}
 }
 
 // Each rejection says what is wrong, and has the code of its status.
@@ -43,6 +56,10 @@ func TestSentencesOfRefusals(t *testing.T) {
 		{"PUT", one, bodyOf(now, strings.Repeat(" ", 1000)), nil, 413, "longer than 1000 bytes", "ContentTooLarge"},
 		{"PUT", one, "{", nil, 400, "The body must be an object of JSON", "BadRequest"},
 		{"PUT", one, "[]", nil, 400, "The body must be an object of JSON", "BadRequest"},
+		{"PUT", one, bodyOf(now, `,"parameters":`+nested(127)), nil, 400, "at most 127 arrays and objects", "BadRequest"},
+		{"PUT", one, bodyOf(now, `,"parameters":{"a":1e999999999999}`), nil, 400, "no number beyond 1.7e308", "BadRequest"},
+		{"PUT", bound, bodyOf(now, `,"parameters":{"a":"\ud800"}`), nil, 400, `no lone surrogate such as \ud800`,
+			"BadRequest"},
 		{"PUT", one, without("service_id"), nil, 400, "service_id must be", "BadRequest"},
 		{"PUT", one, without("plan_id"), nil, 400, "plan_id must be", "BadRequest"},
 		{"PUT", one, without("organization_guid"), nil, 400, "organization_guid must be", "BadRequest"},
@@ -125,4 +142,30 @@ func TestSentencesOfTheBackend(t *testing.T) {
 			t.Errorf("%v: %s", it.failure, body)
 		}
 	}
+}
+
+// The creation of what has failed says why the creation has failed, and not why a deletion has failed since.
+func TestSentencesOfWhatHasFailed(t *testing.T) {
+	l, one := newLone(t), instances+"i"
+	says := func(wanted string) {
+		t.Helper()
+		given := l.ask("PUT", one+query, bodyOf(later, ""))
+		if description, _ := descriptionIn(t, string(given.body)); given.status != 500 || description != wanted {
+			t.Errorf("%d %s, and %q is wanted", given.status, given.body, wanted)
+		}
+	}
+	takeUp := func() {
+		t.Helper()
+		if err := l.TakeUp(context.Background(), keyOf("i")); err != nil {
+			t.Fatal(err)
+		}
+	}
+	*l.backend = scripted{failure: broker.Public(errScripted, "no space")}
+	l.expect(t, 202, "PUT", one+query, bodyOf(later, ""))
+	takeUp()
+	says("no space")
+	*l.backend = scripted{there: whole, deleted: whole, failure: broker.Public(errScripted, "in use")}
+	l.expect(t, 202, "DELETE", one+names(later)+"&accepts_incomplete=true", "")
+	takeUp()
+	says("The backend failed. The broker's log has the reason.")
 }

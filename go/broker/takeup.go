@@ -108,10 +108,14 @@ func (s *Service) operate(ctx context.Context, lock Lock, key Key, held Held) er
 
 // giveUpWaiting ends a creation whose first Poll hasn't come in time: it has failed, and nothing of it was made.
 func (s *Service) giveUpWaiting(ctx context.Context, key Key) error {
+	var late *Failure
 	err := s.change(ctx, key, 0, func(held Held) (*Entry, error) {
-		if row, isHeld := held.Holding.Row(); !isHeld || row.Phase != osb.PhaseWaiting {
+		late = nil
+		row, isHeld := held.Holding.Row()
+		if !isHeld || row.Phase != osb.PhaseWaiting {
 			return nil, nil // the Poll has come meanwhile
 		}
+		request, _ := requestOf(key, row, held.Request) // for the log alone
 		crash.At("wait-next")
 		holding, err := held.Holding.GiveUpWaiting()
 		if err != nil {
@@ -119,28 +123,35 @@ func (s *Service) giveUpWaiting(ctx context.Context, key Key) error {
 		}
 		entry := held.Entry
 		entry.Holding = holding
-		entry.ended(key, result{description: "The creation was given up: its last operation wasn't polled in time."})
+		entry.ended(key, result{description: noPoll})
+		late = &Failure{
+			Event: "creation_timed_out", RequestID: request.RequestID, Key: key, IsNamed: true, Err: errNoPoll,
+		}
 		return &entry, nil
 	})
 	if err == nil {
 		crash.At("wait-written")
+	}
+	if err == nil && late != nil {
+		s.observer.Failed(*late)
 	}
 	return err
 }
 
 // UnbindFailed deletes the bindings of an instance whose creation has failed: a platform that doesn't unbind what has
 // failed could never delete their instance otherwise. It is called after the deletion of an instance was put off, and
-// doesn't touch a binding that the platform was told exists. That is this project's choice.
-func (s *Service) UnbindFailed(ctx context.Context, instance osb.ID) error {
+// doesn't touch a binding that the platform was told exists. It returns the keys whose deletion has begun and somebody
+// has to go on with. That is this project's choice.
+func (s *Service) UnbindFailed(ctx context.Context, instance osb.ID) (begun []Key, err error) {
 	bindings, err := s.store.HeldBindings(ctx, instance)
 	if err != nil {
-		return err
+		return nil, err
 	}
 	for _, binding := range bindings {
 		key := BindingKey(instance, binding)
 		held, err := s.read(ctx, key)
 		if err != nil {
-			return err
+			return begun, err
 		}
 		row, isHeld := held.Holding.Row()
 		if !isHeld || row.Phase != osb.PhaseFailed {
@@ -148,15 +159,19 @@ func (s *Service) UnbindFailed(ctx context.Context, instance osb.ID) error {
 		}
 		request, err := requestOf(key, row, held.Request)
 		if err != nil {
-			return err
+			return begun, err
 		}
 		unbind := osb.Asked{
 			Kind: osb.KindDeprovision, AcceptsIncomplete: true, HasService: true, HasPlan: true,
 			ID: binding, Service: row.Service, Plan: row.Plan,
 		}
-		if _, err := s.Handle(ctx, Asked{Key: key, Names: request.names(), Asked: unbind}); err != nil {
-			return err
+		answered, err := s.Handle(ctx, Asked{Key: key, Names: request.names(), Asked: unbind})
+		if err != nil {
+			return begun, err
+		}
+		if answered.Status == http.StatusAccepted {
+			begun = append(begun, key)
 		}
 	}
-	return nil
+	return begun, nil
 }

@@ -5,6 +5,7 @@ import (
 	"crypto/rand"
 	"errors"
 	"fmt"
+	"strings"
 
 	"pippinterm/osb"
 )
@@ -15,10 +16,12 @@ type NamedStore interface {
 
 	// Name returns the name, or "" before the first use.
 	Name(ctx context.Context) (string, error)
-	// Begin gives the store a name for good, unless it has one, and returns the name that it has.
+	// Begin gives the store a name for good, unless it has one, and returns the name that it has. Only a name that begins
+	// with UntiedBefore replaces another name, and only the name Untied.
 	Begin(ctx context.Context, name string) (string, error)
 	// Tie calls tie while nobody else can be in a Tie of this store. isUsed is whether a backend keeps the store's name,
-	// or the store has rows. If tie returns nil, the store notes for good that a backend keeps its name.
+	// or the store has rows. The rows of a store whose name begins with UntiedBefore don't count. If tie returns nil, the
+	// store notes for good that a backend keeps its name.
 	Tie(ctx context.Context, tie func(isUsed bool) error) error
 }
 
@@ -32,8 +35,18 @@ type TiedBackend interface {
 	Own(ctx context.Context, store string) (string, error)
 }
 
-// Untied is the name of a store whose backend keeps none.
-const Untied = "untied"
+// A LateTiedBackend is a TiedBackend that kept no name in earlier versions. Its store may have the name Untied, and
+// rows. Tie gives that store a new name, and ties it to the first backend that comes.
+type LateTiedBackend interface {
+	TiedBackend
+	IsLateTied()
+}
+
+// The names of stores that don't belong to a TiedBackend from their first use on.
+const (
+	Untied       = "untied"  // the backend keeps no name
+	UntiedBefore = "untied-" // the name begins so: it was Untied, until a LateTiedBackend has come
+)
 
 // ErrParted reports that a store and a backend don't belong together. At most a new store has been given its name.
 var ErrParted = errors.New("the store and the backend don't belong together")
@@ -56,7 +69,13 @@ func Tie(ctx context.Context, store NamedStore, backend Backend, mustExist bool)
 			return err
 		}
 	}
-	if (name == Untied) == isTied {
+	_, isLate := backend.(LateTiedBackend)
+	if name == Untied && isLate {
+		if name, err = store.Begin(ctx, UntiedBefore+newName(true)); err != nil {
+			return err
+		}
+	}
+	if (name == Untied) == isTied || strings.HasPrefix(name, UntiedBefore) && !isLate {
 		return fmt.Errorf("%w: the store's instances are another backend's, one that keeps the store's name, or doesn't",
 			ErrParted)
 	}

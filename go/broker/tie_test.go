@@ -232,3 +232,53 @@ func TestTieThatMustExist(t *testing.T) {
 		t.Errorf("the store is %q, and the owner %q", name, owner)
 	}
 }
+
+// A late backend kept no name in earlier versions.
+type late struct{ *folders.Folders }
+
+func (late) IsLateTied() {}
+
+// A store of an earlier version, in which the backend wasn't tied, is tied to the first backend, and to no other.
+func TestLateTie(t *testing.T) {
+	g := newGround(t)
+	for _, store := range []string{"a", "b"} {
+		g.tie(g.store(store), newShelf(calm))
+		g.fill(g.store(store))
+	}
+	for round := 0; round < 2; round++ {
+		g.tie(g.store("a"), late{g.folders("here")})
+	}
+	name := g.name(g.store("a"))
+	if owner := g.owner(g.folders("here")); owner != name || name == broker.Untied {
+		t.Errorf("the store is %q, and the owner %q", name, owner)
+	}
+	g.parted(g.store("a"), late{g.folders("there")}, "has begun with other resources")
+	g.parted(g.store("b"), late{g.folders("here")}, "belong to the store "+name)
+	g.parted(g.store("a"), newShelf(calm), "another backend's")
+	g.tie(g.store("b"), late{g.folders("elsewhere")})
+	g.tie(g.store("c"), late{g.folders("new")})
+	if name := g.name(g.store("c")); strings.HasPrefix(name, broker.Untied) {
+		t.Errorf("the name of a new store is %q", name)
+	}
+}
+
+// A late tie that was interrupted goes on, with late backends alone.
+func TestLateTieThatWasInterrupted(t *testing.T) {
+	for _, isOwned := range []bool{false, true} {
+		g, ctx := newGround(t), context.Background()
+		g.tie(g.store("a"), newShelf(calm))
+		g.fill(g.store("a"))
+		name, err := g.store("a").Begin(ctx, broker.UntiedBefore+"x")
+		g.check(err)
+		if isOwned {
+			_, err := g.folders("here").Own(ctx, name)
+			g.check(err)
+		}
+		g.parted(g.store("a"), g.folders("there"), "another backend's")
+		g.tie(g.store("a"), late{g.folders("here")})
+		if owner := g.owner(g.folders("here")); owner != broker.UntiedBefore+"x" || g.name(g.store("a")) != owner {
+			t.Errorf("the owner is %q", owner)
+		}
+		g.parted(g.store("a"), late{g.folders("there")}, "has begun with other resources")
+	}
+}

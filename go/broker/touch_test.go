@@ -138,3 +138,22 @@ func TestTouchOfBindings(t *testing.T) {
 		{"GET", bound, "", 404, false},
 	})
 }
+
+// The deletions that the broker begins itself, of bindings whose creation has failed, are gone on with at once.
+func TestTouchOfFailedBindings(t *testing.T) {
+	backend := &failing{shelf: newShelf(calm), name: "create-binding", err: errScripted}
+	u, one := newToucher(t, backend), instances+"i"
+	key := broker.BindingKey(keyOf("i").Instance, keyOf("b").Instance)
+	u.check(t, key, []request{
+		{"PUT", one, bodyOf(bindLater, ""), 201, false},
+		{"PUT", one + "/service_bindings/b" + query, bodyOf(bindLater, ""), 202, true},
+	})
+	u.takeUp(t, key)
+	u.touched = nil
+	given := message{method: "DELETE", target: one + names(bindLater)}.serve(u.handler)
+	if want := []broker.Key{keyOf("i"), key}; given.status != 422 || !reflect.DeepEqual(u.touched, want) {
+		t.Errorf("%d %s, and %v are touched; %v are wanted", given.status, given.body, u.touched, want)
+	}
+	u.takeUp(t, key)
+	u.check(t, key, []request{{"DELETE", one + names(bindLater), "", 200, false}})
+}

@@ -75,14 +75,14 @@ func (w worker) create(ctx context.Context, request Request) (result, error) {
 	var failed error
 	if there != Whole {
 		if there, failed, err = calls.try(ctx, calls.create); err != nil {
-			return result{}, unknown(err, failed)
+			return result{}, unknown(err, either(failed, calls.useless))
 		}
 	}
 	if there == Part {
 		var second error
 		there, second, err = calls.try(ctx, calls.delete)
 		if failed = either(failed, second); err != nil || there == Part {
-			return result{}, unknown(err, failed)
+			return result{}, unknown(err, either(failed, calls.useless))
 		}
 	}
 	return w.told(request, "create", there == Whole, failed, calls)
@@ -113,12 +113,15 @@ func (w worker) told(request Request, what string, isDone bool, failed error, ca
 	if !isDone && failed == nil {
 		failed = errors.New("the backend returned no error, and it isn't so")
 	}
-	if failed != nil {
-		w.observer.Failed(Failure{
-			Event: "backend_failed_to_" + what, RequestID: calls.requestID(),
-			Key: request.Key, IsNamed: true, Err: failed,
-		})
+	report := func(event string, err error) {
+		if err != nil {
+			w.observer.Failed(Failure{
+				Event: event, RequestID: calls.requestID(), Key: request.Key, IsNamed: true, Err: err,
+			})
+		}
 	}
+	report("credentials_useless", calls.useless)
+	report("backend_failed_to_"+what, failed)
 	if isDone {
 		return result{outcome: osb.OutcomeDone, binding: calls.binding}, nil
 	}

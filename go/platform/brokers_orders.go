@@ -18,8 +18,8 @@ var brokerName = regexp.MustCompile(`^[a-z0-9-]{1,63}$`)
 
 // AddBroker writes down a broker. password is in clear, or nil if PasswordFile is given.
 //
-// Errors: a Fault if the name is malformed or taken, CheckURL rejects the URL, or a password is given and there is no
-// vault; those of the Store.
+// Errors: a Fault if the name is malformed or taken, CheckURL rejects the URL or it ends with /v2, or a password is
+// given and there is no vault; those of the Store.
 func (o *Orders) AddBroker(ctx context.Context, broker Broker, password []byte) error {
 	broker.Password, broker.Catalogue, broker.CatalogueAt, broker.Reason = nil, nil, time.Time{}, Reason{}
 	if err := o.finish(&broker, password, true, true); err != nil {
@@ -91,6 +91,9 @@ func (o *Orders) finish(broker *Broker, password []byte, needsPassword, isNewURL
 	}
 	if isNewURL {
 		if err := CheckURL(broker.URL, o.allowsHTTP); err != nil {
+			return err
+		}
+		if err := checkEnd(broker.URL); err != nil {
 			return err
 		}
 	}

@@ -1,7 +1,6 @@
 package platform
 
 import (
-	"bytes"
 	"context"
 	"encoding/json"
 	"errors"
@@ -23,7 +22,7 @@ const mostTries = 100
 // Create writes down an instance to create, and returns its row.
 //
 // Errors: a Fault if the broker, the service or the plan is unknown, the broker has given no catalogue yet, the id is
-// used, or a member isn't an object of JSON; those of the Store.
+// used, or a member isn't an object of JSON that can be sent; those of the Store.
 func (o *Orders) Create(ctx context.Context, wanted NewInstance) (Entry, error) {
 	broker, err := o.broker(ctx, wanted.Broker)
 	if err != nil {
@@ -61,7 +60,7 @@ func (o *Orders) Create(ctx context.Context, wanted NewInstance) (Entry, error) 
 	if _, err := osb.WriteNamedBody(osb.KindProvision, osb.Names{
 		Instance: text, Service: service.ID, Plan: plan.ID,
 	}, order.Organization, order.Space, order.Body); err != nil {
-		return Entry{}, fault(Invalid, "the order can't be sent: %v", err)
+		return Entry{}, unsendable(err)
 	}
 	return o.insert(ctx, order, func(Held) error { return nil })
 }
@@ -105,7 +104,7 @@ func (o *Orders) Bind(ctx context.Context, wanted NewBinding) (Entry, error) {
 		Instance: order.Names.Instance, Binding: text, Service: order.Names.Service, Plan: order.Names.Plan,
 	}
 	if _, err := osb.WriteBindingBody(osb.KindProvision, names, order.Body); err != nil {
-		return Entry{}, fault(Invalid, "the order can't be sent: %v", err)
+		return Entry{}, unsendable(err)
 	}
 	return o.insert(ctx, order, func(held Held) error { return checkReady(*held.Instance) })
 }
@@ -129,7 +128,7 @@ func unknownInstance(id string, err error) error {
 	return err
 }
 
-// checkBindable is a Fault unless the catalogue says that the plan of an instance is bindable.
+// checkBindable is a Fault unless the catalogue has the plan of an instance, and says that it is bindable.
 func (o *Orders) checkBindable(ctx context.Context, instance Entry) error {
 	broker, err := o.broker(ctx, instance.Broker)
 	if err != nil {
@@ -139,7 +138,12 @@ func (o *Orders) checkBindable(ctx context.Context, instance Entry) error {
 	if err != nil {
 		return err
 	}
-	if _, plan := catalogue.numbered(instance.Service, instance.Plan); plan == nil || !plan.IsBindable {
+	_, plan := catalogue.numbered(instance.Service, instance.Plan)
+	switch {
+	case plan == nil:
+		return fault(Conflict, "the catalogue of the broker %s doesn't have the plan %q any more: no binding can be "+
+			"created until the broker offers the plan again", broker.Name, instance.Names.Plan)
+	case !plan.IsBindable:
 		return fault(Invalid, "the plan %q isn't bindable: the catalogue of the broker %s says so", instance.Names.Plan,
 			broker.Name)
 	}
@@ -292,8 +296,8 @@ func bodyOf(members ...member) (json.RawMessage, error) {
 		if len(it.object) == 0 {
 			continue
 		}
-		if !json.Valid(it.object) || bytes.TrimSpace(it.object)[0] != '{' {
-			return nil, fault(Invalid, "%s isn't an object of JSON", it.name)
+		if err := checkObject(it.name, it.object); err != nil {
+			return nil, err
 		}
 		body[it.name] = it.object
 	}

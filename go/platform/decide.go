@@ -36,10 +36,11 @@ type sending struct {
 func (s sending) isLast() bool { return s.attempt == 0 }
 
 // hasLeased is whether a row has the lease that was decided on with the request. Otherwise that wasn't written, or the
-// row was leased again: then a request of the same number may be another worker's.
+// row was leased again: then a request of the same number may be that of another claim, also of this worker and in the
+// same millisecond.
 func (s sending) hasLeased(e Entry) bool {
 	lease := s.out.Entry.Lease
-	return e.Lease.Worker == lease.Worker && e.Lease.Until.Equal(lease.Until)
+	return e.Lease.Worker == lease.Worker && e.Lease.Until.Equal(lease.Until) && e.Lease.Claim == lease.Claim
 }
 
 // A decision is what a worker does with a row that is due.
@@ -64,8 +65,22 @@ func needsAllGone(e Entry, t terms) bool { return !e.Key.IsBinding && e.IsSent &
 // decide decides on a row that is due and that nobody has leased. allGone counts if needsAllGone. The decision is made
 // of one reading of the row. So a worker that was paused before writes nothing that isn't right.
 func decide(now time.Time, held Held, allGone bool, t terms) decision {
+	held.Lease = Lease{}
+	made := decideHeld(now, held, allGone, t)
+	if made.send == nil {
+		return made
+	}
+	claim, err := newID()
+	if err != nil {
+		return stuck(now, held.Entry, err, t)
+	}
+	made.entry.Lease.Claim, made.send.out.Entry.Lease.Claim = claim.String(), claim.String()
+	return made
+}
+
+// decideHeld is decide without the id of the claim.
+func decideHeld(now time.Time, held Held, allGone bool, t terms) decision {
 	e := held.Entry
-	e.Lease = Lease{}
 	switch {
 	case e.State == Withdrawn || e.State == Abandoned:
 		return resting(e, e.State)

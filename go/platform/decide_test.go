@@ -110,7 +110,7 @@ func inFlight(e Entry) Entry {
 		must(err)
 		e.Record = record
 	}
-	e.Lease, e.Due = Lease{"other", at(90)}, at(90)
+	e.Lease, e.Due = Lease{Worker: "other", Until: at(90)}, at(90)
 	return e
 }
 
@@ -231,7 +231,7 @@ func checkOutcome(t *testing.T, got decision, want outcome, now time.Time) {
 	if got.send != nil {
 		kind = kindOf(got.send.out.Request.Kind, got.entry.Key)
 		want.due = now.Add(90 * time.Second)
-		if lease := (Lease{"one", want.due}); got.entry.Lease != lease {
+		if lease := (Lease{"one", want.due, got.entry.Lease.Claim}); got.entry.Lease != lease || lease.Claim == "" {
 			t.Errorf("the lease is %v, want %v", got.entry.Lease, lease)
 		}
 	} else if got.entry.Lease != (Lease{}) {

@@ -76,7 +76,8 @@ type Engine struct {
 	vault    Vault // or nil: then no binding is recorded ready
 	observer Observer
 	once     *once
-	retry    time.Duration // until an answer is written again, the first time
+	health   *storeHealth
+	retry    time.Duration // until a transaction is tried again that has failed, the first time
 	newID    func() (osb.ID, error)
 }
 
@@ -84,9 +85,14 @@ type Engine struct {
 func NewEngine(store Store, client Client, vault Vault, options Options, observer Observer) *Engine {
 	return &Engine{
 		Options: options.withDefaults(), store: store, client: client, vault: vault, observer: observer,
-		once: &once{observer: observer, told: map[string]string{}}, retry: 50 * time.Millisecond, newID: newID,
+		once: &once{observer: observer, told: map[string]string{}}, health: &storeHealth{observer: observer},
+		retry: 50 * time.Millisecond, newID: newID,
 	}
 }
+
+// Ready returns nil, or why the last transaction that writes rows has failed. It is over once such a transaction has
+// succeeded, or once nothing is left to be written.
+func (e *Engine) Ready() error { return e.health.failing() }
 
 // Run steps what is due until stop is closed, and returns nil once what was in flight is answered and written, which
 // takes as long as its leases at most. If ctx is done, it returns the error of ctx, and what was in flight is left to
@@ -120,6 +126,8 @@ type run struct {
 	answered          chan heardOf    // of each request that is answered, or that won't be; it never blocks
 	ended             chan again      // of each exchange whose answer is written; it never blocks
 	known             time.Time       // when something is due, as far as is known; zero if nothing is
+	rest              backOff         // after claims that have failed
+	resting           time.Time       // until when nothing is claimed
 	look              time.Time       // when the Store is asked again
 	asked             map[string]bool // for which brokers it was asked last
 }
@@ -131,7 +139,7 @@ type again struct {
 }
 
 func newRun(ctx context.Context, e *Engine) *run {
-	r := &run{Engine: e, ctx: ctx, busy: map[string]int{}, silent: map[string]bool{}}
+	r := &run{Engine: e, ctx: ctx, busy: map[string]int{}, silent: map[string]bool{}, rest: backOff{first: e.retry}}
 	r.answered, r.ended = make(chan heardOf, 2*e.AtOnce), make(chan again, 2*e.AtOnce)
 	r.sites = newSites(ctx, e, &r.group)
 	return r
@@ -214,8 +222,14 @@ func (r *run) note(it again) {
 
 // pump begins as many exchanges as there are free places, and returns for how long there is nothing to do.
 func (r *run) pump() time.Duration {
+	if wait := time.Until(r.resting); wait > 0 {
+		return wait
+	}
 	names, most := r.places()
 	if most <= 0 {
+		if r.running == 0 { // no broker is reached, so no row is stepped
+			r.health.nothingDue()
+		}
 		return r.Look
 	}
 	for _, name := range names {
@@ -247,7 +261,13 @@ func (r *run) ask(names []string) {
 	}
 	due, now, err := r.store.NextDue(r.ctx, names)
 	r.known, r.look = time.Time{}, time.Now().Add(r.Look)
-	if !r.once.failed("store_failed", "", err) && !due.IsZero() {
+	if r.health.read(err) {
+		return
+	}
+	if due.IsZero() || due.After(now) {
+		r.health.nothingDue()
+	}
+	if !due.IsZero() {
 		r.known = time.Now().Add(due.Sub(now))
 	}
 }
@@ -257,9 +277,12 @@ func (r *run) begin(names []string, most int) {
 	claim := r.claim(r.ctx, r.sites, names, most)
 	r.start(claim.sendings)
 	r.known = time.Time{}
+	if claim.err == nil && claim.claimed > 0 {
+		r.rest.end()
+	}
 	switch {
-	case claim.err != nil:
-		r.look = time.Now().Add(r.Look)
+	case claim.err != nil: // what was in doubt is due again at once, and may fail again
+		r.resting, r.look = time.Now().Add(r.rest.next()), time.Time{}
 	case claim.claimed == most: // more may be due
 		r.known = time.Now()
 	case claim.claimed == 0: // another transaction had locked what is due

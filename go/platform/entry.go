@@ -67,6 +67,9 @@ const (
 type Lease struct {
 	Worker string
 	Until  time.Time
+	// Claim is an id that the claim has made up that recorded the lease. No two have the same, so a claim whose commit
+	// failed isn't taken for the next one. It is empty in a lease of version 0.2.
+	Claim string
 }
 
 // A Reason is what the broker, or the way to it, said last. The zero Reason says nothing.
@@ -120,19 +123,20 @@ type Entry struct {
 	Unreadable string
 }
 
-// A keptLast is what a Store keeps of Entry.Last and Entry.DueSince, in one column.
+// A keptLast is what a Store keeps of Entry.Last, Entry.Lease.Claim and Entry.DueSince, in one column.
 type keptLast struct {
 	Reason
-	DueSince int64 `json:"due_since,omitempty"` // in milliseconds since 1970
+	Claim    string `json:"claim,omitempty"`
+	DueSince int64  `json:"due_since,omitempty"` // in milliseconds since 1970
 }
 
-// LastText is what a Store keeps of Last and DueSince, in one column. It is nil if there is neither. DueSince is the
-// number of the member due_since, in milliseconds since 1970, which comes last.
+// LastText is what a Store keeps of Last, Lease.Claim and DueSince, in one column. It is nil if there is none of them.
+// DueSince is the number of the member due_since, in milliseconds since 1970, which comes last.
 func (e Entry) LastText() ([]byte, error) {
-	if e.Last == (Reason{}) && e.DueSince.IsZero() {
+	if e.Last == (Reason{}) && e.DueSince.IsZero() && e.Lease.Claim == "" {
 		return nil, nil
 	}
-	kept := keptLast{Reason: e.Last}
+	kept := keptLast{Reason: e.Last, Claim: e.Lease.Claim}
 	kept.At = kept.At.UTC()
 	if !e.DueSince.IsZero() {
 		kept.DueSince = e.DueSince.UnixMilli()
@@ -140,7 +144,8 @@ func (e Entry) LastText() ([]byte, error) {
 	return json.Marshal(kept)
 }
 
-// ReadLast reads what LastText has written, also in version 0.2, which had no DueSince.
+// ReadLast reads what LastText has written, also in version 0.2, which had no Claim and no DueSince. Lease.Worker is
+// read before: a lease that Free has ended leaves its Claim in the text.
 func (e *Entry) ReadLast(text []byte) error {
 	var kept keptLast
 	if err := json.Unmarshal(text, &kept); err != nil {
@@ -149,6 +154,9 @@ func (e *Entry) ReadLast(text []byte) error {
 	e.Last = kept.Reason
 	if !e.Last.At.IsZero() {
 		e.Last.At = e.Last.At.UTC()
+	}
+	if e.Lease.Worker != "" {
+		e.Lease.Claim = kept.Claim
 	}
 	if kept.DueSince != 0 {
 		e.DueSince = time.UnixMilli(kept.DueSince).UTC()

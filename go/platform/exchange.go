@@ -39,9 +39,8 @@ func (e *Engine) claim(ctx context.Context, sites *sites, names []string, most i
 		point("claim-next").at()
 		return made.change(), nil
 	})
-	e.once.failed("store_failed", "", err)
 	found.err, found.claimed = err, len(rows)
-	if err != nil {
+	if e.health.wrote(len(decisions) > 0, err) {
 		found.sendings = inDoubt(decisions, most, err)
 		return found
 	}
@@ -213,10 +212,11 @@ func (e *Engine) send(ctx context.Context, s *sending, kind string) Incoming {
 const longestRetry = time.Second
 
 // take is the second transaction of a step. If it fails, it is tried again until the lease is over, or ctx is done.
-// entry is what was written, or nil if another worker has given the request up.
+// entry is what was written, or nil if another worker has given the request up, or the request wasn't recorded.
 func (e *Engine) take(ctx context.Context, s sending, heard hearing) (entry *Entry, at time.Time, err error) {
+	var read Entry
 	step := func(now time.Time, held Held) (*Change, error) {
-		entry, at = nil, now
+		entry, at, read = nil, now, held.Entry
 		change, err := taken(now, held, s, heard)
 		if err != nil || change == nil {
 			return nil, err
@@ -229,26 +229,39 @@ func (e *Engine) take(ctx context.Context, s sending, heard hearing) (entry *Ent
 	if s.unsure == nil {
 		until = s.out.Until.Add(e.Margin)
 	}
-	var maybe *Entry // what may be written though it failed: while the lease holds, nobody else writes the row
-	for rest := e.retry; ; rest *= 2 {
+	var maybe *Entry // what may be written though its transaction failed
+	again := e.health.trying()
+	defer again.end()
+	for rest := (backOff{first: e.retry}); ; {
 		err = e.store.Change(ctx, s.out.Entry.Key, step)
-		if !e.once.failed("store_failed", "", err) {
+		if err == nil && entry == nil && maybe != nil && read.hasTaken(*maybe) {
+			entry = maybe
+		}
+		if !e.health.wrote(entry != nil, err) {
 			point("take-written").at()
-			if entry == nil {
-				entry = maybe
-			}
 			return entry, at, nil
 		}
 		if entry != nil {
 			maybe = entry
 		}
-		if rest > longestRetry {
-			rest = longestRetry
-		}
-		if !e.client.Clock().Add(rest).Before(until) || !sleep(ctx, rest) {
+		again.begin()
+		if !e.waits(ctx, rest.next(), until) {
 			return nil, at, err
 		}
 	}
+}
+
+// waits waits, and returns false at once if ctx is done, or if it were longer than until a time.
+func (e *Engine) waits(ctx context.Context, rest time.Duration, until time.Time) bool {
+	return e.client.Clock().Add(rest).Before(until) && sleep(ctx, rest)
+}
+
+// hasTaken is whether a row shows that an answer was written. Whatever else has changed in the row since, the last
+// reason stays until the next answer. Times count to the millisecond, as databases keep them.
+func (e Entry) hasTaken(written Entry) bool {
+	got, want := e.Last, written.Last
+	return got.Kind == want.Kind && got.Status == want.Status &&
+		got.At.Truncate(time.Millisecond).Equal(want.At.Truncate(time.Millisecond))
 }
 
 // sleep waits, and returns false at once if ctx is done.

@@ -28,6 +28,7 @@ type memory struct {
 	brokers map[string]Broker
 	away    error // why nothing can be read or written, or nil
 	doubt   error // the error of the next commit, though it is written
+	full    error // why nothing can be written, though all can be read, or nil
 	told    string
 	// unreadable are rows that can't be read.
 	unreadable map[Key]bool
@@ -153,6 +154,9 @@ func (t *transaction) write(before Entry, change *Change, now time.Time) error {
 func (t *transaction) commit() error {
 	if t.broken || t.away != nil {
 		return ErrAway
+	}
+	if t.full != nil && len(t.writes) > 0 {
+		return t.full
 	}
 	for key, e := range t.writes {
 		t.rows[key] = e
@@ -473,6 +477,13 @@ func (m *memory) setAway(err error) {
 	m.mu.Lock()
 	defer m.mu.Unlock()
 	m.away = err
+}
+
+// setFull has each write fail, or none.
+func (m *memory) setFull(err error) {
+	m.mu.Lock()
+	defer m.mu.Unlock()
+	m.full = err
 }
 
 var _ Store = (*memory)(nil)

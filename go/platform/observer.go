@@ -43,7 +43,8 @@ type Exchange struct {
 type Failure struct {
 	// Event is what went wrong. It is one of the following, and doesn't change:
 	//
-	//	store_failed        a transaction, or a reading, failed; it is told once until one succeeds
+	//	store_failed        a transaction, or a reading, failed; it is told once for each reason until one succeeds,
+	//	                    and after a transaction until one has written something
 	//	step_failed         nothing could be decided about a row; it is looked at again
 	//	answer_not_written  a request was sent, and its answer wasn't written: the lease runs out, and it is given up
 	//	lease_lost          another worker had given up the request before its answer came, or an operator had

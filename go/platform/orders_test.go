@@ -126,7 +126,8 @@ func TestCreateRejected(t *testing.T) {
 			Invalid, "parameters isn't an object"},
 		{"a context that is cut", NewInstance{Service: "shelf", Plan: "now", Context: json.RawMessage(`{"a"`)}, Invalid,
 			"context isn't an object"},
-		{"what nests too deep", NewInstance{Service: "shelf", Plan: "now", Parameters: deep}, Invalid, "can't be sent"},
+		{"what nests too deep", NewInstance{Service: "shelf", Plan: "now", Parameters: deep}, Invalid,
+			"parameters can't be sent: more than 126 arrays and objects lie within each other"},
 		{"an identity", NewInstance{Service: "shelf", Plan: "now", Identity: "me"}, Invalid, "identity"},
 		{"too many tries", NewInstance{Service: "shelf", Plan: "now", Tries: 101}, Invalid, "1 to 100"},
 		{"too few tries", NewInstance{Service: "shelf", Plan: "now", Tries: -1}, Invalid, "1 to 100"},
@@ -202,6 +203,11 @@ func TestBindRejected(t *testing.T) {
 	}
 	_, err := NewOrders(d.store, nil).Bind(background, NewBinding{Instance: name})
 	wantFault(t, err, Conflict, "no key")
+	dropped := d.store.brokers["shelf"]
+	dropped.Catalogue = json.RawMessage(strings.ReplaceAll(sold, id("c1").String(), id("c9").String()))
+	d.store.brokers["shelf"] = dropped
+	_, err = d.orders.Bind(background, NewBinding{Instance: name})
+	wantFault(t, err, Conflict, `the catalogue of the broker shelf doesn't have the plan "`+id("c1").String()+`" any more`)
 	unbindable := d.store.brokers["shelf"]
 	unbindable.Catalogue = json.RawMessage(strings.ReplaceAll(sold, `"bindable": true`, `"bindable": false`))
 	d.store.brokers["shelf"] = unbindable
@@ -375,6 +381,22 @@ func TestAbandonedBinding(t *testing.T) {
 	}
 }
 
+// An instance can be abandoned though a binding of it was ordered: that binding is never sent. Once it is due, it is
+// withdrawn.
+func TestAbandonedBesideOrdered(t *testing.T) {
+	d := newDesk(t)
+	d.put(rowIn(anInstance, Ready))
+	ordered := d.put(rowIn(aBinding, Ordered))
+	instance, err := d.orders.Abandon(background, anInstance, "the broker was closed")
+	if err != nil || instance.State != Abandoned {
+		t.Fatalf("got %s, %v", instance.State, err)
+	}
+	made := decide(d.dial.time(), Held{Entry: ordered, Instance: &instance}, false, terms{})
+	if made.send != nil || made.entry.State != Withdrawn || !made.entry.Rests() {
+		t.Errorf("it is %s, and %+v is sent", made.entry.State, made.send)
+	}
+}
+
 // An operator who changes a broker, and a worker who writes its catalogue, lose nothing of each other.
 func TestSetBrokerBesideCatalogue(t *testing.T) {
 	d := newDesk(t)
@@ -502,16 +524,17 @@ func TestBrokersRejected(t *testing.T) {
 	minus, long := -time.Second, 400*24*time.Hour
 	good := Broker{Name: "b", URL: "https://b", User: "u"}
 	for part, change := range map[string]func(*Broker){
-		"the name":         func(b *Broker) { b.Name = "B" },
-		"1 to 63":          func(b *Broker) { b.Name = strings.Repeat("a", 64) },
-		"begin with https": func(b *Broker) { b.URL = "ftp://b" },
-		"and a host":       func(b *Broker) { b.URL = "https://" },
-		"no user":          func(b *Broker) { b.URL = "https://u:p@b" },
-		"no query":         func(b *Broker) { b.URL = "https://b?x" },
-		"neither a colon":  func(b *Broker) { b.User = "a:b" },
-		"not both":         func(b *Broker) { b.PasswordFile = "p" },
-		"the hold":         func(b *Broker) { b.Settings.Hold = &minus },
-		"the longest poll": func(b *Broker) { b.Settings.LongestPoll = &long },
+		"the name":          func(b *Broker) { b.Name = "B" },
+		"1 to 63":           func(b *Broker) { b.Name = strings.Repeat("a", 64) },
+		"begin with https":  func(b *Broker) { b.URL = "ftp://b" },
+		"and a host":        func(b *Broker) { b.URL = "https://" },
+		"leave the /v2 out": func(b *Broker) { b.URL = "https://b/v2/" },
+		"no user":           func(b *Broker) { b.URL = "https://u:p@b" },
+		"no query":          func(b *Broker) { b.URL = "https://b?x" },
+		"neither a colon":   func(b *Broker) { b.User = "a:b" },
+		"not both":          func(b *Broker) { b.PasswordFile = "p" },
+		"the hold":          func(b *Broker) { b.Settings.Hold = &minus },
+		"the longest poll":  func(b *Broker) { b.Settings.LongestPoll = &long },
 	} {
 		broker := good
 		change(&broker)

@@ -14,7 +14,8 @@ func atMostAnHour(named time.Duration) time.Duration {
 type pace struct {
 	first   time.Duration // until the next request, if the broker names no time
 	longest time.Duration // what that grows to by doubling, each time that nothing has changed
-	// share is chance, from 0 to 1. Up to a half is added to each time, so that many rows don't come at once.
+	// share is chance, from 0 to 1. Up to a half is added to each time, so that many rows don't come at once. A time that
+	// the broker has named gets no longer than an hour by that.
 	share func() float64
 }
 
@@ -29,8 +30,13 @@ func (p pace) wait(unchanged int, named time.Duration) time.Duration {
 		chosen = p.longest
 	}
 	if named = atMostAnHour(named); chosen < named {
-		chosen = named
+		return atMostAnHour(p.spread(named))
 	}
+	return p.spread(chosen)
+}
+
+// spread adds up to a half to a time.
+func (p pace) spread(chosen time.Duration) time.Duration {
 	return chosen + time.Duration(float64(chosen)*p.share()/2)
 }
 

@@ -19,7 +19,8 @@ func TestWait(t *testing.T) {
 		{1000000, 0, 0, 120 * time.Second}, {0, 0, 1, 3 * time.Second}, {0, 0, 0.5, 2500 * time.Millisecond},
 		{0, time.Second, 0, 2 * time.Second}, {0, 9 * time.Second, 0, 9 * time.Second},
 		{6, 9 * time.Second, 0, 120 * time.Second},
-		{0, 1000 * time.Hour, 0, time.Hour}, {0, time.Hour, 1, 90 * time.Minute},
+		{0, 1000 * time.Hour, 0, time.Hour}, {0, time.Hour, 1, time.Hour},
+		{0, 50 * time.Minute, 1, time.Hour}, {0, 40 * time.Minute, 0.5, 50 * time.Minute},
 	} {
 		share = it.share
 		if got := p.wait(it.unchanged, it.named); got != it.want {

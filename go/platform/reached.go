@@ -54,7 +54,7 @@ func (s *sites) watch() {
 		defer s.group.Done()
 		for {
 			brokers, err := s.store.Brokers(s.ctx)
-			if !s.once.failed("store_failed", "", err) {
+			if !s.health.read(err) {
 				s.refresh(brokers)
 			}
 			if !sleep(s.ctx, s.Look) {
@@ -189,7 +189,7 @@ func (s *sites) catalogue(ctx context.Context, broker Broker) (read *Catalogue, 
 	if err != nil {
 		reason := Reason{Kind: "catalogue", Status: status, Lost: atMost(err.Error())}
 		if written := s.keep(ctx, broker, nil, reason); written != nil && !errors.Is(written, errChanged) {
-			s.once.failed("store_failed", "", written)
+			s.health.brokerFailed(written)
 		}
 		return nil, status, err
 	}

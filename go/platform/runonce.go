@@ -113,7 +113,7 @@ type locked struct {
 // Errors: those of the Store and of ctx; ErrLocked if it is waited for no longer.
 func (r *run) restIfDue(ctx context.Context, names []string, since *locked) (bool, error) {
 	due, now, err := r.store.NextDue(ctx, names)
-	if r.once.failed("store_failed", "", err) {
+	if r.health.read(err) {
 		return false, err
 	}
 	if since.until.IsZero() {

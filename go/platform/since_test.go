@@ -68,14 +68,19 @@ func TestDueSinceOfDeletion(t *testing.T) {
 // too.
 func TestLastText(t *testing.T) {
 	reason := Reason{At: at(1), Kind: "poll", Status: 503, Description: `"due_since":1`}
-	for _, want := range []Entry{{}, {Last: reason}, {DueSince: at(3)}, {Last: reason, DueSince: at(3)}} {
+	lease := Lease{Worker: "one", Claim: "a claim"}
+	for _, want := range []Entry{
+		{}, {Last: reason}, {DueSince: at(3)}, {Last: reason, DueSince: at(3)}, {Lease: lease},
+		{Last: reason, DueSince: at(3), Lease: lease},
+	} {
 		text, err := want.LastText()
 		check(t, err)
-		var got Entry
+		got := Entry{Lease: Lease{Worker: want.Lease.Worker}}
 		if text != nil {
 			check(t, got.ReadLast(text))
 		}
-		if (text == nil) != (want.Last == Reason{} && want.DueSince.IsZero()) || got.Last.Kind != want.Last.Kind ||
+		isNone := want.Last == Reason{} && want.DueSince.IsZero() && want.Lease == Lease{}
+		if (text == nil) != isNone || got.Lease != want.Lease || got.Last.Kind != want.Last.Kind ||
 			!got.Last.At.Equal(want.Last.At) || got.Last.Description != want.Last.Description ||
 			!got.DueSince.Equal(want.DueSince) {
 			t.Errorf("%s is read as %+v, %v", text, got.Last, got.DueSince)

@@ -185,8 +185,10 @@ func TestTakenInDoubt(t *testing.T) {
 		t.Errorf("got %s, %v", e.State, e.Lease)
 	}
 	for _, lease := range []Lease{
-		{}, {"other", try.row.Lease.Until}, {"one", try.row.Lease.Until.Add(time.Millisecond)},
+		{}, {Worker: "other", Until: try.row.Lease.Until},
+		{Worker: "one", Until: try.row.Lease.Until.Add(time.Millisecond)},
 	} {
+		lease.Claim = try.row.Lease.Claim
 		row := with(try.row, func(e *Entry) { e.Lease = lease })
 		if change, err := taken(at(12), Held{Entry: row}, try.sent, lost); change != nil || err != nil {
 			t.Errorf("leased by %v: %v, %v", lease, change, err)

@@ -75,6 +75,15 @@ func checkPath(path string) error {
 	return nil
 }
 
+// checkEnd rejects a URL that ends with /v2: whoever adds a broker so means the URL without it. A URL that was stored
+// before is kept.
+func checkEnd(text string) error {
+	if strings.HasSuffix(strings.TrimRight(text, "/"), "/v2") {
+		return fault(Invalid, "the URL of a broker ends before /v2, which each request adds: leave the /v2 out")
+	}
+	return nil
+}
+
 // isHere returns whether a host is this machine.
 func isHere(host string) bool {
 	ip := net.ParseIP(host)

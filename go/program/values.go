@@ -18,7 +18,7 @@ const (
 
 // Seconds returns the value of a flag that is a number of seconds, from 0.001 to 86400, with or without a fraction. It
 // sets *to to standard immediately, and to the number when the flag is read. If the text is anything else, Set returns
-// an error and leaves *to unchanged. (The formats of Seconds, Count and Address are this project's choice.)
+// an error and leaves *to unchanged. (The formats of Seconds, Count, Address and Place are this project's choice.)
 func Seconds(to *time.Duration, standard time.Duration) pflag.Value {
 	*to = standard
 	return (*seconds)(to)
@@ -40,6 +40,49 @@ func Address(to *string, standard string) pflag.Value {
 	*to = standard
 	return (*address)(to)
 }
+
+// Place returns the value of a flag that is the path of a file or a folder, or the URL of a PostgreSQL server. It sets
+// *to to standard immediately, and to the text when the flag is read. Set returns the error of CheckPlace, and leaves
+// *to unchanged then.
+func Place(to *string, standard string) pflag.Value {
+	*to = standard
+	return (*place)(to)
+}
+
+// CheckPlace returns an error if a text is the URL of anything but a PostgreSQL server: a scheme that is misspelt would
+// otherwise be taken for the name of a folder.
+func CheckPlace(text string) error {
+	scheme, _, isURL := strings.Cut(text, "://")
+	if isURL && isScheme(scheme) && scheme != "postgresql" && scheme != "postgres" {
+		return fmt.Errorf("want a path or postgresql://.., and not a URL that begins with %s://", scheme)
+	}
+	return nil
+}
+
+// isScheme is whether a text has the form of a scheme (RFC 3986, section 3.1).
+func isScheme(text string) bool {
+	for at, it := range text {
+		isLetter := it >= 'a' && it <= 'z' || it >= 'A' && it <= 'Z'
+		if !isLetter && (at == 0 || !strings.ContainsRune("0123456789+-.", it)) {
+			return false
+		}
+	}
+	return text != ""
+}
+
+type place string
+
+func (p *place) String() string { return string(*p) }
+
+func (p *place) Set(text string) error {
+	if err := CheckPlace(text); err != nil {
+		return err
+	}
+	*p = place(text)
+	return nil
+}
+
+func (p *place) Type() string { return "place" }
 
 type seconds time.Duration
 

@@ -68,6 +68,23 @@ func TestAddress(t *testing.T) {
 	}
 }
 
+func TestPlace(t *testing.T) {
+	for text, isPlace := range map[string]bool{
+		"": true, "/srv/store": true, "store.sqlite": true, "postgresql://u@h/d": true, "postgres://h/d": true,
+		"command:./be": true, "command:./be://x": true, "./a://b": true, "://x": true, "a b://c": true,
+		"postgresq://u@h/d": false, "mysql://h": false, "http://h": false, "FILE://x": false, "a+b-c.1://x": false,
+	} {
+		got := "before"
+		want := text
+		if !isPlace {
+			want = "before"
+		}
+		if err := Place(&got, got).Set(text); (err == nil) != isPlace || got != want {
+			t.Errorf("%q: %q, %v", text, got, err)
+		}
+	}
+}
+
 func TestValuesInUse(t *testing.T) {
 	var limit time.Duration
 	var most int

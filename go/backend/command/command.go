@@ -25,7 +25,7 @@ const grace = 5 * time.Second
 // Options are those of New.
 type Options struct {
 	// State is the folder for the program's own use. New creates it with mode 0700 if it doesn't exist. The locks are
-	// in its file .locks, which the program must leave alone.
+	// in its file .locks, and the name of the store is in its file .owner. The program must leave both alone.
 	State string
 	// Limit is how long each run may take. Zero stands for DefaultLimit.
 	Limit time.Duration
@@ -46,8 +46,9 @@ type program struct {
 }
 
 // New returns the backend that runs a program. program is a path, or a name that is looked up in PATH. New asks the
-// program for its capabilities. The backend is a broker.LockBackend. It is a broker.BindingBackend only if the program
-// supports bindings, and a broker.CredentialsBackend only if it supports credentials too.
+// program for its capabilities. The backend is a broker.LockBackend and a broker.LateTiedBackend. It is a
+// broker.BindingBackend only if the program supports bindings, and a broker.CredentialsBackend only if it supports
+// credentials too.
 //
 // Errors: if the program doesn't exist or isn't executable; if the command timeout of coreutils isn't in PATH; those of
 // creating the folder and its file .locks; if Options.Existing is true and the file doesn't exist; if Options.Limit is

@@ -75,5 +75,6 @@
 //     shell, start it with 3>&-. Otherwise the instance stays locked, and the work of the call stays pending.
 //
 // The locks are of one machine. So all brokers of a store that have such a backend must run on the same machine, with
-// the same Options.State.
+// the same Options.State. The file .owner in that folder has the name of the store, so broker.Tie rejects another
+// folder for the store, and another store for the folder. It doesn't notice a copy of the folder.
 package command

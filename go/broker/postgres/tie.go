@@ -4,6 +4,8 @@ import (
 	"context"
 	"database/sql"
 	"errors"
+
+	"pippinterm/broker"
 )
 
 // tieLock is the number of the advisory lock of Tie. Version 0.2 takes the same lock.
@@ -21,10 +23,13 @@ func (s *Store) Name(ctx context.Context) (name string, err error) {
 	return name, err
 }
 
-// Begin gives the store a name for good, unless it has one, and returns the name that it has.
+// Begin gives the store a name for good, unless it has one, and returns the name that it has. A name that begins with
+// broker.UntiedBefore replaces broker.Untied.
 func (s *Store) Begin(ctx context.Context, name string) (string, error) {
 	err := s.transaction(ctx, nil, func(tx *sql.Tx) (bool, error) {
-		_, err := tx.ExecContext(ctx, "INSERT INTO osb_store (name) VALUES ($1) ON CONFLICT DO NOTHING", name)
+		_, err := tx.ExecContext(ctx, "INSERT INTO osb_store AS mine (name) VALUES ($1) "+
+			"ON CONFLICT (one) DO UPDATE SET name = excluded.name WHERE mine.name = '"+broker.Untied+"' "+
+			"AND excluded.name LIKE '"+broker.UntiedBefore+"%'", name)
 		return true, err
 	})
 	if err != nil {
@@ -34,7 +39,8 @@ func (s *Store) Begin(ctx context.Context, name string) (string, error) {
 }
 
 // If a binding has a row, its instance has one too (Change).
-const isUsed = "SELECT is_tied OR EXISTS (SELECT FROM osb_holdings) FROM osb_store"
+const isUsed = "SELECT is_tied OR name NOT LIKE '" + broker.UntiedBefore + "%' AND EXISTS (SELECT FROM osb_holdings) " +
+	"FROM osb_store"
 
 // Tie calls tie in a transaction that holds a lock, so that one caller at a time is in it. The function tie must not
 // call the store, and has to return within a minute. It may be called more than once.

@@ -19,10 +19,12 @@ func (s *Store) Name(ctx context.Context) (name string, err error) {
 	return name, err
 }
 
-// Begin gives the store a name for good, unless it has one, and returns the name that it has.
+// Begin gives the store a name for good, unless it has one, and returns the name that it has. A name that begins with
+// broker.UntiedBefore replaces broker.Untied.
 func (s *Store) Begin(ctx context.Context, name string) (string, error) {
 	err := s.file.Write(ctx, func(c *connection) error {
-		return c.exec("INSERT INTO store (one, name) VALUES (1, ?) ON CONFLICT DO NOTHING", name)
+		return c.exec("INSERT INTO store (one, name) VALUES (1, ?) ON CONFLICT (one) DO UPDATE SET name = excluded.name "+
+			"WHERE store.name = '"+broker.Untied+"' AND excluded.name LIKE '"+broker.UntiedBefore+"%'", name)
 	})
 	if err != nil {
 		return "", err
@@ -34,8 +36,8 @@ func (s *Store) Begin(ctx context.Context, name string) (string, error) {
 func (s *Store) Tie(ctx context.Context, tie func(isUsed bool) error) error {
 	return s.file.Read(ctx, func(c *connection) error { // the writer isn't for calls of others
 		return c.Transaction(ctx, func() error {
-			used, err := c.text("SELECT 'used' FROM store WHERE is_tied " +
-				"UNION ALL SELECT 'used' FROM holdings UNION ALL SELECT 'used' FROM bindings LIMIT 1")
+			used, err := c.text("SELECT 'used' FROM store WHERE is_tied OR name NOT LIKE '" + broker.UntiedBefore + "%' " +
+				"AND (EXISTS (SELECT 1 FROM holdings) OR EXISTS (SELECT 1 FROM bindings))")
 			if err != nil {
 				return err
 			}

@@ -27,6 +27,32 @@ func testName(t *testing.T, open func(*testing.T) broker.NamedStore) {
 	wantName("the second Begin", "one", name, err)
 	name, err = second.Name(ctx)
 	wantName("Name", "one", name, err)
+	name, err = second.Begin(ctx, broker.UntiedBefore+"two")
+	wantName("a Begin of a late backend", "one", name, err)
+}
+
+// A store that is untied gets another name once, and then its rows don't count.
+func testUntiedBefore(t *testing.T, open func(*testing.T) broker.NamedStore) {
+	store, ctx := opened(t, open), context.Background()
+	for _, it := range []struct{ given, want string }{
+		{broker.Untied, broker.Untied},
+		{"one", broker.Untied},
+		{broker.UntiedBefore + "two", broker.UntiedBefore + "two"},
+		{broker.UntiedBefore + "three", broker.UntiedBefore + "two"},
+		{broker.Untied, broker.UntiedBefore + "two"},
+	} {
+		if name, err := store.Begin(ctx, it.given); err != nil || name != it.want {
+			t.Errorf("Begin(%q): %q, %v, want %q", it.given, name, err, it.want)
+		}
+	}
+	for _, key := range []broker.Key{instance(1), binding(1, 1)} {
+		write(t, store, key, broker.Entry{Holding: tombstone(t)})
+	}
+	for _, wanted := range []bool{false, true} {
+		if isUsed, err := tie(store, nil); isUsed != wanted || err != nil {
+			t.Errorf("used %t, %v; want %t", isUsed, err, wanted)
+		}
+	}
 }
 
 // tie ties a store, and returns whether it was used.

@@ -40,6 +40,7 @@ func Run(t *testing.T, open func(t *testing.T) broker.NamedStore) {
 		{"counts", testStats},
 		{"the name", testName},
 		{"a tie", testTie},
+		{"a store that was untied", testUntiedBefore},
 		{"rows make a store used", testUsedByRows},
 		{"one tie at a time", testTiesExclude},
 		{"ready", testReady},

@@ -149,13 +149,14 @@ func isRejection(body string) bool {
 	return json.Unmarshal([]byte(body), &read) == nil && read.Error != "" && read.Description != ""
 }
 
-// Ten thousand messages, each with one thing that has to be rejected: each gets its status, and nothing is changed.
+// Ten thousand messages, each with one thing that has to be rejected: each gets its status, and nothing is changed. Those
+// that http.ReadRequest can't read are sent to the program.
 func TestHostileRequests(t *testing.T) {
 	i, chance := newInside(t), rand.New(rand.NewSource(1))
 	send := func(m message) int { status, _, _ := i.answer(m.text()); return status }
 	prepareState(t, send)
 	before := stateOf(t, i.state)
-	found := map[int]int{}
+	found, unread := map[int]int{}, []string(nil)
 	for n := 0; n < 10_000; n++ {
 		m, statuses := hostileMessage(chance)
 		status, body, wasAsked := i.answer(m.text())
@@ -164,6 +165,8 @@ func TestHostileRequests(t *testing.T) {
 		}
 		if wasAsked {
 			found[status]++
+		} else {
+			unread = append(unread, m.text())
 		}
 	}
 	for _, status := range []int{400, 401, 404, 405, 412, 413, 422} {
@@ -175,6 +178,30 @@ func TestHostileRequests(t *testing.T) {
 		t.Errorf("the state was\n%s\nand is\n%s", before, after)
 	}
 	checkValid(t, send)
+	if len(unread) < 100 {
+		t.Errorf("only %d can't be read", len(unread))
+	}
+	rejectAll(t, unread)
+}
+
+// rejectAll sends texts to the program, each on a connection of its own. Each has to be rejected by one answer with 4xx,
+// and nothing may change.
+func rejectAll(t *testing.T, texts []string) {
+	t.Helper()
+	state := t.TempDir()
+	s := &sender{served: start(t, []string{password}, "--state", state, "--longest-body", strconv.Itoa(longestTaken))}
+	prepareState(t, s.status)
+	before := stateOf(t, state)
+	for _, it := range texts {
+		if statuses, given := s.exchange(it); len(statuses) != 1 || statuses[0]/100 != 4 {
+			t.Errorf("%.500q is answered %v %.300s", it, statuses, given)
+		}
+	}
+	if after := stateOf(t, state); after != before {
+		t.Errorf("the state was\n%s\nand is\n%s", before, after)
+	}
+	checkValid(t, s.status)
+	s.stop()
 }
 
 // A message without a login, with bytes changed at random: it gets a 401, wherever they are, or net/http rejects it.

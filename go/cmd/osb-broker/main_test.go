@@ -200,10 +200,14 @@ func TestUnusable(t *testing.T) {
 		{[]string{password}, []string{"serve", "--threads", "0"}, "threads"},
 		{[]string{password}, []string{"serve", "--listen", "nowhere"}, "HOST:PORT"},
 		{[]string{password}, []string{"serve", "--user", "a:b"}, "--user"},
+		{[]string{password}, []string{"serve", "--state", empty, "--store", "mysql://x"}, "--store"},
+		{[]string{password}, []string{"serve", "--state", empty, "--backend", "postgresq://x"}, "begins with postgresq://"},
 		{[]string{password}, []string{"serve", "--state", empty, "--existing"}, "--existing"},
 		{[]string{password}, []string{"serve", "--state", file("f", "")}, "the state folder can't be created"},
 		{[]string{password}, []string{"serve", "--state", empty, "--catalog", file("c", "{}")},
 			"can't be the catalogue"},
+		{[]string{password}, []string{"serve", "--state", empty, "--catalog", file("m",
+			string(catalogueWith(`"requires": ["syslog_drain"],`)))}, `service "shelf": requires has "syslog_drain"`},
 		{[]string{password}, []string{"serve", "--state", empty, "--catalog", "/nowhere/c"}, "/nowhere/c"},
 		{[]string{password}, []string{"serve", "--state", empty, "--backend", "command:/nowhere/b"}, "/nowhere/b"},
 		{[]string{password}, []string{"serve", "--state", empty, "--store", "postgresql://u:pw@h/d"}, "PGPASSWORD"},
@@ -353,4 +357,10 @@ func Example_help() {
 	out, err := osbBroker(nil, "--help").Output()
 	fmt.Println(strings.Contains(string(out), "osb-broker [command]"), err)
 	// Output: true <nil>
+}
+
+// catalogueWith is a catalogue whose service has these members besides those that it must have.
+func catalogueWith(members string) []byte {
+	return []byte(`{"services": [{"id": "s", "name": "shelf", "description": "d", "bindable": true, ` + members +
+		` "plans": [{"id": "p", "name": "small", "description": "d"}]}]}`)
 }

@@ -88,8 +88,8 @@ func (s *settings) addPlaces(flags *pflag.FlagSet) {
 		"the `folder` with what --store and --backend don't place elsewhere")
 	flags.BoolVar(&s.existing, "existing", false, "start only over a store that has been used before")
 	flags.StringVar(&s.catalogue, "catalog", "", "the `file` with the document of GET /v2/catalog")
-	flags.StringVar(&s.store, "store", "", "where to keep holdings: a `file` of SQLite, or postgresql://..")
-	flags.StringVar(&s.backend, "backend", "",
+	flags.Var(program.Place(&s.store, ""), "store", "where to keep holdings: a `file` of SQLite, or postgresql://..")
+	flags.Var(program.Place(&s.backend, ""), "backend",
 		"what to sell: a `folder` for folders, postgresql://.. for databases, or command:PROGRAM")
 	flags.StringVar(&s.customers, "customer-address", "",
 		"the `host:port` at which applications reach the databases, if it isn't that of --backend")

@@ -62,9 +62,28 @@ func partsOf(ctx context.Context, s *settings, log *logs.Logger, observer broker
 	}
 	err = broker.Tie(ctx, p.store, p.backend, s.existing)
 	if errors.Is(err, broker.ErrParted) {
-		return p, program.Unusable(err)
+		return p, program.Unusable(fmt.Errorf("%w. %s", err, p.remedy(ctx, s)))
 	}
 	return p, away("the store and the backend can't be used together", err)
+}
+
+// remedy is what to do about a store and a backend that don't belong together.
+func (p *parts) remedy(ctx context.Context, s *settings) string {
+	if s.existing {
+		if name, err := p.store.Name(ctx); err == nil && name == "" {
+			return "Check --state and --store. For the first start, leave --existing out"
+		}
+	}
+	backend, isTied := p.backend.(broker.LateTiedBackend)
+	if !isTied {
+		return "Start each broker of a store with the --state, --store and --backend of its first start"
+	}
+	if owner, err := backend.Owner(ctx); err != nil || owner != "" {
+		return "Choose another --state for this store, or the --store of this state folder"
+	}
+	return "Run all brokers of the store on one machine, with the --state and --backend of its first start. If that " +
+		"folder is lost for good, and no broker of the store runs, write the name of the store to " +
+		filepath.Join(commandState(s), ".owner")
 }
 
 func (p *parts) closeAll() {
@@ -84,7 +103,7 @@ func (s *settings) command() (string, bool) {
 func (p *parts) openBackend(ctx context.Context, s *settings, log *logs.Logger) (err error) {
 	if name, isCommand := s.command(); isCommand {
 		p.sells = "resource"
-		options := command.Options{State: filepath.Join(s.state, "command"), Limit: s.commandTime, Existing: s.existing}
+		options := command.Options{State: commandState(s), Limit: s.commandTime, Existing: s.existing}
 		p.backend, err = command.New(ctx, name, options)
 		return ofFiles("the backend can't be used", err)
 	}
@@ -100,6 +119,9 @@ func (p *parts) openBackend(ctx context.Context, s *settings, log *logs.Logger) 
 	p.backend, err = folders.New(top)
 	return ofFiles("the backend can't be used", err)
 }
+
+// commandState is the folder for the own use of the program of a command backend.
+func commandState(s *settings) string { return filepath.Join(s.state, "command") }
 
 func (p *parts) openDatabases(ctx context.Context, s *settings, log *logs.Logger) error {
 	if err := withoutPassword(s.backend); err != nil {

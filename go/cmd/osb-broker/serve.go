@@ -142,6 +142,7 @@ func (r *running) serve(ctx, stop context.Context) error {
 			r.health.Stop()
 			endSweeps()
 		},
+		Work: func(within context.Context) { waitFor(within, swept) },
 	}
 	r.log.Info("serving").Str("url", r.main.URL()).AnErr("notify_error", notify.Ready()).Send()
 	failed := served.Serve(stop)
@@ -162,6 +163,14 @@ func (r *running) serve(ctx, stop context.Context) error {
 
 // lastWait is how long what was broken off may take to end.
 const lastWait = 2 * time.Second
+
+// waitFor waits for what ends, at most until ctx is done.
+func waitFor(ctx context.Context, ended <-chan struct{}) {
+	select {
+	case <-ended:
+	case <-ctx.Done():
+	}
+}
 
 // wait waits for what ends, such as the sweeper, and returns whether it has ended in time.
 func (r *running) wait(ended <-chan struct{}, within time.Duration) bool {
@@ -226,8 +235,9 @@ func (s *settings) files() uint64 {
 	return uint64(s.connections) + (uint64(s.threads)+uint64(s.workers))*each + otherFiles
 }
 
-// locksAtOnce is how many of the threads may wait for a lock at once: the others are for what needs none.
-func (s *settings) locksAtOnce() int { return s.threads - s.threads/4 }
+// locksAtOnce is how many of the threads may wait for a lock at once. They are fewer than those that may do work, so that
+// a silent server of the locks leaves some, which answer at once.
+func (s *settings) locksAtOnce() int { return (s.threads + 1) / 2 }
 
 // isLoopback is whether only this machine reaches an address.
 func isLoopback(address net.Addr) bool {

@@ -2,12 +2,16 @@ package main
 
 import (
 	"bytes"
+	"context"
 	"net"
 	"os"
 	"os/exec"
 	"path/filepath"
 	"strings"
 	"testing"
+
+	"pippinterm/broker"
+	"pippinterm/broker/sqlite"
 )
 
 // unusable runs the program, and checks that it ends with status 2 and this text.
@@ -153,4 +157,48 @@ func TestManyOpenANewStore(t *testing.T) {
 	s := start(t, []string{password}, "--state", state, "--existing")
 	s.expect(201, "PUT", one, order)
 	s.stop()
+}
+
+// A store with a command backend has one state folder, in which the locks are, and a state folder has one store. The
+// store of an earlier version, which had no name of its own, is tied at the first start.
+func TestStateFolderOfACommandIsTied(t *testing.T) {
+	for _, isOld := range []bool{false, true} {
+		top := t.TempDir()
+		if isOld {
+			store, err := sqlite.Open(context.Background(), filepath.Join(top, "store"), broker.Silent{})
+			if err == nil {
+				_, err = store.Begin(context.Background(), broker.Untied)
+			}
+			if err == nil {
+				err = store.Close()
+			}
+			if err != nil {
+				t.Fatal(err)
+			}
+		}
+		over := func(state, store string) []string {
+			return []string{"--state", filepath.Join(top, state), "--store", filepath.Join(top, store),
+				"--backend", "command:/bin/true"}
+		}
+		first := start(t, []string{password}, over("st1", "store")...)
+		start(t, []string{password}, over("st1", "store")...).stop()
+		refused := func(says, state, store string) {
+			t.Helper()
+			unusable(t, says, append([]string{"serve", "--listen", "192.0.2.1:1"}, over(state, store)...)...)
+		}
+		refused("Run all brokers of the store on one machine, with the --state", "st2", "store")
+		refused("the name of the store to "+filepath.Join(top, "st2/command/.owner"), "st2", "store")
+		refused("Choose another --state for this store", "st1", "other")
+		first.stop()
+		refused("Run all brokers of the store on one machine, with the --state", "st2", "store")
+		start(t, []string{password}, append(over("st1", "store"), "--existing")...).stop()
+		owner, err := os.ReadFile(filepath.Join(top, "st1/command/.owner"))
+		if err == nil {
+			err = os.WriteFile(filepath.Join(top, "st2/command/.owner"), owner, 0o600)
+		}
+		if err != nil {
+			t.Fatal(err)
+		}
+		start(t, []string{password}, over("st2", "store")...).stop()
+	}
 }

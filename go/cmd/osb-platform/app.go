@@ -3,10 +3,12 @@ package main
 import (
 	"context"
 	"errors"
+	"fmt"
 	"strings"
 
 	"github.com/spf13/cobra"
 
+	pgsession "pippinterm/broker/postgres/session"
 	"pippinterm/platform"
 	"pippinterm/program"
 	"pippinterm/program/sqlite"
@@ -44,6 +46,9 @@ func (a *app) judged(err error) error {
 		return program.Unusable(err)
 	case errors.As(err, &fault):
 		a.status = statusRejected
+	case pgsession.IsCode(err, pgsession.QueryCanceled, pgsession.LockNotAvailable):
+		return program.Unavailable(fmt.Errorf("the store hasn't answered in time: %w. Another session may have locked a "+
+			"table, for example by VACUUM FULL: see pg_stat_activity, and try again", err))
 	case errors.Is(err, platform.ErrAway), sqlitefile.MayPass(err):
 		return program.Unavailable(err)
 	}

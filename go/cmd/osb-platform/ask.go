@@ -4,7 +4,6 @@ import (
 	"context"
 	"errors"
 	"fmt"
-	"net/http"
 	"strconv"
 
 	"github.com/spf13/cobra"
@@ -24,7 +23,8 @@ func askCommand(a *app) *cobra.Command {
 each fact on a line with its name before a tab. If the catalogue says that the instance or the binding is retrievable,
 it is fetched, too. Its parameters and credentials aren't printed.
 
-Only GET is sent, and the record stays as it is. For what is unsettled, the last fact is the command that leads on.`,
+Only GET is sent, and the record stays as it is. For what is unsettled, the last fact says what to do next. If the
+answers contradict each other, no deletion is advised.`,
 		Example: `  osb-platform ask my-database`,
 		Args:    wants("ID"),
 		RunE: a.over(needsKey, func(ctx context.Context, c *cobra.Command, s session, arguments []string) error {
@@ -114,16 +114,18 @@ func (q question) ask(ctx context.Context, asking *client.Client) (facts [][2]st
 	for _, it := range factsOf("last operation", last) {
 		add(it[0], it[1])
 	}
+	var fetched *client.Told
 	if q.isRetrievable() {
-		fetched, err := asking.Fetch(ctx, q.broker, q.entry)
+		told, err := asking.Fetch(ctx, q.broker, q.entry)
 		if err != nil {
 			return facts, q.unanswered(err)
 		}
-		for _, it := range factsOf("fetch", fetched) {
+		for _, it := range factsOf("fetch", told) {
 			add(it[0], it[1])
 		}
+		fetched = &told
 	}
-	add("what to do", q.advice(last))
+	add("what to do", q.advice(last, fetched))
 	return facts, nil
 }
 
@@ -162,25 +164,8 @@ func (q question) isRetrievable() bool {
 	return service.InstancesRetrievable
 }
 
-// advice is the command that leads on for a row that waits for a decision, or empty.
-func (q question) advice(last client.Told) string {
-	if q.entry.State != platform.Unsettled || !q.entry.Rests() {
-		return ""
-	}
-	id, remove := printable(idOf(q.entry)), "remove"
-	if q.entry.Key.IsBinding {
-		remove = "unbind"
-	}
-	switch {
-	case last.IsUnsure:
-	case last.Status == http.StatusOK:
-		return fmt.Sprintf("the broker holds it. If it is yours, run 'osb-platform %s %s': that deletes it at the "+
-			"broker", remove, id)
-	case last.Status == http.StatusGone:
-		return fmt.Sprintf("the broker has nothing. Run 'osb-platform %s %s': the record becomes gone", remove, id)
-	case last.Status == http.StatusBadRequest:
-		return fmt.Sprintf("the broker holds something else under this id. Leave it, or end the record: 'osb-platform "+
-			"abandon %s --because TEXT'", id)
-	}
-	return "the answer doesn't say what the broker holds: ask its operator"
+// hasTombstones is whether the broker's catalogue says that it has tombstones.
+func (q question) hasTombstones() bool {
+	catalogue, err := platform.ReadCatalogue(q.broker.Catalogue)
+	return err == nil && catalogue.HasTombstones
 }

@@ -171,3 +171,24 @@ func TestRetryUnsettled(t *testing.T) {
 		{"list", 0, "one\tunsettled\t.*", `1 unsettled .*run 'osb-platform ask ID'.*`},
 	})
 }
+
+// A broker may answer 410 about the last operation of an instance that it holds: the Fetch shows it. Then no command is
+// advised that deletes.
+func TestAskContrary(t *testing.T) {
+	s := newSite(t)
+	store := newUnsettled(t, s, "one")
+	over(t, store, func(ctx context.Context, in platform.Store) error {
+		return in.ChangeBroker(ctx, "local", func(it platform.Broker) (*platform.Broker, error) {
+			text := strings.Replace(string(it.Catalogue), `"bindings_retrievable"`,
+				`"instances_retrievable": true, "bindings_retrievable"`, 1)
+			it.Catalogue = json.RawMessage(text)
+			return &it, nil
+		})
+	})
+	s.answer(http.StatusGone, http.StatusOK)
+	got := call(t, "--store", store, "ask", "one")
+	if got.status != 0 || !strings.Contains(got.out, "fetch status\t200\n") ||
+		!strings.Contains(got.out, "what to do\tthe answers contradict each other") || strings.Contains(got.out, "remove") {
+		t.Errorf("%+v", got)
+	}
+}

@@ -142,6 +142,11 @@ func (l *listing) list(ctx context.Context, store platform.Store, to io.Writer, 
 		for _, row := range rows {
 			l.count(row)
 			it := placed{Entry: row, broker: l.brokers[row.Broker]}
+			if l.reasons || l.inJSON {
+				if it.before, err = tryBefore(ctx, store, row); err != nil {
+					return err
+				}
+			}
 			if l.inJSON {
 				err = printJSON(to, jsonOf(it))
 			} else {
@@ -192,8 +197,8 @@ func (l *listing) attention() string {
 	}
 	if l.waiting > 0 {
 		text += fmt.Sprintf("%d unsettled (oldest: %s). For each, run 'osb-platform ask ID', which asks the broker "+
-			"for its last operation. Run 'osb-platform remove ID' if the broker answers 410, or if it answers 200 for "+
-			"your service and plan and the instance is yours: that deletes it at the broker.\n", l.waiting, moment(l.oldestWaiting))
+			"for its last operation and prints what to do. Don't run 'osb-platform remove ID' before: that deletes it at "+
+			"the broker.\n", l.waiting, moment(l.oldestWaiting))
 	}
 	if l.stuck > 0 {
 		text += fmt.Sprintf("%d being deleted for more than an hour (oldest: %s). For each, run 'osb-platform show "+

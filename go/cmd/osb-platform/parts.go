@@ -51,7 +51,7 @@ type part struct {
 func (r *running) parts(work context.Context, whenStopping func(func())) []part {
 	healthPart := func() (http.Handler, error) {
 		handler := health.New(work, health.Options{
-			Ready: r.store.Ready, Metrics: r.metrics.handler(), Observer: serverObserver{to: r.observer},
+			Ready: r.ready, Metrics: r.metrics.handler(), Observer: serverObserver{to: r.observer},
 		})
 		whenStopping(handler.Stop)
 		return handler, nil

@@ -122,19 +122,25 @@ func (w *wire) hang(is bool) {
 	w.resumes.Broadcast()
 }
 
-// SIGTERM ends a worker within 10 seconds, with the status 0, while the database hangs.
+// SIGTERM ends a worker within 10 seconds, with the status 0, while the database hangs: also without --stop-seconds.
 func TestStopWhileTheDatabaseHangs(t *testing.T) {
-	s := newSite(t)
-	w, address, environment := newWire(t, "osb_program_hangs")
-	p := start(t, address, environment, "--broker", s.url, "--stop-seconds", "1")
-	p.event("broker_reached")
-	w.hang(true)
-	begun := time.Now()
-	if rest := p.stop(); !strings.Contains(rest, `"event":"stopped"`) {
-		t.Errorf("the log: %s", rest)
-	}
-	if took := time.Since(begun); took > 10*time.Second {
-		t.Errorf("it took %v", took)
+	for schema, options := range map[string][]string{
+		"osb_program_hangs": {"--stop-seconds", "1"}, "osb_program_hangs_default": nil,
+	} {
+		t.Run(schema, func(t *testing.T) {
+			s := newSite(t)
+			w, address, environment := newWire(t, schema)
+			p := start(t, address, environment, append(options, "--broker", s.url)...)
+			p.event("broker_reached")
+			w.hang(true)
+			begun := time.Now()
+			if rest := p.stop(); !strings.Contains(rest, `"event":"stopped"`) {
+				t.Errorf("the log: %s", rest)
+			}
+			if took := time.Since(begun); took > 10*time.Second {
+				t.Errorf("it took %v", took)
+			}
+		})
 	}
 }
 

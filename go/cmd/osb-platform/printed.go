@@ -24,6 +24,15 @@ func printable(text string) string {
 	return strconv.QuoteToASCII(text)
 }
 
+// printableOn is a text for a writer: printable on a terminal, and elsewhere the text itself, so that a script gets it
+// as it is.
+func printableOn(to io.Writer, text string) string {
+	if isTerminal(to) {
+		return printable(text)
+	}
+	return text
+}
+
 // moment is a time in UTC, to the second.
 func moment(at time.Time) string {
 	if at.Year() > 9999 {

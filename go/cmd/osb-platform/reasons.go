@@ -6,6 +6,7 @@ import (
 	"net/http"
 	"strconv"
 	"strings"
+	"time"
 
 	"pippinterm/platform"
 )
@@ -23,16 +24,20 @@ func reasonOf(e platform.Entry) string {
 	return textOf(e.Last)
 }
 
-// A placed is a row with its broker.
+// A placed is a row with its broker, and with the try before it if it is a further try that waits.
 type placed struct {
 	platform.Entry
 	broker platform.Broker
+	before platform.Entry // or the zero Entry
 }
 
-// reason is why a row is as it is, in one line, or empty. If the row says nothing, it is the reason of its broker,
-// marked as such.
+// reason is why a row is as it is, in one line, or empty. If the row says nothing, it is why it waits, or the reason of
+// its broker, marked as such.
 func (p placed) reason() string {
 	text := reasonOf(p.Entry)
+	if waits := p.waits(); text == "" && waits != "" {
+		return waits
+	}
 	if of := textOf(p.brokerReason()); text == "" && of != "" {
 		return "broker: " + of
 	}
@@ -45,6 +50,35 @@ func (p placed) brokerReason() platform.Reason {
 		return platform.Reason{}
 	}
 	return p.broker.Reason
+}
+
+// waits is until when a further try waits, and why, in one line that begins with "waits", or empty.
+func (p placed) waits() string {
+	if p.before.Failure == (platform.Reason{}) {
+		return ""
+	}
+	text := "waits until " + moment(p.Due)
+	if wait := p.Due.Sub(p.before.Failure.At); wait <= p.before.After*3/2 { // up to a half is chance
+		text += ", as the broker has asked"
+	}
+	return text + ". The try before: " + textOf(p.before.Failure)
+}
+
+// leastWait is how long a further try must still wait for the wait to be shown.
+const leastWait = time.Second
+
+// tryBefore is the try before a further try that waits, or the zero Entry for any other row.
+func tryBefore(ctx context.Context, store platform.Store, e platform.Entry) (platform.Entry, error) {
+	if e.State != platform.Ordered || e.Try <= 1 || time.Until(e.Due) < leastWait {
+		return platform.Entry{}, nil
+	}
+	all, err := triesOf(ctx, store, e)
+	for _, it := range all {
+		if it.Try == e.Try-1 {
+			return it, err
+		}
+	}
+	return platform.Entry{}, err
 }
 
 // brokersOf are the brokers of a store, by their names.

@@ -47,10 +47,10 @@ func TestReasonOfBroker(t *testing.T) {
 		of          placed
 		want, facts string
 	}{
-		{placed{due, away}, `broker: "connection \x1b refused"`, `"connection \x1b refused"`},
-		{placed{polled, away}, "poll 200", `"connection \x1b refused"`},
-		{placed{due, platform.Broker{}}, "", ""},
-		{placed{ready, away}, "", ""},
+		{placed{Entry: due, broker: away}, `broker: "connection \x1b refused"`, `"connection \x1b refused"`},
+		{placed{Entry: polled, broker: away}, "poll 200", `"connection \x1b refused"`},
+		{placed{Entry: due}, "", ""},
+		{placed{Entry: ready, broker: away}, "", ""},
 	} {
 		if got, facts := it.of.reason(), textOf(it.of.brokerReason()); got != it.want || facts != it.facts {
 			t.Errorf("%s: %q, %q", it.of.State, got, facts)

@@ -4,6 +4,7 @@ import (
 	"context"
 	"encoding/json"
 	"fmt"
+	"strings"
 	"time"
 
 	"github.com/spf13/cobra"
@@ -48,6 +49,7 @@ type whole struct {
 	broker platform.Broker // the zero Broker if it is unknown
 	life   []platform.Stay
 	tries  []platform.Entry
+	before platform.Entry // the try before, if it is a further try that waits
 }
 
 func readWhole(ctx context.Context, store platform.Store, id string) (whole, error) {
@@ -64,13 +66,20 @@ func readWhole(ctx context.Context, store platform.Store, id string) (whole, err
 		return whole{}, err
 	}
 	tries, err := triesOf(ctx, store, entry)
-	return whole{entry: entry, broker: brokers[entry.Broker], life: life, tries: tries}, err
+	if err != nil {
+		return whole{}, err
+	}
+	before, err := tryBefore(ctx, store, entry)
+	return whole{entry: entry, broker: brokers[entry.Broker], life: life, tries: tries, before: before}, err
 }
 
 // asked are the texts of what an operator has asked for.
 var asked = map[platform.Removal]string{
 	platform.Removed: "removal is asked for", platform.RemovedWhole: "removal is asked for, with all bindings",
 }
+
+// placed is the row alone.
+func (w whole) placed() placed { return placed{Entry: w.entry, broker: w.broker, before: w.before} }
 
 // facts are what is known, each with its name before it.
 func (w whole) facts() [][2]string {
@@ -90,6 +99,7 @@ func (w whole) facts() [][2]string {
 	add("space", printable(e.Space))
 	add("asked", asked[e.Removal])
 	add("due", momentOf(e.Due))
+	add("waits", strings.TrimPrefix(w.placed().waits(), "waits "))
 	if e.State == platform.Polling || e.State == platform.CleaningPolling {
 		add("polled since", momentOf(e.PolledSince))
 	}
@@ -107,7 +117,7 @@ func (w whole) facts() [][2]string {
 	add("dashboard", printable(e.Dashboard))
 	add("metadata", printable(string(e.Metadata)))
 	add("last reason", at(e.Last))
-	add("broker's reason", at(placed{e, w.broker}.brokerReason()))
+	add("broker's reason", at(w.placed().brokerReason()))
 	add("failure", at(e.Failure))
 	add("abandoned because", printable(e.Because))
 	if len(w.tries) > 1 {
@@ -157,6 +167,7 @@ type row struct {
 	Last         *platform.Reason `json:"last_reason,omitempty"`
 	Failure      *platform.Reason `json:"failure,omitempty"`
 	BrokerReason *platform.Reason `json:"broker_reason,omitempty"`
+	TryBefore    *platform.Reason `json:"try_before_failure,omitempty"`
 	Because      string           `json:"abandoned_because,omitempty"`
 	Unreadable   string           `json:"unreadable,omitempty"`
 	Dashboard    string           `json:"dashboard_url,omitempty"`
@@ -171,8 +182,8 @@ func jsonOf(e placed) row {
 		Broker: e.Broker, Service: e.Names.Service, Plan: e.Names.Plan, Organization: e.Organization, Space: e.Space,
 		Asked: asked[e.Removal], Due: timeOf(e.Due), PolledSince: timeOf(e.PolledSince), Operation: e.Operation,
 		Worker: e.Lease.Worker, LeasedUntil: timeOf(e.Lease.Until), Last: reason(e.Last), Failure: reason(e.Failure),
-		BrokerReason: reason(e.brokerReason()), Because: e.Because, Unreadable: e.Unreadable, Dashboard: e.Dashboard,
-		Metadata: e.Metadata, Try: e.Try, Tries: e.Tries,
+		BrokerReason: reason(e.brokerReason()), TryBefore: reason(e.before.Failure), Because: e.Because,
+		Unreadable: e.Unreadable, Dashboard: e.Dashboard, Metadata: e.Metadata, Try: e.Try, Tries: e.Tries,
 	}
 }
 
@@ -209,7 +220,7 @@ type try struct {
 }
 
 func (w whole) json() wholeRow {
-	made := wholeRow{row: jsonOf(placed{w.entry, w.broker}), Life: []stay{}, Chain: []try{}}
+	made := wholeRow{row: jsonOf(w.placed()), Life: []stay{}, Chain: []try{}}
 	for _, it := range w.life {
 		made.Life = append(made.Life, stay{State: it.State, Since: it.Since.UTC()})
 	}

@@ -34,6 +34,12 @@ type site struct {
 // newSite starts a broker with the standard catalogue of osb-broker.
 func newSite(t *testing.T) *site {
 	t.Helper()
+	return newSiteFor(t, broker.Silent{})
+}
+
+// newSiteFor is newSite of a broker whose requests an observer sees.
+func newSiteFor(t *testing.T, observer broker.Observer) *site {
+	t.Helper()
 	document, err := os.ReadFile("../osb-broker/catalogue.json")
 	if err != nil {
 		t.Fatal(err)
@@ -64,7 +70,7 @@ func newSite(t *testing.T) *site {
 		t.Fatal(err)
 	}
 	handler, err := broker.NewHandler(ctx, service, broker.Config{
-		Users: users, LongestBody: 1 << 20, AtOnce: 8, Touch: sweeper.Touch, Observer: broker.Silent{},
+		Users: users, LongestBody: 1 << 20, AtOnce: 8, Touch: sweeper.Touch, Observer: observer,
 	})
 	if err != nil {
 		t.Fatal(err)

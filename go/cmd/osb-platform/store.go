@@ -75,6 +75,9 @@ func (p *places) keys() []string {
 // existingStore is openStore of a store that exists. It creates none. A command that only reads or orders would
 // otherwise answer from an empty store if the name of the store is misspelt.
 func existingStore(ctx context.Context, place string, most int) (platform.Store, error) {
+	if err := program.CheckPlace(place); err != nil {
+		return nil, program.Unusable(fmt.Errorf("the store: %w", err))
+	}
 	if !pgsession.IsAddress(place) {
 		store, err := sqlite.OpenExisting(ctx, place)
 		if err != nil {
@@ -105,6 +108,9 @@ func missing(place string, err error, other func(error) error) error {
 //
 // Errors: program.Unusable for what an operator has to change, and program.Unavailable for a server that is away.
 func openStore(ctx context.Context, place string, most int) (platform.Store, error) {
+	if err := program.CheckPlace(place); err != nil {
+		return nil, program.Unusable(fmt.Errorf("the store: %w", err))
+	}
 	if !pgsession.IsAddress(place) {
 		return openFile(ctx, place)
 	}

@@ -9,6 +9,7 @@ import (
 	"syscall"
 	"testing"
 
+	"github.com/lib/pq"
 	"github.com/mattn/go-sqlite3"
 	"github.com/spf13/cobra"
 
@@ -69,6 +70,8 @@ func TestStatusOfFiles(t *testing.T) {
 		{&fs.PathError{Op: "mkdir", Path: "s", Err: syscall.EACCES}, 2, 70},
 		{fmt.Errorf("sqlite: %w", sqlite3.Error{Code: sqlite3.ErrNotADB}), 2, 70},
 		{errors.New("another"), 2, 70},
+		{fmt.Errorf("the store: %w", &pq.Error{Code: "57014"}), 2, 75}, // a table that VACUUM FULL has locked
+		{fmt.Errorf("the store: %w", &pq.Error{Code: "55P03"}), 2, 75},
 	} {
 		for err, want := range map[error]int{ofFile(it.err): it.opened, (&app{}).judged(it.err): it.called} {
 			root := &cobra.Command{Use: "test", RunE: func(*cobra.Command, []string) error { return err }}

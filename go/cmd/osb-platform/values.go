@@ -3,6 +3,7 @@ package main
 import (
 	"encoding/base64"
 	"encoding/json"
+	"errors"
 	"fmt"
 	"io"
 	"os"
@@ -90,6 +91,22 @@ func (i *identity) Set(text string) error {
 		return fmt.Errorf(`want PLATFORM=JSON, such as cloudfoundry={"user_id":"one"}`)
 	}
 	*i.to, i.shown = value, text
+	return nil
+}
+
+// A chosenID is the value of a flag that is an id. It isn't empty: a variable of a script may have been empty by
+// mistake.
+type chosenID string
+
+func (i *chosenID) String() string { return string(*i) }
+
+func (i *chosenID) Type() string { return "id" }
+
+func (i *chosenID) Set(text string) error {
+	if text == "" {
+		return errors.New("it is empty: give an id, or leave --id out for a new GUID")
+	}
+	*i = chosenID(text)
 	return nil
 }
 

@@ -49,8 +49,9 @@ func (w *waiting) add(flags *pflag.FlagSet, end, prints string) {
 	flags.Lookup("wait").NoOptDefVal = withoutLimit
 }
 
-// ordered prints the id of an order. With --wait, that id is printed on standard error at once. At the end, standard
-// output has the id of the last try. If isChain, the order may be tried again under other ids.
+// ordered prints the id of an order, on a terminal with escapes if it needs them. With --wait, that id is printed on
+// standard error at once. At the end, standard output has the id of the last try. If isChain, the order may be tried
+// again under other ids.
 //
 // Errors: those of wait.
 func (w *waiting) ordered(ctx context.Context, c *cobra.Command, s session, entry platform.Entry, isChain bool) error {
@@ -59,7 +60,7 @@ func (w *waiting) ordered(ctx context.Context, c *cobra.Command, s session, entr
 		fmt.Fprintf(c.ErrOrStderr(), "ordered %s\n", printable(idOf(entry)))
 		entry, err = w.wait(ctx, c, s, entry, isChain, created)
 	}
-	if _, failed := fmt.Fprintln(c.OutOrStdout(), printable(idOf(entry))); err == nil {
+	if _, failed := fmt.Fprintln(c.OutOrStdout(), printableOn(c.OutOrStdout(), idOf(entry))); err == nil {
 		err = failed
 	}
 	return err
@@ -130,8 +131,8 @@ func (w *waiting) wait(
 			return read, fmt.Errorf("%s: %s", printable(idOf(read)), unreadable(read))
 		case read.Key != entry.Key:
 			shown.end()
-			fmt.Fprintf(c.ErrOrStderr(), "%s has failed: tried again as %s\n", printable(idOf(entry)),
-				printable(idOf(read)))
+			fmt.Fprintf(c.ErrOrStderr(), "%s has failed: tried again as %s%s\n", printable(idOf(entry)),
+				printable(idOf(read)), hintOf(ctx, s.store, read))
 		}
 		entry = read
 		hasEnded, isGood := is(entry)
@@ -142,7 +143,7 @@ func (w *waiting) wait(
 			return entry, ended(ctx, s.store, entry, hasEnded, isGood)
 		}
 		shown.show(fmt.Sprintf("%s: %s, %d s%s", printable(idOf(entry)), entry.State, int(passed.Seconds()),
-			hint(entry, 5*time.Second)))
+			hintOf(ctx, s.store, entry)))
 		if w.limit > 0 && rest > w.limit-passed {
 			rest = w.limit - passed
 		}
@@ -207,6 +208,9 @@ func ended(ctx context.Context, store platform.Store, e platform.Entry, hasEnded
 // reached.
 func because(ctx context.Context, store platform.Store, e platform.Entry) string {
 	text := reasonOf(e)
+	if waits := waitingFor(ctx, store, e); text == "" && waits != "" {
+		return ": " + waits
+	}
 	if e.State == platform.Ordered {
 		if broker, err := brokerOf(ctx, store, e.Broker); err == nil && text == "" {
 			text = textOf(broker.Reason)
@@ -216,6 +220,23 @@ func because(ctx context.Context, store platform.Store, e platform.Entry) string
 		return hint(e, 0)
 	}
 	return ": " + text
+}
+
+// hintOf is why nothing is sent for a row, in brackets and behind a blank, or empty.
+func hintOf(ctx context.Context, store platform.Store, e platform.Entry) string {
+	if waits := waitingFor(ctx, store, e); waits != "" {
+		return " (" + waits + ")"
+	}
+	return hint(e, 5*time.Second)
+}
+
+// waitingFor is until when a further try waits, and why, or empty. It is empty, too, if the store fails.
+func waitingFor(ctx context.Context, store platform.Store, e platform.Entry) string {
+	before, err := tryBefore(ctx, store, e)
+	if err != nil {
+		return ""
+	}
+	return placed{Entry: e, before: before}.waits()
 }
 
 // hint is what may be wrong with an order that isn't sent though it has been due for so long.

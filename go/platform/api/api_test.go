@@ -168,6 +168,7 @@ func TestPlanThatIsNotBindable(t *testing.T) {
 	each(t, func(r *rig) {
 		id := r.call("POST", "/v1/instances", `{"service": "shelf", "plan": "closed"}`).want(201, "").at("id")
 		r.call("POST", "/v1/instances/"+id+"/bindings", `{}`).want(400, "invalid")
+		r.call("POST", "/v1/instances/"+id+"/bindings", `{"id": ""}`).want(400, "malformed")
 	})
 }
 
@@ -414,7 +415,7 @@ func TestStrictBodies(t *testing.T) {
 		`{"service": null}`, `{"service": "a", "service": "b"}`, `{"parameters": {"a": 1, "a": 2}}`,
 		`{"parameters": {"x": [{"a": 1, "\u0061": 2}]}}`,
 		"{\"service\": \"\xff\"}", `{"tries": 1.5}`, `{"tries": "1"}`, `{"parameters": ` + deep + `}`, ` `,
-		`{"parameters": {"a": 01}}`,
+		`{"parameters": {"a": 01}}`, `{"service": "shelf", "plan": "small", "id": ""}`,
 	} {
 		r.call("POST", "/v1/instances", it).want(400, "malformed")
 	}

@@ -9,7 +9,7 @@ import (
 )
 
 type newInstance struct {
-	ID           string          `json:"id"`
+	ID           *string         `json:"id"`
 	Broker       string          `json:"broker"`
 	Service      string          `json:"service"`
 	Plan         string          `json:"plan"`
@@ -22,7 +22,7 @@ type newInstance struct {
 }
 
 type newBinding struct {
-	ID           string          `json:"id"`
+	ID           *string         `json:"id"`
 	Parameters   json.RawMessage `json:"parameters"`
 	Context      json.RawMessage `json:"context"`
 	BindResource json.RawMessage `json:"bind_resource"`
@@ -60,8 +60,12 @@ func (a *asked) create() (answer, error) {
 	if err := a.body(&given); err != nil {
 		return answer{}, err
 	}
+	id, err := chosenID(given.ID)
+	if err != nil {
+		return answer{}, err
+	}
 	e, err := a.orders.Create(a.Context(), platform.NewInstance{
-		Broker: given.Broker, Service: given.Service, Plan: given.Plan, ID: given.ID, Organization: given.Organization,
+		Broker: given.Broker, Service: given.Service, Plan: given.Plan, ID: id, Organization: given.Organization,
 		Space: given.Space, Parameters: given.Parameters, Context: given.Context, Identity: given.Identity,
 		Tries: given.Tries,
 	})
@@ -79,14 +83,30 @@ func (a *asked) bind() (answer, error) {
 	if err := a.body(&given); err != nil {
 		return answer{}, err
 	}
+	id, err := chosenID(given.ID)
+	if err != nil {
+		return answer{}, err
+	}
 	e, err := a.orders.Bind(a.Context(), platform.NewBinding{
-		Instance: a.values["id"], ID: given.ID, Parameters: given.Parameters, Context: given.Context,
+		Instance: a.values["id"], ID: id, Parameters: given.Parameters, Context: given.Context,
 		BindResource: given.BindResource, Identity: given.Identity,
 	})
 	if err != nil {
 		return answer{}, err
 	}
 	return created(e), nil
+}
+
+// chosenID is the id that an order names, or empty for a new GUID. An id that is given and empty is an error: a variable
+// of whoever asks may have been empty by mistake.
+func chosenID(given *string) (string, error) {
+	switch {
+	case given == nil:
+		return "", nil
+	case *given == "":
+		return "", malformed("the member id is empty: leave it out for a new GUID")
+	}
+	return *given, nil
 }
 
 // created answers with a new row, and where it is.

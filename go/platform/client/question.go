@@ -2,6 +2,7 @@ package client
 
 import (
 	"context"
+	"encoding/json"
 	"fmt"
 	"net/http"
 	"strings"
@@ -51,7 +52,10 @@ func (c *Client) Fetch(ctx context.Context, of platform.Broker, entry platform.E
 	if err != nil {
 		return Told{}, err
 	}
-	return tell(got)
+	told, err := tell(got)
+	var object map[string]json.RawMessage
+	told.IsUnsure = err == nil && (json.Unmarshal(got.body, &object) != nil || object == nil)
+	return told, err
 }
 
 // question is one GET about a row: the Fetch, or the Poll of its last operation.

@@ -41,6 +41,8 @@ func TestQuestions(t *testing.T) {
 		{true, true, "200 OK", credentials, target + "/service_bindings/a%20binding?", Told{Status: 200}},
 		{true, true, "404 Not Found", `{"description": "none"}`, target + "/service_bindings/a%20binding?",
 			Told{Status: 404, Description: "none"}},
+		{true, false, "404 Not Found", `<html>`, target + "?", Told{Status: 404, IsUnsure: true}},
+		{true, false, "200 OK", `null`, target + "?", Told{Status: 200, IsUnsure: true}},
 	} {
 		server := serve(t, returning(row.status, row.body))
 		c := newClient(t, Options{})

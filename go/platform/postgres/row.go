@@ -296,7 +296,7 @@ func (s *sealed) UnmarshalJSON(text []byte) error {
 	return err
 }
 
-// lastText is the last reason, with since when the row is due.
+// lastText is the last reason, with the claim and since when the row is due.
 func lastText(entry platform.Entry) (*string, error) {
 	text, err := entry.LastText()
 	if text == nil || err != nil {

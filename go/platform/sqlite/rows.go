@@ -135,7 +135,7 @@ func recordValue(entry platform.Entry) (driver.Value, error) {
 	return string(text), err
 }
 
-// lastValue is the last reason, with since when the row is due.
+// lastValue is the last reason, with the claim and since when the row is due.
 func lastValue(entry platform.Entry) (driver.Value, error) {
 	text, err := entry.LastText()
 	if text == nil || err != nil {

@@ -345,6 +345,8 @@ func TestForeignFiles(t *testing.T) {
 	folder := t.TempDir()
 	later, foreign, numbered, text := filepath.Join(folder, "later"), filepath.Join(folder, "foreign"),
 		filepath.Join(folder, "numbered"), filepath.Join(folder, "text")
+	namesake := filepath.Join(folder, "namesake")
+	executed(t, namesake, "PRAGMA journal_mode = WAL", "CREATE TABLE osb_instances (id TEXT PRIMARY KEY, plan TEXT)")
 	closed(t, later)
 	executed(t, later, "PRAGMA user_version = 4")
 	executed(t, foreign, "PRAGMA journal_mode = WAL", "CREATE TABLE holdings (id TEXT PRIMARY KEY)")
@@ -353,7 +355,8 @@ func TestForeignFiles(t *testing.T) {
 		t.Fatal(err)
 	}
 	for path, want := range map[string]error{
-		later: errLater, foreign: errForeign, numbered: errForeign, text: nil, folder: nil,
+		namesake: errForeign,
+		later:    errLater, foreign: errForeign, numbered: errForeign, text: nil, folder: nil,
 	} {
 		before, _ := os.ReadFile(path)
 		_, err := Open(background, path)

@@ -155,25 +155,35 @@ func migrateExisting(ctx context.Context, conn *sqlitefile.Conn, path string) er
 	return migrate(ctx, conn, path)
 }
 
-// isCurrent is whether the tables are those of this version.
+// The columns of osb_instances in version 0.2, which each later version has too.
+const (
+	firstColumns = "'id', 'service', 'plan', 'further', 'record', 'operation', 'state', 'since', 'sent_until', " +
+		"'polled_since', 'removal', 'due', 'tries', 'worker', 'leased_until'"
+	countOfFirst = 15
+)
+
+// isCurrent is whether the tables are those of this version. Another program may have a table of the same name: the
+// columns tell them apart.
 func isCurrent(ctx context.Context, conn *sqlitefile.Conn) (isDone bool, err error) {
-	found, known, others := int64(0), int64(0), int64(0)
+	found, columns, others := int64(0), int64(0), int64(0)
 	err = sqlitefile.Patiently(ctx, func() error {
 		return conn.Each("SELECT (SELECT user_version FROM pragma_user_version), "+
-			"count(*) FILTER (WHERE name = 'osb_instances'), count(*) FROM sqlite_master WHERE type = 'table'", nil,
+			"(SELECT count(*) FROM pragma_table_info('osb_instances') WHERE name IN ("+firstColumns+")), "+
+			"count(*) FROM sqlite_master WHERE type = 'table'", nil,
 			func(row []driver.Value) error {
 				found, _ = row[0].(int64)
-				known, _ = row[1].(int64)
+				columns, _ = row[1].(int64)
 				others, _ = row[2].(int64)
 				return nil
 			})
 	})
+	isKnown := columns == countOfFirst
 	switch {
 	case err != nil:
 		return false, err
-	case found > format && known > 0:
+	case found > format && isKnown:
 		return false, errLater
-	case found != 0 && found != format, known == 0 && others > 0:
+	case found != 0 && found != format, !isKnown && others > 0:
 		return false, errForeign
 	}
 	return found == format, nil

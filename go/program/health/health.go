@@ -4,6 +4,7 @@ package health
 import (
 	"context"
 	"net/http"
+	"strconv"
 	"sync/atomic"
 
 	"pippinterm/broker"
@@ -28,8 +29,8 @@ type Options struct {
 //	          a second
 //	/metrics  what Options.Metrics answers
 //
-// After Stop, /healthz and /readyz answer 503. They answer a method other than GET and HEAD with 405. Their bodies are
-// JSON. (All of this is this project's choice.)
+// After Stop, /healthz and /readyz answer 503. The three paths answer a method other than GET and HEAD with 405. The
+// bodies of all but Options.Metrics are JSON. (All of this is this project's choice.)
 type Handler struct {
 	options    Options
 	readiness  *readiness
@@ -55,15 +56,20 @@ func (h *Handler) Stop() { h.isStopping.Store(true) }
 
 // ServeHTTP answers one request.
 func (h *Handler) ServeHTTP(w http.ResponseWriter, r *http.Request) {
+	path := r.URL.Path
+	isOurs := path == "/healthz" || path == "/readyz" || path == "/metrics" && h.options.Metrics != nil
 	switch {
-	case r.URL.Path == "/healthz":
-		h.answer(w, r, func(context.Context) error { return nil })
-	case r.URL.Path == "/readyz":
-		h.answer(w, r, h.readiness.check)
-	case r.URL.Path == "/metrics" && h.options.Metrics != nil:
-		h.options.Metrics.ServeHTTP(w, r)
-	default:
+	case !isOurs:
 		h.options.Next.ServeHTTP(w, r)
+	case r.Method != http.MethodGet && r.Method != http.MethodHead:
+		w.Header().Set("Allow", "GET, HEAD")
+		send(w, http.StatusMethodNotAllowed, notGet)
+	case path == "/healthz":
+		h.answer(w, r, func(context.Context) error { return nil })
+	case path == "/readyz":
+		h.answer(w, r, h.readiness.check)
+	default:
+		h.options.Metrics.ServeHTTP(w, r)
 	}
 }
 
@@ -77,9 +83,6 @@ const (
 
 func (h *Handler) answer(w http.ResponseWriter, r *http.Request, check func(context.Context) error) {
 	switch {
-	case r.Method != http.MethodGet && r.Method != http.MethodHead:
-		w.Header().Set("Allow", "GET, HEAD")
-		send(w, http.StatusMethodNotAllowed, notGet)
 	case h.isStopping.Load():
 		send(w, http.StatusServiceUnavailable, stopping)
 	case check(r.Context()) != nil:
@@ -92,6 +95,7 @@ func (h *Handler) answer(w http.ResponseWriter, r *http.Request, check func(cont
 func send(w http.ResponseWriter, status int, body string) {
 	w.Header().Set("Content-Type", "application/json")
 	w.Header().Set("Cache-Control", "no-store")
+	w.Header().Set("Content-Length", strconv.Itoa(len(body))) // so that it ends before a body of the request has come
 	w.WriteHeader(status)
 	_, _ = w.Write([]byte(body)) // a client that has gone isn't waited for
 }

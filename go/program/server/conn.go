@@ -130,6 +130,15 @@ func (c *conn) SetReadDeadline(deadline time.Time) error {
 	return c.Conn.SetReadDeadline(deadline)
 }
 
+// limitReads has reading end at this time, or at the deadline that net/http has set if that is earlier.
+func (c *conn) limitReads(latest time.Time) {
+	c.mutex.Lock()
+	defer c.mutex.Unlock()
+	if c.deadline.IsZero() || c.deadline.After(latest) {
+		_ = c.Conn.SetReadDeadline(latest) // fails only if it is closed, and then the next Read fails too
+	}
+}
+
 // SetDeadline sets the deadlines of reading and writing.
 func (c *conn) SetDeadline(deadline time.Time) error {
 	if err := c.SetReadDeadline(deadline); err != nil {

@@ -28,7 +28,7 @@ func TestTheAnswerToAnUnreadBodyArrives(t *testing.T) {
 		head, body string
 		next       []string // the statuses of two requests
 	}{
-		"a length":    {"PUT /a HTTP/1.1\r\nHost: x\r\nContent-Length: 1048576\r\n\r\n", body, []string{"401", "401"}},
+		"a length":    {"PUT /a HTTP/1.1\r\nHost: x\r\nContent-Length: 1048576\r\n\r\n", body, []string{"401"}},
 		"a last one":  {"PUT /last HTTP/1.1\r\nHost: x\r\nContent-Length: 1048576\r\n\r\n", body, []string{"401"}},
 		"chunks":      {"PUT /a HTTP/1.1\r\nHost: x\r\nTransfer-Encoding: chunked\r\n\r\n", chunked, []string{"401"}},
 		"of HTTP/1.0": {"PUT /a HTTP/1.0\r\nContent-Length: 1048576\r\n\r\n", body, []string{"401"}},
@@ -51,6 +51,48 @@ func TestTheAnswerToAnUnreadBodyArrives(t *testing.T) {
 				t.Errorf("the answers are %v, want %v", got, test.next)
 			}
 		})
+	}
+}
+
+// A body that never comes keeps nobody waiting for the answer, and the connection is closed soon after it. The time of
+// the request, 30 seconds, isn't waited for.
+func TestABodyThatNeverComesIsntWaitedFor(t *testing.T) {
+	for name, head := range map[string]string{
+		"a length":    "Content-Length: 100\r\n\r\n",
+		"a part":      "Content-Length: 100\r\n\r\n{",
+		"chunks":      "Transfer-Encoding: chunked\r\n\r\n",
+		"a last one":  "Connection: close\r\nContent-Length: 100\r\n\r\n",
+		"beyond 256K": "Content-Length: 1000000\r\n\r\n",
+	} {
+		head := head
+		t.Run(name, func(t *testing.T) {
+			t.Parallel()
+			client := dial(t, start(t, Options{}, Server{}, func(w http.ResponseWriter, _ *http.Request) {
+				w.Header().Set("Content-Length", "2")
+				w.WriteHeader(http.StatusUnauthorized)
+				_, _ = io.WriteString(w, "{}")
+			}))
+			client.send("PUT /a HTTP/1.1\r\nHost: x\r\n" + head)
+			began := time.Now()
+			client.until("{}")
+			if took := time.Since(began); took > drainTime/2 {
+				t.Errorf("it is answered after %v", took)
+			}
+			if got := client.rest(); got != "" { // which fails after 10 seconds
+				t.Errorf("after the answer comes %q", got)
+			}
+		})
+	}
+}
+
+// What the handler has read whole doesn't end the connection.
+func TestABodyThatWasReadKeepsTheConnection(t *testing.T) {
+	client := dial(t, start(t, Options{}, Server{}, echo))
+	for count := 0; count < 2; count++ {
+		client.send("PUT /a HTTP/1.1\r\nHost: x\r\nContent-Length: 3\r\n\r\nabc")
+		if got := client.until("PUT /a abc;"); strings.Contains(got, "Connection: close") {
+			t.Errorf("it is answered with %q", got)
+		}
 	}
 }
 

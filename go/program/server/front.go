@@ -2,7 +2,6 @@ package server
 
 import (
 	"errors"
-	"io"
 	"net/http"
 	"strings"
 	"time"
@@ -13,13 +12,13 @@ import (
 const (
 	otherRoute    = "other"
 	longestMethod = 20
-	longestTarget = 1000
 )
 
 // A front is the handler that net/http gets. It rejects requests with a bad head.
 type front struct {
 	next     http.Handler
 	observer broker.Observer
+	running  *tally // of the Server
 }
 
 // ServeHTTP answers one request.
@@ -30,6 +29,9 @@ func (f front) ServeHTTP(w http.ResponseWriter, r *http.Request) {
 	}
 	isBad := c.begin()
 	defer c.end()
+	if f.running.begin() {
+		defer f.running.end()
+	}
 	if isBad {
 		f.reject(w, r)
 		return
@@ -38,21 +40,11 @@ func (f front) ServeHTTP(w http.ResponseWriter, r *http.Request) {
 		w.Header().Set("Connection", "close") // the heads after it aren't followed
 	}
 	r.TLS = c.state() // as net/http does for a *tls.Conn
-	f.next.ServeHTTP(w, r)
-	drain(r)
-}
-
-// drained is how many bytes of a body are read that the handler left: more than most bodies have. net/http reads
-// 256 KiB, and none if the connection is closed after the answer.
-const drained = 2 << 20
-
-// drain reads what the handler left of the body. Otherwise the connection would be closed while the client still sends,
-// and a client that sends all of the body before it reads would never see the answer.
-func drain(r *http.Request) {
-	if r.ContentLength == 0 || r.Header.Get("Expect") != "" { // a client that expects 100-continue sends nothing
+	if r.ContentLength == 0 {
+		f.next.ServeHTTP(w, r)
 		return
 	}
-	_, _ = io.CopyN(io.Discard, r.Body, drained) // the answer is the same if the body ends, or is cut
+	f.serveWithBody(w, r, c)
 }
 
 // reject answers a request with a bad head. The answer isn't JSON, so a platform doesn't take it for a decision of the
@@ -64,7 +56,7 @@ func (f front) reject(w http.ResponseWriter, r *http.Request) {
 	f.observer.Answered(broker.Exchange{
 		Route:    otherRoute,
 		Method:   first(r.Method, longestMethod),
-		Target:   first(r.RequestURI, longestTarget),
+		Target:   broker.LoggedTarget(r.RequestURI),
 		Status:   http.StatusBadRequest,
 		Duration: time.Since(began),
 		Address:  hostOf(r.RemoteAddr),

@@ -30,6 +30,11 @@ type Server struct {
 	Stop time.Duration
 	// Stopping is called when the Server begins to stop, before it closes a Listener. It may be nil.
 	Stopping func()
+	// Work waits for work that goes on without a request. If Work isn't nil, the sites take connections until the
+	// requests that run have been answered and Work has returned, at most for Stop. So after Stopping the handlers can
+	// answer that the program is being stopped. A Listener with Options.Share is closed at once all the same, because the
+	// kernel would give it connections that another process can serve. The context of Work is done after Stop.
+	Work func(context.Context)
 }
 
 // A Site is a Listener and a handler of the requests on its connections.
@@ -37,23 +42,25 @@ type Server struct {
 // A Site itself answers a request with 400, and closes the connection, if the head of the request has both
 // Content-Length and Transfer-Encoding, Transfer-Encoding in another version than HTTP/1.1, two lines Content-Length,
 // or a continued line (RFC 9112, sections 5.2, 6.1 and 6.3). The connection of any other request with Transfer-Encoding
-// is closed after the answer. The handler gets OPTIONS * as OPTIONS /, and r.TLS as net/http gives it.
+// is closed after the answer, and so is that of a request of which the handler hasn't read all of the body: such an
+// answer doesn't wait for the body. The handler gets OPTIONS * as OPTIONS /, and r.TLS as net/http gives it.
 type Site struct {
 	Listener *Listener
 	Handler  http.Handler
 }
 
 // Serve serves until ctx is done, or until a site fails. Then it stops: it closes the Listeners and all idle
-// connections, and waits until the running requests are answered. The contexts of the requests aren't done with ctx.
+// connections, and waits until the running requests are answered. With Work, it closes the Listeners last. The contexts
+// of the requests aren't done with ctx.
 //
 // Errors: that of the site that failed, which wraps that of its Listener; ErrCut if the running requests take longer
 // than Stop. After ErrCut their connections are closed, but their handlers may still run.
 func (s Server) Serve(ctx context.Context) error {
 	s = s.withDefaults()
 	servers := make([]*http.Server, len(s.Sites))
-	ended := make(chan error, len(s.Sites))
+	ended, requests := make(chan error, len(s.Sites)), newTally()
 	for number, site := range s.Sites {
-		server, listener := s.serverOf(site), site.Listener
+		server, listener := s.serverOf(site, requests), site.Listener
 		servers[number] = server
 		go func() { ended <- server.Serve(listener) }()
 	}
@@ -67,9 +74,12 @@ func (s Server) Serve(ctx context.Context) error {
 	if s.Stopping != nil {
 		s.Stopping()
 	}
-	cut := shutdown(s.Stop, servers)
+	within, cancel := context.WithTimeout(context.Background(), s.Stop)
+	defer cancel()
+	s.linger(within, servers, requests)
+	cut := shutdown(within, servers)
 	for ; running > 0; running-- {
-		if err := <-ended; failed == nil && !errors.Is(err, http.ErrServerClosed) {
+		if err := <-ended; failed == nil && !isClosed(err) {
 			failed = err
 		}
 	}
@@ -79,12 +89,34 @@ func (s Server) Serve(ctx context.Context) error {
 	return cut
 }
 
-// shutdown stops the servers one after the other. All of them together may take this time.
-func shutdown(within time.Duration, servers []*http.Server) (cut error) {
-	ctx, cancel := context.WithTimeout(context.Background(), within)
-	defer cancel()
+// isClosed returns whether an error of a server is that it was stopped: as a whole, or only its Listener.
+func isClosed(err error) bool {
+	return errors.Is(err, http.ErrServerClosed) || errors.Is(err, net.ErrClosed)
+}
+
+// linger waits for the running requests and for Work, and has each connection closed after its next answer.
+func (s Server) linger(within context.Context, servers []*http.Server, requests *tally) {
+	if s.Work == nil {
+		return
+	}
+	for number, server := range servers {
+		server.SetKeepAlivesEnabled(false) // closes the idle connections
+		if listener := s.Sites[number].Listener; listener.options.Share {
+			_ = listener.Close() // it may have failed before
+		}
+	}
+	requests.close()
+	select {
+	case <-requests.ended:
+	case <-within.Done():
+	}
+	s.Work(within)
+}
+
+// shutdown stops the servers one after the other, until ctx is done.
+func shutdown(ctx context.Context, servers []*http.Server) (cut error) {
 	for _, server := range servers {
-		if server.Shutdown(ctx) == nil || ctx.Err() == nil {
+		if !errors.Is(server.Shutdown(ctx), context.DeadlineExceeded) {
 			continue // with an error if its Listener was closed before
 		}
 		cut = ErrCut
@@ -106,10 +138,10 @@ func (s Server) withDefaults() Server {
 	return s
 }
 
-func (s Server) serverOf(site Site) *http.Server {
+func (s Server) serverOf(site Site, requests *tally) *http.Server {
 	observer := site.Listener.options.Observer
 	return &http.Server{
-		Handler:        front{next: site.Handler, observer: observer},
+		Handler:        front{next: site.Handler, observer: observer, running: requests},
 		ReadTimeout:    s.Request,
 		IdleTimeout:    s.Idle,
 		MaxHeaderBytes: maxHeader,

@@ -9,7 +9,9 @@ import (
 	"net/http"
 	"os"
 	"os/exec"
+	"reflect"
 	"strings"
+	"sync/atomic"
 	"testing"
 	"time"
 )
@@ -211,6 +213,129 @@ func TestTheLastSiteStopsLast(t *testing.T) {
 	handler.pass <- struct{}{}
 	if err := <-served; err != nil {
 		t.Errorf("Serve returned %v", err)
+	}
+}
+
+// A stoppable is a handler that answers 503 once its program stops. Before that, it answers as its pause.
+type stoppable struct {
+	pause
+	isStopping atomic.Bool
+}
+
+func (s *stoppable) ServeHTTP(w http.ResponseWriter, r *http.Request) {
+	if s.isStopping.Load() {
+		w.WriteHeader(http.StatusServiceUnavailable)
+		return
+	}
+	s.pause.ServeHTTP(w, r)
+}
+
+// startStopping serves a stoppable, sends it a request, and has it stop. The function work is Server.Work.
+func startStopping(t *testing.T, options Options, stop time.Duration, work func(context.Context)) (
+	listener *Listener, handler *stoppable, running, idle client, served chan error,
+) {
+	t.Helper()
+	handler, listener = &stoppable{pause: newPause()}, listen(t, options)
+	isStopping := make(chan struct{})
+	server := Server{Sites: []Site{{listener, handler}}, Stop: stop, Work: work, Stopping: func() {
+		handler.isStopping.Store(true)
+		close(isStopping)
+	}}
+	ctx, cancel := context.WithCancel(context.Background())
+	t.Cleanup(cancel)
+	served = make(chan error, 1)
+	go func() { served <- server.Serve(ctx) }()
+	idle, running = dial(t, listener), dial(t, listener)
+	handler.pass <- struct{}{}
+	idle.send(whole)
+	idle.until("GET /a ;")
+	<-handler.begun
+	running.send(whole)
+	<-handler.begun
+	cancel()
+	<-isStopping
+	return listener, handler, running, idle, served
+}
+
+// statusAt is the status of the answer to a request on a new connection, which is the last one on it.
+func statusAt(t *testing.T, listener *Listener) []string {
+	t.Helper()
+	client := dial(t, listener)
+	client.send(whole)
+	return statusesIn(client.rest())
+}
+
+// With Work, new requests get the handler's 503 while a request runs, and then while other work does. After that,
+// nothing listens any more.
+func TestWhileWorkRunsRequestsAreAnswered(t *testing.T) {
+	begun, goOn := make(chan struct{}), make(chan struct{})
+	listener, handler, running, idle, served := startStopping(t, Options{}, 0, func(context.Context) {
+		close(begun)
+		<-goOn
+	})
+	if got := idle.rest(); got != "" {
+		t.Errorf("the idle connection gets %q", got)
+	}
+	for count := 0; count < 3; count++ {
+		if got := statusAt(t, listener); !reflect.DeepEqual(got, []string{"503"}) {
+			t.Fatalf("while a request runs, another is answered %v", got)
+		}
+	}
+	select {
+	case <-begun:
+		t.Error("Work is called while a request runs")
+	default:
+	}
+	handler.pass <- struct{}{}
+	if got := statusesIn(running.rest()); !reflect.DeepEqual(got, []string{"200"}) {
+		t.Errorf("the running request is answered %v", got)
+	}
+	<-begun
+	if got := statusAt(t, listener); !reflect.DeepEqual(got, []string{"503"}) {
+		t.Errorf("while the work runs, a request is answered %v", got)
+	}
+	close(goOn)
+	if err := <-served; err != nil {
+		t.Errorf("Serve returned %v", err)
+	}
+	if connection, err := net.DialTimeout("tcp", listener.Addr().String(), limit); err == nil {
+		connection.Close()
+		t.Error("it still listens")
+	}
+}
+
+// A shared address is left to the other processes at once.
+func TestASharedListenerIsClosedAtOnce(t *testing.T) {
+	listener, handler, running, _, served := startStopping(t, Options{Share: true}, 0, func(context.Context) {})
+	waitUntil(t, "no more connections are taken", func() bool {
+		connection, err := net.DialTimeout("tcp", listener.Addr().String(), limit)
+		if err == nil {
+			connection.Close()
+		}
+		return err != nil
+	})
+	handler.pass <- struct{}{}
+	if got := statusesIn(running.rest()); !reflect.DeepEqual(got, []string{"200"}) {
+		t.Errorf("the running request is answered %v", got)
+	}
+	if err := <-served; err != nil {
+		t.Errorf("Serve returned %v", err)
+	}
+}
+
+// Neither a request nor other work keeps the Server for longer than Stop.
+func TestWorkHasALimit(t *testing.T) {
+	_, handler, _, _, served := startStopping(t, Options{}, short, func(within context.Context) { <-within.Done() })
+	if err := <-served; !errors.Is(err, ErrCut) {
+		t.Errorf("with a request that runs, Serve returned %v", err)
+	}
+	close(handler.pass)
+	untilDone := func(within context.Context) { <-within.Done() }
+	_, handler, running, _, served := startStopping(t, Options{}, 20*short, untilDone)
+	handler.pass <- struct{}{}
+	running.rest()
+	if err := <-served; err != nil {
+		t.Errorf("with other work that runs, Serve returned %v", err)
 	}
 }
 

@@ -1,0 +1,127 @@
+package broker_test
+
+import (
+	"context"
+	"encoding/json"
+	"errors"
+	"reflect"
+	"testing"
+
+	"pippinterm/broker"
+)
+
+// A mute backend can't report the credentials of what exists. Its creation of a binding may fail and leave all of it.
+type mute struct {
+	*scripted
+	creation error  // of each binding
+	deletion error  // of each binding
+	asked    func() // is called when the credentials are asked for, or nil
+}
+
+var errMute = errors.New("no credentials")
+
+func (m *mute) Credentials(context.Context, broker.Request) (json.RawMessage, error) {
+	if m.asked != nil {
+		m.asked()
+	}
+	return nil, errMute
+}
+
+func (m *mute) CreateBinding(ctx context.Context, r broker.Request) (json.RawMessage, error) {
+	_ = m.Create(ctx, r)
+	return json.RawMessage(`"new"`), m.creation
+}
+
+func (m *mute) DeleteBinding(ctx context.Context, r broker.Request) error {
+	if m.deletion != nil {
+		m.calls = append(m.calls, "delete")
+		return m.deletion
+	}
+	return m.Delete(ctx, r)
+}
+
+// A binding that nobody has been given, and whose credentials can't be read, is a part: it is deleted and created
+// again. If it can't be created either, the Bind has failed, and the binding and its instance can be deleted.
+func TestCredentialsThatCannotBeRead(t *testing.T) {
+	one, both := instances+"i", []string{"delete", "create"}
+	bound := one + "/service_bindings/b"
+	for name, it := range map[string]struct {
+		there    broker.There // what a killed broker has left
+		creation error
+		bind     int
+		calls    []string
+	}{
+		"left by a killed broker":     {whole, nil, 201, both},
+		"left by a failed call":       {none, errScripted, 500, []string{"create", "delete"}},
+		"left by both":                {whole, errScripted, 500, []string{"delete", "create", "delete"}},
+		"a part, and by a failed one": {part, errScripted, 500, []string{"create", "delete"}},
+	} {
+		t.Run(name, func(t *testing.T) {
+			l, backend := newLoneOver(t, &mute{scripted: &scripted{made: whole}})
+			l.expect(t, 201, "PUT", one, bodyOf(now, ""))
+			backend.there, backend.creation, backend.calls = it.there, it.creation, nil
+			if given := l.ask("PUT", bound, bodyOf(now, "")); given.status != it.bind ||
+				it.bind == 201 && credentialsOf(given.body) != "new" {
+				t.Errorf("the Bind is answered %d %s", given.status, given.body)
+			}
+			if !reflect.DeepEqual(backend.calls, it.calls) {
+				t.Errorf("the calls are %v, and %v are wanted", backend.calls, it.calls)
+			}
+			var events []string
+			for _, failure := range l.observed.failures {
+				events = append(events, failure.Event)
+			}
+			if len(events) == 0 || events[0] != "credentials_useless" || !errors.Is(l.observed.failures[0].Err, errMute) {
+				t.Errorf("reported are %v", l.observed.failures)
+			}
+			if given := l.ask("DELETE", bound+names(now), ""); given.status != 200 && given.status != 410 {
+				t.Errorf("the Unbind is answered %d %s", given.status, given.body)
+			}
+			backend.there = whole // of the instance
+			l.expect(t, 200, "DELETE", one+names(now), "")
+		})
+	}
+}
+
+// As long as such a binding can't be deleted, nobody is told anything, and the work stays pending. The reason says why.
+func TestCredentialsThatCannotBeReadNorDeleted(t *testing.T) {
+	bound := instances + "i/service_bindings/b"
+	l, backend := newLoneOver(t, &mute{scripted: &scripted{made: whole}})
+	l.expect(t, 201, "PUT", instances+"i", bodyOf(now, ""))
+	backend.there, backend.deletion, backend.calls = whole, errScripted, nil
+	l.expect(t, 500, "PUT", bound, bodyOf(now, ""))
+	key := broker.BindingKey(keyOf("i").Instance, keyOf("b").Instance)
+	if !l.isPending(t, key) {
+		t.Error("the work isn't pending")
+	}
+	l.expect(t, 422, "DELETE", bound+names(now), "")
+	backend.deletion = nil
+	if err := l.TakeUp(context.Background(), key); err != nil || l.isPending(t, key) {
+		t.Errorf("TakeUp returned %v", err)
+	}
+	l.expect(t, 200, "DELETE", bound+names(now), "")
+}
+
+// If the broker stops, the credentials can't be read either. That says nothing about them, so nothing is deleted.
+func TestCredentialsWhileTheBrokerStops(t *testing.T) {
+	l, backend := newLoneOver(t, &mute{scripted: &scripted{made: whole}})
+	l.expect(t, 201, "PUT", instances+"i", bodyOf(now, ""))
+	backend.there, backend.deletion = whole, errScripted
+	l.expect(t, 500, "PUT", instances+"i/service_bindings/b", bodyOf(now, ""))
+	ctx, cancel := context.WithCancel(context.Background())
+	backend.calls, backend.deletion, backend.asked = nil, nil, cancel
+	key := broker.BindingKey(keyOf("i").Instance, keyOf("b").Instance)
+	if err := l.TakeUp(ctx, key); !errors.Is(err, broker.ErrNobodyKnows) {
+		t.Errorf("TakeUp returned %v", err)
+	}
+	if len(backend.calls) > 0 || !l.isPending(t, key) {
+		t.Errorf("%v were called", backend.calls)
+	}
+}
+
+func newLoneOver(t *testing.T, backend *mute) (*lone, *mute) {
+	t.Helper()
+	it := &lone{bench: newBench(t, backend, newMemoryLocks()), backend: backend.scripted}
+	it.handler = handlerFor(t, it.Service)
+	return it, backend
+}

@@ -1,0 +1,128 @@
+package main
+
+import (
+	"net/http"
+	"strings"
+
+	"pippinterm/platform"
+	"pippinterm/platform/client"
+)
+
+// A said is what an answer says of what the broker holds under an id.
+type said int
+
+const (
+	saysNothing said = iota // it wasn't asked for, or the answer leaves it open
+	saysHeld                // the broker holds it
+	saysPending             // the broker holds it, and a Fetch may not find it: it is being created, or that has failed
+	saysNone                // the broker holds nothing
+	saysOther               // the broker holds something else
+)
+
+// saidByLast is what the answer about the last operation says. A 400 says that the service or the plan is another one
+// only if the broker has tombstones: the standard has it for any bad request.
+func saidByLast(last client.Told, hasTombstones bool) said {
+	switch {
+	case last.IsUnsure:
+		return saysNothing
+	case last.Status == http.StatusOK && last.State == "succeeded":
+		return saysHeld
+	case last.Status == http.StatusOK:
+		return saysPending
+	case last.Status == http.StatusGone:
+		return saysNone
+	case last.Status == http.StatusBadRequest && hasTombstones:
+		return saysOther
+	}
+	return saysNothing
+}
+
+// saidByFetch is what the answer to the Fetch says. It is nil if nothing was fetched.
+func saidByFetch(fetched *client.Told) said {
+	switch {
+	case fetched == nil || fetched.IsUnsure:
+		return saysNothing
+	case fetched.Status == http.StatusOK:
+		return saysHeld
+	case fetched.Status == http.StatusNotFound, fetched.Status == http.StatusGone:
+		return saysNone
+	}
+	return saysNothing
+}
+
+// areContrary is whether the last operation and the Fetch can't both be right.
+func areContrary(last, fetch said) bool {
+	return last == saysHeld && fetch == saysNone || last == saysNone && fetch == saysHeld
+}
+
+// An advice is what to do next about a row that waits for a decision.
+type advice int
+
+const (
+	askOperator      advice = iota // nobody knows what the broker holds
+	askAboutContrary               // the answers contradict each other
+	askAboutGone                   // a 410 at a broker without tombstones: it may say only that no operation is known
+	leaveOrAbandon                 // the broker holds something else
+	removeIfYours                  // the broker holds it, and it may be another platform's
+	removeYours                    // the broker holds it, and nobody else has the id
+	removeNothing                  // the broker holds nothing
+	removeWhateverIs               // nobody knows what the broker holds, but nobody else has the id
+)
+
+// advise chooses the advice. A deletion is advised only if the answers don't contradict each other, and if it can't
+// delete what another platform has, or the operator is told to look first. isFetched is whether a Fetch was answered,
+// isOwnID whether the id was made up here.
+func advise(last, fetch said, isFetched, hasTombstones, isOwnID bool) advice {
+	switch {
+	case areContrary(last, fetch):
+		return askAboutContrary
+	case last == saysOther:
+		return leaveOrAbandon
+	case last == saysHeld || last == saysPending:
+		if isOwnID {
+			return removeYours
+		}
+		return removeIfYours
+	case isOwnID && last == saysNone:
+		return removeNothing
+	case isOwnID:
+		return removeWhateverIs
+	case last == saysNothing || isFetched && fetch == saysNothing:
+		return askOperator
+	case hasTombstones || fetch == saysNone:
+		return removeNothing
+	}
+	return askAboutGone
+}
+
+// advice is the sentence that leads on for a row that waits for a decision, or empty. fetched is nil if nothing was
+// fetched.
+func (q question) advice(last client.Told, fetched *client.Told) string {
+	if q.entry.State != platform.Unsettled || !q.entry.Rests() {
+		return ""
+	}
+	hasTombstones := q.hasTombstones()
+	chosen := advise(saidByLast(last, hasTombstones), saidByFetch(fetched), fetched != nil, hasTombstones,
+		q.entry.IsOwnID)
+	id, remove := printable(idOf(q.entry)), "remove"
+	if q.entry.Key.IsBinding {
+		remove = "unbind"
+	}
+	return strings.NewReplacer("REMOVE", "osb-platform "+remove, "ID", id).Replace(advices[chosen])
+}
+
+// advices are the sentences. REMOVE stands for the command that deletes, and ID for the id.
+var advices = map[advice]string{
+	askOperator: "the answer doesn't say what the broker holds: ask its operator",
+	askAboutContrary: "the answers contradict each other: the last operation and the Fetch don't agree on what the " +
+		"broker holds. Delete nothing: ask its operator",
+	askAboutGone: "at this broker a 410 may say only that it knows no operation, and the id was chosen, so it may be " +
+		"another platform's. Ask its operator what it holds under this id",
+	leaveOrAbandon: "the broker holds something else under this id. Leave it, or end the record: 'osb-platform abandon " +
+		"ID --because TEXT'",
+	removeIfYours: "the broker holds it. If it is yours, run 'REMOVE ID': that deletes it at the broker",
+	removeYours:   "the broker holds it, and nobody else has this id. Run 'REMOVE ID': that deletes it at the broker",
+	removeNothing: "the broker has nothing. Run 'REMOVE ID': the record becomes gone",
+	removeWhateverIs: "the answer doesn't say what the broker holds, but nobody else has this id. Run 'REMOVE ID': " +
+		"that deletes it at the broker if it exists",
+}

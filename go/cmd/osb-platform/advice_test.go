@@ -1,0 +1,88 @@
+package main
+
+import (
+	"strings"
+	"testing"
+
+	"pippinterm/platform"
+	"pippinterm/platform/client"
+)
+
+// lastAnswers are the answers about a last operation: the rows of the tables below.
+var lastAnswers = []client.Told{
+	{Status: 200, State: "succeeded"}, {Status: 200, State: "in progress"}, {Status: 200, State: "failed"},
+	{Status: 410}, {Status: 400}, {Status: 404}, {Status: 500}, {Status: 200, IsUnsure: true},
+	{Status: 410, IsUnsure: true},
+}
+
+// fetchAnswers are the answers to a Fetch, nil if there was none: the columns of the tables below.
+var fetchAnswers = []*client.Told{
+	nil, {Status: 200}, {Status: 404}, {Status: 410}, {Status: 500}, {Status: 404, IsUnsure: true},
+}
+
+// What 'ask' advises after each answer about the last operation, each answer to the Fetch, with tombstones and without,
+// for an id that was chosen and for one that was made up here:
+//
+//	Y  it exists: remove it if it is yours   O  it exists, and the id is our own: remove it
+//	N  nothing exists: remove it             W  remove whatever exists: the id is our own
+//	?  ask the operator                      g  ask the operator: the 410 may say only that there is no operation
+//	!  the answers contradict each other     L  leave it, or abandon it
+func TestAdvice(t *testing.T) {
+	letters := map[byte]string{
+		'Y': "If it is yours, run 'osb-platform remove one': that deletes it",
+		'O': "nobody else has this id. Run 'osb-platform remove one': that deletes it at the broker",
+		'N': "the broker has nothing. Run 'osb-platform remove one': the record becomes gone",
+		'W': "doesn't say what the broker holds, but nobody else has this id. Run 'osb-platform remove one'",
+		'?': "the answer doesn't say what the broker holds: ask its operator",
+		'g': "may say only that it knows no operation",
+		'!': "the answers contradict each other",
+		'L': "'osb-platform abandon one --because TEXT'",
+	}
+	for _, it := range []struct {
+		hasTombstones, isOwnID bool
+		want                   []string // a row for each of lastAnswers, a letter for each of fetchAnswers
+	}{
+		{true, false, []string{"YY!!YY", "YYYYYY", "YYYYYY", "N!NN??", "LLLLLL", "??????", "??????", "??????", "??????"}},
+		{true, true, []string{"OO!!OO", "OOOOOO", "OOOOOO", "N!NNNN", "LLLLLL", "WWWWWW", "WWWWWW", "WWWWWW", "WWWWWW"}},
+		{false, false, []string{"YY!!YY", "YYYYYY", "YYYYYY", "g!NN??", "??????", "??????", "??????", "??????", "??????"}},
+		{false, true, []string{"OO!!OO", "OOOOOO", "OOOOOO", "N!NNNN", "WWWWWW", "WWWWWW", "WWWWWW", "WWWWWW", "WWWWWW"}},
+	} {
+		for row, last := range lastAnswers {
+			for column, fetched := range fetchAnswers {
+				q := question{entry: platform.Entry{State: platform.Unsettled}}
+				q.entry.Names.Instance, q.entry.IsOwnID = "one", it.isOwnID
+				q.broker.Catalogue = []byte(`{"services": []}`)
+				if it.hasTombstones {
+					q.broker.Catalogue = []byte(`{"services": [], "x-osb-tombstones": true}`)
+				}
+				letter := it.want[row][column]
+				got := q.advice(last, fetched)
+				if !strings.Contains(got, letters[letter]) {
+					t.Errorf("tombstones %v, own id %v, last operation %+v, Fetch %+v: %q, want %c", it.hasTombstones,
+						it.isOwnID, last, fetched, got, letter)
+				}
+				if deletes := strings.Contains(got, "remove one"); deletes != strings.ContainsRune("YONW", rune(letter)) {
+					t.Errorf("last operation %+v, Fetch %+v: %q, want %c", last, fetched, got, letter)
+				}
+			}
+		}
+	}
+}
+
+// For what doesn't wait for a decision there is no advice. A binding is deleted by unbind.
+func TestAdviceOfOthers(t *testing.T) {
+	of := func(state platform.State) question {
+		entry := platform.Entry{State: state}
+		entry.Names.Instance, entry.Names.Binding, entry.Key.IsBinding = "one", "app", true
+		return question{entry: entry}
+	}
+	for state, want := range map[platform.State]string{
+		platform.Ready: "", platform.Cleaning: "",
+		platform.Unsettled: "the broker holds it. If it is yours, run 'osb-platform unbind one/app': that deletes it at " +
+			"the broker",
+	} {
+		if got := of(state).advice(client.Told{Status: 200, State: "succeeded"}, nil); got != want {
+			t.Errorf("%s: %q", state, got)
+		}
+	}
+}
