@@ -34,6 +34,19 @@ def pytest_configure(config: pytest.Config) -> None:
             config.stash[PORT] = _choose_server()
 
 
+@pytest.hookimpl(trylast=True)  # type: ignore[misc]  # after -m and -k
+def pytest_collection_modifyitems(config: pytest.Config, items: list[pytest.Item]) -> None:
+    """Has each process of pytest-xdist begin with tests that are marked `long`. It gives the first process so many of
+    the first tests, the second one the next ones, and so on; and each further test to the process that is free.
+    """
+    processes = getattr(config, "workerinput", {}).get("workercount", 1)
+    each = max(len(items) // (4 * processes), 2)
+    long = [it for it in items if it.get_closest_marker("long")]
+    items[:] = [it for it in items if not it.get_closest_marker("long")]
+    for at, item in enumerate(long):
+        items.insert(at % processes * each + at // processes, item)
+
+
 def pytest_itemcollected(item: pytest.Item) -> None:
     """Has one process run all tests that are marked `alone` and belong to no group (pytest -n 3 --dist loadgroup)."""
     if item.get_closest_marker("alone") and not item.get_closest_marker("xdist_group"):

@@ -56,15 +56,23 @@ def test_format() -> None:
     assert subprocess.run(["gofmt", "-l", TOP / "go"], capture_output=True, text=True, check=True).stdout == ""
 
 
+ALONE = "pippinterm/backend/postgres"
+"""The package whose tests fill the server's table of locks, so that no other tests may use that server meanwhile."""
+
+
+@pytest.mark.long
 @pytest.mark.postgres
 def test_tests(packages: Packages) -> None:
-    """The tests of each package but osb, which has its own, with the race detector. Those of backend/postgres come
-    last: they fill the server's table of locks.
-    """
-    alone = "pippinterm/backend/postgres"
-    others = [it for it in but_osb(packages) if it != alone]
-    for these in (others, [alone]):
-        packages("test", "-race", "-count=1", "-timeout", "10m", "-tags", "libsqlite3", *these)
+    """The tests of each package but osb, which has its own, with the race detector."""
+    these = [it for it in but_osb(packages) if it != ALONE]
+    packages("test", "-race", "-count=1", "-timeout", "10m", "-tags", "libsqlite3", *these)
+
+
+@pytest.mark.long
+@pytest.mark.postgres
+def test_tests_that_fill_a_server(packages: Packages) -> None:
+    """The tests of backend/postgres, with the race detector. Each process of pytest has a server of its own."""
+    packages("test", "-race", "-count=1", "-timeout", "10m", "-tags", "libsqlite3", ALONE)
 
 
 def but_osb(packages: Packages) -> list[str]:
@@ -77,6 +85,7 @@ def with_crash_points() -> list[str]:
     return sorted({f"./{it.parent.relative_to(TOP / 'go')}" for it in tests})
 
 
+@pytest.mark.long
 def test_crashes(packages: Packages, tmp_path: Path) -> None:
     """The broker is killed at each crash point, over a network that does its worst. After each event the platform's
     records, the broker's holdings and the resources are what the proved model says. The other packages that have tests

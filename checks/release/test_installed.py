@@ -54,6 +54,7 @@ def debian(tmp_path: Path) -> Iterator[Fresh]:
     shutil.rmtree(tmp_path / "debian")
 
 
+@pytest.mark.long
 def test_package(dist: Path, version: str, debian: Fresh, tmp_path: Path) -> None:
     before = files(debian)
     old = debian.put(older(dist / f"osb_{version}_amd64.deb", tmp_path), f"osb_{OLDER}_amd64.deb")
