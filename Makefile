@@ -1,7 +1,7 @@
 # The tasks of a contributor. Each is a command that can be run by itself, too: `make -n TASK` prints it.
 SHELL := /usr/bin/bash
 .SHELLFLAGS := -euo pipefail -c
-MAKEFLAGS += --no-builtin-rules --output-sync=target --jobs=$(shell nproc)
+MAKEFLAGS += --no-builtin-rules --jobs=$(shell nproc) $(if $(filter quick,$(MAKECMDGOALS)),--output-sync=target)
 PYTHON = $(or $(shell . scripts/python.sh && python_with pytest,xdist),/usr/bin/python3)
 FAST = not slow and not postgres and not browser and not alone
 # Debian has staticcheck as sources only (golang-honnef-go-tools-dev). The first `make quick` builds it, in half a minute.
