@@ -56,6 +56,11 @@ def test_format() -> None:
     assert subprocess.run(["gofmt", "-l", TOP / "go"], capture_output=True, text=True, check=True).stdout == ""
 
 
+BROKER = "pippinterm/broker"
+
+CRASHES = "libsqlite3 crashpoints"
+"""The build tags of a program that can be killed at each crash point."""
+
 ALONE = "pippinterm/backend/postgres"
 """The package whose tests fill the server's table of locks, so that no other tests may use that server meanwhile."""
 
@@ -64,15 +69,14 @@ ALONE = "pippinterm/backend/postgres"
 @pytest.mark.postgres
 def test_tests(packages: Packages) -> None:
     """The tests of each package but osb, which has its own, with the race detector."""
-    these = [it for it in but_osb(packages) if it != ALONE]
-    packages("test", "-race", "-count=1", "-timeout", "10m", "-tags", "libsqlite3", *these)
+    packages.test(*(it for it in but_osb(packages) if it != ALONE), tags="libsqlite3", race=True)
 
 
 @pytest.mark.long
 @pytest.mark.postgres
 def test_tests_that_fill_a_server(packages: Packages) -> None:
     """The tests of backend/postgres, with the race detector. Each process of pytest has a server of its own."""
-    packages("test", "-race", "-count=1", "-timeout", "10m", "-tags", "libsqlite3", ALONE)
+    packages.test(ALONE, tags="libsqlite3", race=True)
 
 
 def but_osb(packages: Packages) -> list[str]:
@@ -92,33 +96,22 @@ def test_crashes(packages: Packages, tmp_path: Path) -> None:
     of their crash points run these too.
     """
     walks = tmp_path / "walks"
-    line = ["-count=1", "-timeout", "10m", "-tags", "libsqlite3 crashpoints", *with_crash_points()]
-    packages("test", *line, WALKS=str(walks), SEEDS=str(SEEDS), OSB_TEST_POSTGRESQL="")
+    packages.test(*with_crash_points(), tags=CRASHES, WALKS=str(walks), SEEDS=str(SEEDS), OSB_TEST_POSTGRESQL="")
     assert compared(walks) > 20 * SEEDS
 
 
 def test_crashes_with_the_race_detector(packages: Packages) -> None:
     """The broker is killed over the network, with the race detector."""
-    line = [
-        "-race",
-        "-count=1",
-        "-timeout",
-        "5m",
-        "-tags",
-        "libsqlite3 crashpoints",
-        "-run",
-        "^TestAnyNetwork$",
-        "./broker",
-    ]
-    packages("test", *line, SEEDS=str(RACE_SEEDS), OSB_TEST_POSTGRESQL="")
+    network = ("-run", "^TestAnyNetwork$")
+    packages.test(BROKER, tags=CRASHES, options=network, race=True, SEEDS=str(RACE_SEEDS), OSB_TEST_POSTGRESQL="")
 
 
 @pytest.mark.postgres
 def test_crashes_over_postgresql(packages: Packages, tmp_path: Path) -> None:
     """The same, of a broker whose store and locks are PostgreSQL's."""
     walks = tmp_path / "walks"
-    line = ["-count=1", "-timeout", "10m", "-tags", "libsqlite3 crashpoints", "-run", "TestAnyNetworkOverPostgreSQL"]
-    packages("test", *line, "./broker", WALKS=str(walks), SEEDS=str(FEW_SEEDS))
+    network = ("-run", "TestAnyNetworkOverPostgreSQL")
+    packages.test(BROKER, tags=CRASHES, options=network, WALKS=str(walks), SEEDS=str(FEW_SEEDS))
     assert compared(walks) > 20 * FEW_SEEDS
 
 

@@ -72,24 +72,37 @@ NEEDS = {
 
 
 class Packages:
-    """Commands of Go over the packages in go/, by scripts/go, one at a time."""
+    """Commands of Go over the packages in go/, by scripts/go. One process of pytest at a time builds, so that no two
+    build the same; the tests that were built run beside each other.
+    """
 
     def __init__(self, library: Path, lock: Path) -> None:
         self._lock, self._library = lock, library
 
     def __call__(self, *line: str, **environment: str) -> str:
-        """Runs a command that must succeed, and returns what it printed."""
+        """Runs a command that must succeed, one at a time, and returns what it printed."""
         with open(self._lock, "w") as lock:
             fcntl.flock(lock, fcntl.LOCK_EX)
-            ran = subprocess.run(
-                [str(TOP / "scripts" / "go"), *line],
-                env={**os.environ, "LIBOSB_FOLDER": str(self._library), "GOFLAGS": "", **environment},
-                stdin=subprocess.DEVNULL,
-                stdout=subprocess.PIPE,
-                stderr=subprocess.STDOUT,
-                text=True,
-                timeout=900,
-            )
+            return self._run(*line, **environment)
+
+    def test(
+        self, *these: str, tags: str, options: tuple[str, ...] = (), race: bool = False, **environment: str
+    ) -> None:
+        """Builds the packages, and then runs their tests, which must pass in ten minutes."""
+        build = ["-race"] * race + ["-tags", tags]
+        self("build", "-o", os.devnull, *build, *these)
+        self._run("test", "-count=1", "-timeout", "10m", *build, *options, *these, **environment)
+
+    def _run(self, *line: str, **environment: str) -> str:
+        ran = subprocess.run(
+            [str(TOP / "scripts" / "go"), *line],
+            env={**os.environ, "LIBOSB_FOLDER": str(self._library), "GOFLAGS": "", **environment},
+            stdin=subprocess.DEVNULL,
+            stdout=subprocess.PIPE,
+            stderr=subprocess.STDOUT,
+            text=True,
+            timeout=900,
+        )
         assert ran.returncode == 0, f"status {ran.returncode}: {line}\n{ran.stdout}"
         return ran.stdout
 

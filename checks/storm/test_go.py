@@ -6,14 +6,14 @@ from go.toolchain import Packages
 
 pytestmark = pytest.mark.slow
 
-TAGS = ("-tags", "libsqlite3 storm")
+TAGS = "libsqlite3 storm"
 
 
 def test_tests(packages: Packages) -> None:
-    packages("test", "-race", "-count=1", *TAGS, "./storm")
+    packages.test("./storm", tags=TAGS, race=True)
 
 
 def test_hook(packages: Packages) -> None:
     """The one place in the package broker, and that in the platform's program."""
-    packages("test", "-race", "-count=1", *TAGS, "-run", "TestBindWithoutAvailable", "./broker")
-    packages("test", "-race", "-count=1", *TAGS, "-run", "TestForStorm", "./cmd/osb-platform")
+    packages.test("./broker", tags=TAGS, options=("-run", "TestBindWithoutAvailable"), race=True)
+    packages.test("./cmd/osb-platform", tags=TAGS, options=("-run", "TestForStorm"), race=True)
