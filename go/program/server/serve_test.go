@@ -155,7 +155,7 @@ func TestStopAnswersWhatRuns(t *testing.T) {
 	select {
 	case err := <-served:
 		t.Fatalf("Serve returned %v while a request runs", err)
-	default:
+	case <-time.After(3 * short):
 	}
 	handler.pass <- struct{}{}
 	if got := running.rest(); !strings.HasSuffix(got, "GET /a ;") || !strings.Contains(got, "Connection: close") {
@@ -332,8 +332,11 @@ func TestWorkHasALimit(t *testing.T) {
 	close(handler.pass)
 	untilDone := func(within context.Context) { <-within.Done() }
 	_, handler, running, _, served := startStopping(t, Options{}, 20*short, untilDone)
+	time.Sleep(3 * short)
 	handler.pass <- struct{}{}
-	running.rest()
+	if got := running.rest(); !strings.HasSuffix(got, "GET /a ;") {
+		t.Errorf("the running one gets %q", got)
+	}
 	if err := <-served; err != nil {
 		t.Errorf("with other work that runs, Serve returned %v", err)
 	}
