@@ -4,13 +4,9 @@ import (
 	"context"
 	"errors"
 	"fmt"
-	"net"
 	"runtime/debug"
-	"strings"
 	"sync"
 	"time"
-
-	"github.com/lib/pq"
 
 	"pippinterm/broker/postgres/session"
 	"pippinterm/platform"
@@ -113,32 +109,10 @@ func (a away) Unwrap() error { return a.error }
 
 func (a away) Is(other error) bool { return other == platform.ErrAway }
 
-// asAway makes an error platform.ErrAway if the server can't be reached for now, or nobody knows whether it has
-// committed.
+// asAway makes an error platform.ErrAway if the server can't be used for now, or nobody knows whether it has committed.
 func asAway(err error) error {
-	if err == nil || !isAway(err) {
+	if !session.IsAway(err) {
 		return err
 	}
 	return away{err}
 }
-
-func isAway(err error) bool {
-	var failed *pq.Error
-	if errors.As(err, &failed) {
-		code := string(failed.Code)
-		return strings.HasPrefix(code, connectionException) || session.IsCode(err, session.TooManyConnections,
-			adminShutdown, crashShutdown, cannotConnectNow, readOnly)
-	}
-	var network net.Error
-	return errors.Is(err, session.ErrNotBegun) || errors.Is(err, session.ErrUnknownCommit) || session.IsLost(err) ||
-		errors.As(err, &network) && !errors.Is(err, context.DeadlineExceeded)
-}
-
-// Codes of errors of the server (PostgreSQL's documentation, appendix "PostgreSQL Error Codes").
-const (
-	connectionException = "08"    // a class
-	readOnly            = "25006" // the server is a standby
-	adminShutdown       = "57P01"
-	crashShutdown       = "57P02"
-	cannotConnectNow    = "57P03"
-)

@@ -289,6 +289,29 @@ func TestAway(t *testing.T) {
 	}
 }
 
+// What the server may get over by itself is ErrAway: it has no space left, or a lock or a statement takes too long.
+func TestServerThatCannotWrite(t *testing.T) {
+	url := named(t, "osb_platform_cannot_write")
+	store := open(t, url)
+	defer store.Close()
+	insert(t, store, instance(1))
+	db := pgtest.DB(t, url)
+	pgtest.Exec(t, db, "CREATE TABLE fails (code text); "+
+		"CREATE FUNCTION f() RETURNS trigger LANGUAGE plpgsql AS "+
+		"$$ BEGIN RAISE 'as planned' USING ERRCODE = (SELECT code FROM fails); END $$; "+
+		"CREATE TRIGGER f BEFORE UPDATE ON osb_instances FOR EACH ROW EXECUTE FUNCTION f()")
+	for code, isAway := range map[string]bool{
+		"53100": true, "53200": true, "55P03": true, "57014": true, "23514": false, "42501": false,
+	} {
+		pgtest.Exec(t, db, "DELETE FROM fails; INSERT INTO fails VALUES ('"+code+"')")
+		calls := 0
+		err := store.Change(background, instance(1), count(&calls))
+		if err == nil || errors.Is(err, platform.ErrAway) != isAway {
+			t.Errorf("%s: %v", code, err)
+		}
+	}
+}
+
 // A row that is deleted by hand isn't taken for one that was written.
 func TestARowThatIsGone(t *testing.T) {
 	for of, call := range transactions {
