@@ -26,8 +26,12 @@ def options_of(text: str) -> list[str]:
 
 
 def is_read_by(program: str, arguments: list[str]) -> None:
-    """Fails if the first argument isn't a command of the program, or the others aren't options of this command."""
+    """Fails if the first argument isn't a command of the program, or the others aren't options of this command. The
+    arguments of a shell function (`$@`) are anything.
+    """
     first, *others = arguments
+    if first == "$@":
+        return
     assert first in commands_of(program)
     inner = commands_of(program, first)
     assert inner == [] or others[0] in inner
