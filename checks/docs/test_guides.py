@@ -61,12 +61,21 @@ def test_broker(texts: list[str], workdir: Workdir, port: int) -> None:
     assert statuses(second) == ["202", "202", "409"]
 
 
-@covers(BROKER, "OSB_BROKER_PASSWORD=secret ./osb-broker serve --state build/databases ")
+@covers(BROKER, "mkdir -p build/try\n")
+def test_backend_by_hand(texts: list[str], workdir: Workdir) -> None:
+    """An instance exists once it is created. The binding has a token. Nothing is left in the end."""
+    out = workdir.run(f"{texts[0]}ls build/try\n")
+    look, created = map(json.loads, out.splitlines())
+    assert look == {"exists": "whole"} and "token" in created["credentials"]
+
+
+@covers(BROKER, "OSB_BROKER_PASSWORD=secret ./osb-broker serve --state build/databases ", "service=11111111-")
 def test_backend_of_a_reader(texts: list[str], workdir: Workdir, port: int) -> None:
     """It sells a database, with a binding."""
-    own = re.sub(r"\b0{8}(-0000-0000-0000-0000000000[ab]\d)", r"11111111\1", moved(block(BROKER, CREATE), port))
-    listed = own.replace("ls build/broker/instances", "ls build/databases/command")
-    out = workdir.run(f"{moved(texts[0], port).strip()} &\n{healthy(port)}{listed}kill %1; wait $!\n")
+    serve, ids = texts
+    standard, one, life = moved(block(BROKER, CREATE), port).partition("one=")
+    listed = f"{standard}{ids}{one}{life}".replace("ls build/broker/instances", "ls build/databases/command")
+    out = workdir.run(f"{moved(serve, port).strip()} &\n{healthy(port)}{listed}kill %1; wait $!\n")
     assert statuses(out) == ["201", "201", "200", "200"]
     assert out.count(f"{FIRST}\n") == 1 and '"token"' in out
 

@@ -9,6 +9,10 @@ import (
 
 // begin is what becomes of what is held, or nil if that stays, and what comes of the request at once.
 func (s *Service) begin(held Held, asked Asked) (next *Entry, given begun, err error) {
+	if s.isLate(asked) {
+		return nil, given, errLate
+	}
+	held, returned := s.rules.returned(held, asked)
 	if isAnother, err := asked.namesAnother(held.Entry); err != nil || isAnother {
 		return nil, begun{answered: asked.unknown()}, err
 	}
@@ -37,7 +41,7 @@ func (s *Service) begin(held Held, asked Asked) (next *Entry, given begun, err e
 	if err := entry.begun(asked); err != nil {
 		return nil, given, err
 	}
-	given.entry = entry
+	given.entry, given.returned = entry, returned
 	return &entry, given, nil
 }
 
@@ -95,7 +99,7 @@ func (e *Entry) begun(asked Asked) error {
 	e.Since = now()
 	switch {
 	case !e.Holding.IsHeld(): // only a tombstone
-		*e = Entry{Holding: e.Holding}
+		*e = Entry{Holding: e.Holding, Life: e.Life}
 	case asked.Asked.Kind == osb.KindProvision:
 		e.Request, e.Binding, e.Description = asked.Request, nil, ""
 	case asked.Asked.Kind == osb.KindDeprovision:

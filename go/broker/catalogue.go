@@ -9,6 +9,7 @@ import (
 // A Catalogue is what a broker sells: the document that it serves, and how each plan works.
 type Catalogue struct {
 	document    []byte
+	returning   []byte // the document of a broker whose ids return
 	instances   map[plan]osb.Mode
 	bindings    map[plan]osb.Mode
 	versions    map[plan]string
@@ -38,6 +39,9 @@ func NewCatalogue(document []byte, sellsBindings bool) (*Catalogue, error) {
 	}
 	c := &Catalogue{instances: modesOf(instances), bindings: modesOf(bindings)}
 	if c.document, err = osb.ServedCatalogue(document); err != nil {
+		return nil, err
+	}
+	if c.returning, err = withoutTombstones(c.document); err != nil {
 		return nil, err
 	}
 	return c, c.readRest(document)

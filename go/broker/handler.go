@@ -103,6 +103,7 @@ type exchange struct {
 	Exchange
 	request *http.Request
 	header  http.Header // of the answer
+	arrived time.Time
 }
 
 // A reply is what is answered over HTTP. Every body is JSON.
@@ -114,7 +115,7 @@ type reply struct {
 // ServeHTTP answers one request.
 func (h *Handler) ServeHTTP(w http.ResponseWriter, r *http.Request) {
 	began := time.Now()
-	x := &exchange{request: r, header: w.Header(), Exchange: Exchange{
+	x := &exchange{request: r, header: w.Header(), arrived: began, Exchange: Exchange{
 		RequestID: h.requestID(r), Route: "other", Method: atMost(r.Method, 20), Target: LoggedTarget(r.RequestURI),
 		Address: hostOf(r.RemoteAddr), Traceparent: first(r.Header, "Traceparent"),
 		VcapRequest: first(r.Header, "X-Vcap-Request-Id"),
@@ -156,6 +157,7 @@ func (h *Handler) answer(x *exchange) reply {
 	if err != nil {
 		return h.refused(x, err)
 	}
+	asked.Arrived = x.arrived
 	return h.carriedOut(x, asked)
 }
 
@@ -190,7 +192,7 @@ func (h *Handler) catalogue(x *exchange) reply {
 		x.header.Set("Allow", http.MethodGet)
 		return h.refused(x, osb.ErrRefusedMethod)
 	}
-	return reply{http.StatusOK, h.service.catalogue.document}
+	return reply{http.StatusOK, h.service.document()}
 }
 
 // carriedOut carries a request out, and has gone on with what isn't finished.

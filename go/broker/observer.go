@@ -20,6 +20,20 @@ type Observer interface {
 	Finished(key Key, ok bool)
 }
 
+// A ReturnObserver is an Observer that is told of ids that return (Rules.IDsReturnAfter).
+type ReturnObserver interface {
+	Observer
+	// Returned is called once a creation was let in although its id has a tombstone.
+	Returned(Return)
+}
+
+// A Return is a creation that was let in although its id has a tombstone.
+type Return struct {
+	RequestID string        // of the creation
+	Key       Key           // of the instance or the binding
+	EndedAgo  time.Duration // how long ago the old life had ended, by the clock of the store
+}
+
 // An Exchange is a request and its answer.
 type Exchange struct {
 	RequestID   string // the id that the platform gave the request, or one that was made up here

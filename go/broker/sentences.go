@@ -117,7 +117,7 @@ func (h *Handler) conflictSentence(asked Asked, of subject) string {
 	row, differs := rowOf(held.Holding), "other parameters"
 	switch {
 	case !held.Holding.IsHeld() && held.Holding.HasTombstone():
-		return of.an + " of this id has ended. An id is never used again: choose a new one."
+		return of.an + " of this id has ended. " + h.service.rules.reuse()
 	case !held.Holding.IsHeld():
 		return idTaken
 	case row.Service != asked.Asked.Service:

@@ -21,6 +21,7 @@ type Service struct {
 	worker    worker
 	observer  Observer
 	rules     Rules
+	stay      time.Duration // how long a request is kept, if ids return
 }
 
 // Rules are this project's choice (docs/instance.md).
@@ -33,6 +34,10 @@ type Rules struct {
 	// LocksAtOnce is how many requests may take a lock at once, or 0 for any number. If it is less than the number of
 	// requests that are carried out at once, a silent server of the locks doesn't hold up requests that need no lock.
 	LocksAtOnce int
+	// IDsReturnAfter is how old a tombstone has to be to stand in the way of a creation no longer, or 0 if it stands in
+	// the way for good. If it isn't 0, it is ShortestReturn or more, and longer than any request of the old life is
+	// under way (docs/broker-guide.md).
+	IDsReturnAfter time.Duration
 }
 
 // NewService makes a service. If the backend is a LockBackend, give its locks.
@@ -40,7 +45,7 @@ func NewService(
 	catalogue *Catalogue, store Store, backend Backend, locks Locks, rules Rules, observer Observer,
 ) *Service {
 	return &Service{
-		catalogue: catalogue, store: store, locks: locks, observer: observer, rules: rules,
+		catalogue: catalogue, store: store, locks: locks, observer: observer, rules: rules, stay: longestStay,
 		gate:   newGate(locks, rules.LocksAtOnce),
 		worker: worker{backend: backend, observer: observer},
 	}
@@ -55,6 +60,7 @@ type Asked struct {
 	Attributes osb.Digest
 	Request    json.RawMessage // of a creation: the text of its Request
 	Origin     Origin          // of a deletion
+	Arrived    time.Time       // when the broker got the request, or the zero Time if that doesn't count
 }
 
 // An Answered is what a request is answered.
@@ -187,7 +193,8 @@ func (s *Service) withBinding(key Key, answer osb.Answer, object json.RawMessage
 type begun struct {
 	answered Answered
 	work     osb.Work
-	entry    Entry // what was written, if work is due
+	entry    Entry   // what was written, if work is due
+	returned *Return // if the id returns with what was written
 }
 
 // record is the first transaction of a request: it is answered, or its work becomes pending. If away isn't nil, work
@@ -209,6 +216,9 @@ func (s *Service) record(ctx context.Context, asked Asked, away error) (given be
 	})
 	if err == nil && place != "" {
 		crash.At(place + "-written")
+	}
+	if err == nil && given.returned != nil {
+		s.tellReturn(*given.returned)
 	}
 	return given, err
 }
@@ -291,7 +301,7 @@ func (s *Service) end(
 func (e *Entry) ended(key Key, done result) {
 	row, isHeld := e.Holding.Row()
 	if !e.Holding.IsHeld() {
-		*e = Entry{Holding: e.Holding}
+		*e = Entry{Holding: e.Holding, Life: e.Life}
 		return
 	}
 	e.Since = time.Time{}
@@ -315,6 +325,7 @@ func (s *Service) fence(ctx context.Context, key Key) (int64, error) {
 // change is one transaction over what is held, if it fits.
 func (s *Service) change(ctx context.Context, key Key, fence int64, step Step) error {
 	return s.store.Change(ctx, key, fence, func(held Held) (*Entry, error) {
+		held = held.inLife(key)
 		if !s.catalogue.fits(key, held.Holding) {
 			return nil, ErrMisfit
 		}
@@ -324,6 +335,7 @@ func (s *Service) change(ctx context.Context, key Key, fence int64, step Step) e
 
 func (s *Service) read(ctx context.Context, key Key) (Held, error) {
 	held, err := s.store.Read(ctx, key)
+	held = held.inLife(key)
 	if err == nil && !s.catalogue.fits(key, held.Holding) {
 		err = ErrMisfit
 	}

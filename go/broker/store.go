@@ -23,6 +23,9 @@ type Entry struct {
 	Description string
 	// Since is when the pending work, the operation or the waiting began, or the zero Time.
 	Since time.Time
+	// Life is how many lives of the instance have ended before this one: 0 unless its id has returned
+	// (Rules.IDsReturnAfter). Of a binding it is the Life of its instance when the entry was written.
+	Life int64
 }
 
 // IsUnfinished is whether somebody has to go on: work is pending, or the row is making, deleting or waiting.
@@ -37,6 +40,9 @@ func (e Entry) IsUnfinished() bool {
 // A Held is what a transaction reads.
 type Held struct {
 	Entry
+	// EndedAgo is how long ago the tombstone was written, by the clock of the store. It is 0 if there is no tombstone,
+	// and if nobody knows.
+	EndedAgo time.Duration
 	// Instance is the entry of a binding's instance. For an instance it is the zero Entry.
 	Instance Entry
 	// AnyBinding returns whether a binding of an instance is held (osb.Holding.IsHeld). It may be called until the
@@ -50,6 +56,9 @@ type Step func(Held) (*Entry, error)
 
 // A Store keeps a row for each instance and each binding. No row of an instance is ever deleted. Any number of
 // goroutines use a Store, and any number of processes use the database.
+//
+// With each entry that has a tombstone, a Store writes the time by its own clock, which is one clock for all processes.
+// A tombstone that was written before there was such a time has the time at which the database was extended.
 //
 // If the store can't be used now, and may be back soon, the error of a method is ErrAway (Away).
 type Store interface {

@@ -112,8 +112,8 @@ func (s *Service) giveUpWaiting(ctx context.Context, key Key) error {
 	err := s.change(ctx, key, 0, func(held Held) (*Entry, error) {
 		late = nil
 		row, isHeld := held.Holding.Row()
-		if !isHeld || row.Phase != osb.PhaseWaiting {
-			return nil, nil // the Poll has come meanwhile
+		if !isHeld || row.Phase != osb.PhaseWaiting || time.Since(held.Since) < s.rules.WaitForPoll {
+			return nil, nil // the Poll has come meanwhile, or the row is that of another life
 		}
 		request, _ := requestOf(key, row, held.Request) // for the log alone
 		crash.At("wait-next")
@@ -148,7 +148,7 @@ func (s *Service) UnbindFailed(ctx context.Context, instance osb.ID) (begun []Ke
 		return nil, err
 	}
 	for _, binding := range bindings {
-		key := BindingKey(instance, binding)
+		key, arrived := BindingKey(instance, binding), time.Now()
 		held, err := s.read(ctx, key)
 		if err != nil {
 			return begun, err
@@ -165,7 +165,7 @@ func (s *Service) UnbindFailed(ctx context.Context, instance osb.ID) (begun []Ke
 			Kind: osb.KindDeprovision, AcceptsIncomplete: true, HasService: true, HasPlan: true,
 			ID: binding, Service: row.Service, Plan: row.Plan,
 		}
-		answered, err := s.Handle(ctx, Asked{Key: key, Names: request.names(), Asked: unbind})
+		answered, err := s.Handle(ctx, Asked{Key: key, Names: request.names(), Asked: unbind, Arrived: arrived})
 		if err != nil {
 			return begun, err
 		}

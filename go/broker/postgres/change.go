@@ -74,38 +74,40 @@ func (c change) check(fence int64) error {
 // lock reads what is held, and locks it.
 func (c change) lock() (held broker.Held, err error) {
 	if !c.key.IsBinding {
-		held.Entry, err = c.locked(c.key, forUpdate)
+		held, err = c.locked(c.key, forUpdate)
 		held.AnyBinding = func() (is bool, err error) {
 			err = c.statement(anyBinding).QueryRowContext(c.ctx, c.key.Instance).Scan(&is)
 			return is, err
 		}
 		return held, err
 	}
-	if held.Instance, err = c.locked(broker.InstanceKey(c.key.Instance), forShare); err != nil {
+	instance, err := c.locked(broker.InstanceKey(c.key.Instance), forShare)
+	if err != nil {
 		return held, err
 	}
-	held.Entry, err = c.locked(c.key, forUpdate)
+	held, err = c.locked(c.key, forUpdate)
+	held.Instance = instance.Entry
 	return held, err
 }
 
 // locked is the row of a key, which is locked. If it is missing, it is inserted.
-func (c change) locked(key broker.Key, how string) (broker.Entry, error) {
-	entry, isThere, err := c.find(key, how)
+func (c change) locked(key broker.Key, how string) (broker.Held, error) {
+	held, isThere, err := c.find(key, how)
 	if err != nil || isThere {
-		return entry, err
+		return held, err
 	}
 	isNew, err := c.insert(key)
 	if err != nil || isNew {
-		return entry, err
+		return held, err
 	}
-	entry, isThere, err = c.find(key, how)
+	held, isThere, err = c.find(key, how)
 	if err == nil && !isThere {
 		err = errRowGone(key)
 	}
-	return entry, err
+	return held, err
 }
 
-func (c change) find(key broker.Key, how string) (broker.Entry, bool, error) {
+func (c change) find(key broker.Key, how string) (broker.Held, bool, error) {
 	return scanned(key, c.statement(finding(key)+how).QueryRowContext(c.ctx, keyed(key)...))
 }
 
@@ -131,7 +133,7 @@ func (c change) write(entry broker.Entry) error {
 	}
 	arguments := []any{
 		text, entry.IsUnfinished(), orNull(entry.Request), storable(entry.Description), timeOrNull(entry.Since),
-		c.key.Instance,
+		entry.Life, entry.Holding.HasTombstone(), c.key.Instance,
 	}
 	if c.key.IsBinding {
 		arguments = append(arguments, entry.Holding.IsHeld(), orNull(entry.Binding), c.key.Binding)

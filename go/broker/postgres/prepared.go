@@ -11,18 +11,23 @@ import (
 
 // The statements of reads and changes, which the server parses and plans once for each session.
 const (
-	findInstance = "SELECT holding, request, NULL, description, since FROM osb_holdings WHERE id = $1"
-	findBinding  = "SELECT holding, request, object, description, since FROM osb_bindings " +
-		"WHERE instance = $1 AND binding = $2"
+	findInstance = "SELECT holding, request, NULL, description, since, life, " + endedAgo +
+		" FROM osb_holdings WHERE id = $1"
+	findBinding = "SELECT holding, request, object, description, since, life, " + endedAgo +
+		" FROM osb_bindings WHERE instance = $1 AND binding = $2"
+	// How many seconds ago the tombstone was written. A statement that waits for a row takes the time at which it began
+	// to wait.
+	endedAgo            = "extract(epoch FROM statement_timestamp() - ended)"
 	forUpdate, forShare = " FOR UPDATE", " FOR SHARE"
 
 	insertInstance = "INSERT INTO osb_holdings (id, holding, unfinished) VALUES ($1, $2, false) ON CONFLICT DO NOTHING"
 	insertBinding  = "INSERT INTO osb_bindings (instance, binding, holding, held, unfinished) " +
 		"VALUES ($1, $2, $3, false, false) ON CONFLICT DO NOTHING"
 	writeInstance = "UPDATE osb_holdings SET holding = $1, unfinished = $2, request = $3, description = $4, " +
-		"since = $5 WHERE id = $6"
+		"since = $5, life = $6, " + ended + " WHERE id = $8"
 	writeBinding = "UPDATE osb_bindings SET holding = $1, unfinished = $2, request = $3, description = $4, since = $5, " +
-		"held = $7, object = $8 WHERE instance = $6 AND binding = $9"
+		"life = $6, " + ended + ", held = $9, object = $10 WHERE instance = $8 AND binding = $11"
+	ended = "ended = CASE WHEN $7::boolean THEN clock_timestamp() END"
 
 	checkWorker        = "SELECT worker FROM osb_workers WHERE id = $1 FOR SHARE"
 	checkBindingWorker = "SELECT worker FROM osb_binding_workers WHERE instance = $1 AND binding = $2 FOR SHARE"
@@ -33,8 +38,9 @@ const (
 	anyBinding = "SELECT EXISTS (SELECT FROM osb_bindings WHERE instance = $1 AND held)"
 	// One statement reads a binding and its instance, so both are of the same moment.
 	readBinding = `
-SELECT b.holding, b.request, b.object, b.description, b.since,
-    i.holding, i.request, NULL, i.description, i.since
+SELECT b.holding, b.request, b.object, b.description, b.since, b.life,
+    extract(epoch FROM statement_timestamp() - b.ended),
+    i.holding, i.request, NULL, i.description, i.since, i.life, NULL
 FROM (SELECT $1::uuid AS instance, $2::uuid AS binding) AS k
 LEFT JOIN osb_bindings AS b ON b.instance = k.instance AND b.binding = k.binding
 LEFT JOIN osb_holdings AS i ON i.id = k.instance

@@ -17,7 +17,7 @@ func (s *Store) Read(outer context.Context, key broker.Key) (held broker.Held, e
 			held, err = readHeldBinding(ctx, statements[readBinding], key)
 			return err
 		}
-		held.Entry, _, err = scanned(key, statements[findInstance].QueryRowContext(ctx, key.Instance))
+		held, _, err = scanned(key, statements[findInstance].QueryRowContext(ctx, key.Instance))
 		held.AnyBinding = func() (is bool, err error) {
 			err = s.reading(outer, func(ctx context.Context, statements prepared) error {
 				return statements[anyBinding].QueryRowContext(ctx, key.Instance).Scan(&is)
@@ -49,10 +49,10 @@ func readHeldBinding(ctx context.Context, reading *sql.Stmt, key broker.Key) (he
 	if err := found.Scan(it.into(instance.into()...)...); err != nil {
 		return held, err
 	}
-	if held.Instance, err = instance.entry(broker.InstanceKey(key.Instance)); err != nil {
+	if held, err = it.held(key); err != nil {
 		return held, err
 	}
-	held.Entry, err = it.entry(key)
+	held.Instance, err = instance.entry(broker.InstanceKey(key.Instance))
 	return held, err
 }
 

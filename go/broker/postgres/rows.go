@@ -16,11 +16,13 @@ import (
 type row struct {
 	holding, request, object, description sql.NullString
 	since                                 sql.NullTime
+	life                                  sql.NullInt64
+	endedAgo                              sql.NullFloat64 // in seconds
 }
 
 // into are the places to scan the columns into.
 func (r *row) into(more ...any) []any {
-	return append([]any{&r.holding, &r.request, &r.object, &r.description, &r.since}, more...)
+	return append([]any{&r.holding, &r.request, &r.object, &r.description, &r.since, &r.life, &r.endedAgo}, more...)
 }
 
 // entry is what the row has, or the zero Entry if there is no row.
@@ -36,21 +38,30 @@ func (r *row) entry(key broker.Key) (entry broker.Entry, err error) {
 	if r.since.Valid {
 		entry.Since = r.since.Time.UTC()
 	}
+	entry.Life = r.life.Int64
 	return entry, nil
 }
 
-// scanned is the entry of the only row of a query, and whether there is one.
-func scanned(key broker.Key, from *sql.Row) (broker.Entry, bool, error) {
+// held is what the row has, and how long ago its tombstone was written.
+func (r *row) held(key broker.Key) (held broker.Held, err error) {
+	if held.Entry, err = r.entry(key); err == nil && r.endedAgo.Float64 > 0 {
+		held.EndedAgo = time.Duration(r.endedAgo.Float64 * float64(time.Second))
+	}
+	return held, err
+}
+
+// scanned is what the only row of a query has, and whether there is one.
+func scanned(key broker.Key, from *sql.Row) (broker.Held, bool, error) {
 	var it row
 	err := from.Scan(it.into()...)
 	if errors.Is(err, sql.ErrNoRows) {
-		return broker.Entry{}, false, nil
+		return broker.Held{}, false, nil
 	}
 	if err != nil {
-		return broker.Entry{}, false, err
+		return broker.Held{}, false, err
 	}
-	entry, err := it.entry(key)
-	return entry, true, err
+	held, err := it.held(key)
+	return held, true, err
 }
 
 func holdingOf(isBinding bool, text string) (osb.Holding, error) {

@@ -6,10 +6,13 @@ import (
 	"fmt"
 )
 
-// The tables. Version 0.2 had osb_holdings without the last three columns, osb_workers and osb_store.
+// The tables. Version 0.2 had osb_holdings with its first three columns, osb_workers and osb_store. The column ended has
+// the time at which the tombstone was written. A tombstone of an earlier version gets the time of now. That reads all
+// rows, so no statement may be too long for it.
 //
 // The tables of workers are UNLOGGED: a crash of the server empties them. It ends the sessions that hold the locks too.
 const tables = `
+SET LOCAL statement_timeout = 0;
 CREATE TABLE IF NOT EXISTS osb_holdings (id uuid PRIMARY KEY, holding text NOT NULL, unfinished boolean NOT NULL);
 CREATE INDEX IF NOT EXISTS osb_unfinished_holdings ON osb_holdings (id) WHERE unfinished;
 CREATE UNLOGGED TABLE IF NOT EXISTS osb_workers (id uuid PRIMARY KEY, worker bigint NOT NULL);
@@ -24,12 +27,20 @@ CREATE INDEX IF NOT EXISTS osb_held_bindings ON osb_bindings (instance) WHERE he
 CREATE INDEX IF NOT EXISTS osb_unfinished_bindings ON osb_bindings (instance, binding) WHERE unfinished;
 CREATE UNLOGGED TABLE IF NOT EXISTS osb_binding_workers (instance uuid NOT NULL, binding uuid NOT NULL,
     worker bigint NOT NULL, PRIMARY KEY (instance, binding));
+ALTER TABLE osb_holdings ADD COLUMN IF NOT EXISTS life bigint NOT NULL DEFAULT 0,
+    ADD COLUMN IF NOT EXISTS ended timestamptz;
+ALTER TABLE osb_bindings ADD COLUMN IF NOT EXISTS life bigint NOT NULL DEFAULT 0,
+    ADD COLUMN IF NOT EXISTS ended timestamptz;
+UPDATE osb_holdings SET ended = clock_timestamp() WHERE ended IS NULL AND NOT unfinished
+    AND (holding LIKE '%"tombstone":true%' OR holding LIKE '%"marked":true%');
+UPDATE osb_bindings SET ended = clock_timestamp() WHERE ended IS NULL AND NOT held
+    AND holding LIKE '%"tombstone":true%';
 `
 
-// isCurrent is whether nothing is missing: all that version 0.2 didn't have comes in one transaction.
+// isCurrent is whether nothing is missing: all that is missing comes in one transaction, and this column is the last.
 const isCurrent = `
-SELECT to_regclass('osb_store') IS NOT NULL AND to_regclass('osb_binding_workers') IS NOT NULL AND EXISTS
-    (SELECT FROM pg_attribute WHERE attrelid = to_regclass('osb_holdings') AND attname = 'since' AND NOT attisdropped)
+SELECT EXISTS (SELECT FROM pg_attribute
+    WHERE attrelid = to_regclass('osb_bindings') AND attname = 'ended' AND NOT attisdropped)
 `
 
 // tablesLock is the number of an advisory lock for brokers that create the tables at the same time: IF NOT EXISTS is no

@@ -6,6 +6,7 @@ import (
 	"strings"
 	"sync"
 	"testing"
+	"time"
 
 	"pippinterm/broker"
 	"pippinterm/broker/postgres"
@@ -74,12 +75,68 @@ func TestTablesOf02(t *testing.T) {
 	}
 }
 
+// The tables of an early 0.3.0, before tombstones had a time, with an instance and a binding that have ended.
+func withoutTimes(t *testing.T) []string {
+	return append(append([]string{}, of02...),
+		`ALTER TABLE osb_holdings ADD COLUMN request text, ADD COLUMN description text NOT NULL DEFAULT '',
+		ADD COLUMN since timestamptz`,
+		`CREATE TABLE osb_bindings (instance uuid NOT NULL, binding uuid NOT NULL, holding text NOT NULL,
+		held boolean NOT NULL, unfinished boolean NOT NULL, request text, object text,
+		description text NOT NULL DEFAULT '', since timestamptz, PRIMARY KEY (instance, binding))`,
+		`CREATE UNLOGGED TABLE osb_binding_workers (instance uuid NOT NULL, binding uuid NOT NULL,
+			worker bigint NOT NULL, PRIMARY KEY (instance, binding))`,
+		fmt.Sprintf("INSERT INTO osb_holdings (id, holding, unfinished) VALUES ('%v', '%s', false)", id(4),
+			endedText(t, osb.Holding.MarshalJSON)),
+		fmt.Sprintf("INSERT INTO osb_bindings (instance, binding, holding, held, unfinished) "+
+			"VALUES ('%v', '%v', '%s', false, false)", id(1), id(2), endedText(t, osb.Holding.BindingText)))
+}
+
+// endedText is the text of a holding with a tombstone.
+func endedText(t *testing.T, write func(osb.Holding) ([]byte, error)) []byte {
+	t.Helper()
+	var ended osb.Holding
+	if err := ended.UnmarshalJSON([]byte(`{"marked":true,"row":null,"version":1,"work":null}`)); err != nil {
+		t.Fatal(err)
+	}
+	text, err := write(ended)
+	if err != nil {
+		t.Fatal(err)
+	}
+	return text
+}
+
+// A tombstone without a time gets that of the migration, once. Rows without a tombstone get none.
+func TestTombstonesWithoutATime(t *testing.T) {
+	url := pgtest.Schema(t, pgtest.URL(t), "osb_store_without_times")
+	pgtest.Exec(t, pgtest.DB(t, url), withoutTimes(t)...)
+	ctx, before := context.Background(), time.Now()
+	_ = open(t, url).Close()
+	time.Sleep(50 * time.Millisecond)
+	store := open(t, url) // which changes no time
+	defer store.Close()
+	for _, key := range []broker.Key{
+		broker.InstanceKey(id(3)), broker.InstanceKey(id(4)), broker.BindingKey(id(1), id(2)),
+	} {
+		held, err := store.Read(ctx, key)
+		if err != nil || !held.Holding.HasTombstone() || held.EndedAgo < 40*time.Millisecond ||
+			held.EndedAgo > time.Since(before)+10*time.Millisecond || held.Life != 0 {
+			t.Errorf("%v: %+v, %v", key, held, err)
+		}
+	}
+	for _, n := range []int{1, 2} {
+		held, err := store.Read(ctx, broker.InstanceKey(id(n)))
+		if err != nil || !held.Holding.IsHeld() || held.EndedAgo != 0 || held.Life != 0 {
+			t.Errorf("%d: %+v, %v", n, held, err)
+		}
+	}
+}
+
 // Brokers that start at once create or extend the tables once.
 func TestManyOpen(t *testing.T) {
 	for _, it := range []struct {
 		schema string
 		tables []string
-	}{{"osb_store_many_new", nil}, {"osb_store_many_02", of02}} {
+	}{{"osb_store_many_new", nil}, {"osb_store_many_02", of02}, {"osb_store_many_03", withoutTimes(t)}} {
 		url := pgtest.Schema(t, pgtest.URL(t), it.schema)
 		pgtest.Exec(t, pgtest.DB(t, url), it.tables...)
 		var all sync.WaitGroup

@@ -39,18 +39,18 @@ func (t *texts) keep(text string, holding osb.Holding) {
 func prepared(ctx context.Context, conn *sqlitefile.Conn) (*connection, error) {
 	c := &connection{Conn: conn}
 	for to, text := range map[**sqlitefile.Statement]string{
-		&c.readInstance: "SELECT holding, request, description, since FROM holdings WHERE id = ?",
-		&c.putInstance: "INSERT INTO holdings (id, holding, unfinished, request, description, since) " +
-			"VALUES (?, ?, ?, ?, ?, ?) ON CONFLICT (id) DO UPDATE SET holding = excluded.holding, " +
+		&c.readInstance: "SELECT holding, request, description, since, life, ended FROM holdings WHERE id = ?",
+		&c.putInstance: "INSERT INTO holdings (id, holding, unfinished, request, description, since, life, ended) " +
+			"VALUES (?, ?, ?, ?, ?, ?, ?, ?) ON CONFLICT (id) DO UPDATE SET holding = excluded.holding, " +
 			"unfinished = excluded.unfinished, request = excluded.request, description = excluded.description, " +
-			"since = excluded.since",
-		&c.readBinding: "SELECT holding, request, description, since, object FROM bindings " +
+			"since = excluded.since, life = excluded.life, ended = excluded.ended",
+		&c.readBinding: "SELECT holding, request, description, since, life, ended, object FROM bindings " +
 			"WHERE instance = ? AND binding = ?",
 		&c.putBinding: "INSERT INTO bindings (instance, binding, holding, unfinished, request, description, since, " +
-			"object, held) VALUES (?, ?, ?, ?, ?, ?, ?, ?, ?) ON CONFLICT (instance, binding) DO UPDATE SET " +
-			"holding = excluded.holding, unfinished = excluded.unfinished, request = excluded.request, " +
-			"description = excluded.description, since = excluded.since, object = excluded.object, " +
-			"held = excluded.held",
+			"life, ended, object, held) VALUES (?, ?, ?, ?, ?, ?, ?, ?, ?, ?, ?) ON CONFLICT (instance, binding) " +
+			"DO UPDATE SET holding = excluded.holding, unfinished = excluded.unfinished, request = excluded.request, " +
+			"description = excluded.description, since = excluded.since, life = excluded.life, " +
+			"ended = excluded.ended, object = excluded.object, held = excluded.held",
 		&c.anyBinding: "SELECT 1 FROM bindings WHERE instance = ? AND held LIMIT 1",
 		&c.readWorker: "SELECT worker FROM workers WHERE id = ?",
 	} {
@@ -65,14 +65,14 @@ func prepared(ctx context.Context, conn *sqlitefile.Conn) (*connection, error) {
 // held reads what is kept of a key, and for a binding what is held of its instance.
 func (c *connection) held(key broker.Key) (held broker.Held, err error) {
 	if !key.IsBinding {
-		held.Entry, err = c.instance(key.Instance)
+		held.Entry, held.EndedAgo, err = c.instance(key.Instance)
 		held.AnyBinding = func() (bool, error) {
 			row, err := one(c.anyBinding, key.Instance.String())
 			return row != nil, err
 		}
 		return held, err
 	}
-	if held.Instance, err = c.instance(key.Instance); err != nil {
+	if held.Instance, _, err = c.instance(key.Instance); err != nil {
 		return held, err
 	}
 	row, err := one(c.readBinding, key.Instance.String(), key.Binding.String())
@@ -82,26 +82,41 @@ func (c *connection) held(key broker.Key) (held broker.Held, err error) {
 	if held.Entry, err = entryOf(row, &c.bindings, osb.BindingHoldingFromText); err != nil {
 		return held, fmt.Errorf("sqlite: what is held of %v: %w", key, err)
 	}
-	held.Entry.Binding, err = optional(row[4])
+	held.EndedAgo = ago(row[5])
+	held.Entry.Binding, err = optional(row[6])
 	return held, err
 }
 
-func (c *connection) instance(id osb.ID) (entry broker.Entry, err error) {
+// instance reads what is kept of an instance, and how long ago it has ended.
+func (c *connection) instance(id osb.ID) (entry broker.Entry, endedAgo time.Duration, err error) {
 	row, err := one(c.readInstance, id.String())
 	if err != nil || row == nil {
-		return entry, err
+		return entry, 0, err
 	}
 	read := func(text []byte) (holding osb.Holding, err error) {
 		err = holding.UnmarshalJSON(text)
 		return holding, err
 	}
 	if entry, err = entryOf(row, &c.instances, read); err != nil {
-		return entry, fmt.Errorf("sqlite: what is held of %v: %w", id, err)
+		return entry, 0, fmt.Errorf("sqlite: what is held of %v: %w", id, err)
 	}
-	return entry, nil
+	return entry, ago(row[5]), nil
 }
 
-// entryOf reads the columns holding, request, description and since.
+// ago is how long ago the time of a column was, by the clock of this machine: all processes are on it. It is 0 if the
+// column is NULL, and if the time is still to come.
+func ago(column driver.Value) time.Duration {
+	at, ok := column.(int64)
+	if !ok {
+		return 0
+	}
+	if since := time.Since(time.UnixMilli(at)); since > 0 {
+		return since
+	}
+	return 0
+}
+
+// entryOf reads the columns holding, request, description, since and life.
 func entryOf(row []driver.Value, known *texts, read func([]byte) (osb.Holding, error)) (entry broker.Entry, err error) {
 	text, ok := row[0].(string) // nil if the driver has lost an error
 	if !ok {
@@ -122,6 +137,7 @@ func entryOf(row []driver.Value, known *texts, read func([]byte) (osb.Holding, e
 	if since, ok := row[3].(int64); ok {
 		entry.Since = time.UnixMilli(since).UTC()
 	}
+	entry.Life, _ = row[4].(int64)
 	return entry, nil
 }
 
@@ -150,13 +166,16 @@ func (c *connection) put(key broker.Key, entry broker.Entry) error {
 		return err
 	}
 	values := []driver.Value{
-		string(text), entry.IsUnfinished(), column(entry.Request), nil, nil,
+		string(text), entry.IsUnfinished(), column(entry.Request), nil, nil, entry.Life, nil,
 	}
 	if entry.Description != "" {
 		values[3] = entry.Description
 	}
 	if !entry.Since.IsZero() {
 		values[4] = entry.Since.UnixMilli()
+	}
+	if entry.Holding.HasTombstone() {
+		values[6] = time.Now().UnixMilli()
 	}
 	if key.IsBinding {
 		values = append([]driver.Value{key.Instance.String(), key.Binding.String()}, values...)

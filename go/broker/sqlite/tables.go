@@ -4,11 +4,13 @@ import (
 	"context"
 	"database/sql/driver"
 	"fmt"
+	"time"
 
 	"pippinterm/program/sqlite"
 )
 
-// The tables. Those of version 0.2 had the first three columns of holdings, and no bindings.
+// The tables. Those of version 0.2 had the first three columns of holdings, and no bindings. The columns that came
+// later are in columns.
 var tables = []string{
 	"CREATE TABLE IF NOT EXISTS holdings (id TEXT PRIMARY KEY, holding TEXT NOT NULL, unfinished INTEGER NOT NULL) " +
 		"WITHOUT ROWID",
@@ -24,8 +26,20 @@ var tables = []string{
 		"is_tied INTEGER NOT NULL DEFAULT 0)",
 }
 
-// The columns that 0.2 didn't have.
-var columns = [][2]string{{"request", "TEXT"}, {"description", "TEXT"}, {"since", "INTEGER"}}
+// The columns of holdings that 0.2 didn't have, and those that bindings didn't have at first. The column ended has the
+// time at which the tombstone was written.
+var columns = map[string][][2]string{
+	"holdings": {{"request", "TEXT"}, {"description", "TEXT"}, {"since", "INTEGER"}, life, ended},
+	"bindings": {life, ended},
+}
+
+var (
+	life  = [2]string{"life", "INTEGER NOT NULL DEFAULT 0"}
+	ended = [2]string{"ended", "INTEGER"}
+)
+
+// Texts of holdings have no spaces: docs/instance.md. Before 0.3.0 a tombstone was written as marked.
+const isTombstone = `NOT unfinished AND (holding LIKE '%"tombstone":true%' OR holding LIKE '%"marked":true%')`
 
 // makeTables makes the tables and columns that are missing, in one transaction.
 func makeTables(ctx context.Context, conn *sqlitefile.Conn, _ string) error {
@@ -35,25 +49,34 @@ func makeTables(ctx context.Context, conn *sqlitefile.Conn, _ string) error {
 				return err
 			}
 		}
-		return addColumns(conn)
+		for table := range columns {
+			if err := addColumns(conn, table); err != nil {
+				return err
+			}
+		}
+		return nil
 	})
 }
 
-func addColumns(conn *sqlitefile.Conn) error {
+// addColumns adds the columns that a table lacks. A tombstone gets the time of now, if tombstones had no time.
+func addColumns(conn *sqlitefile.Conn, table string) error {
 	have := map[string]bool{}
-	err := conn.Each("SELECT name FROM pragma_table_info('holdings')", nil, func(row []driver.Value) error {
+	err := conn.Each("SELECT name FROM pragma_table_info('"+table+"')", nil, func(row []driver.Value) error {
 		have[fmt.Sprint(row[0])] = true
 		return nil
 	})
 	if err != nil {
 		return err
 	}
-	for _, it := range columns {
+	for _, it := range columns[table] {
 		if !have[it[0]] {
-			if err := conn.Exec("ALTER TABLE holdings ADD COLUMN " + it[0] + " " + it[1]); err != nil {
+			if err := conn.Exec("ALTER TABLE " + table + " ADD COLUMN " + it[0] + " " + it[1]); err != nil {
 				return err
 			}
 		}
 	}
-	return nil
+	if have[ended[0]] {
+		return nil
+	}
+	return conn.Exec("UPDATE "+table+" SET ended = ? WHERE "+isTombstone, time.Now().UnixMilli())
 }

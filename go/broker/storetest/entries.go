@@ -41,12 +41,13 @@ func entries(t *testing.T, key broker.Key) []broker.Entry {
 		Request:     json.RawMessage(`{"instance_id": "a", "body":{"x":[1, 2.0,"\u0000"]}}`),
 		Description: "the disk is full",
 		Since:       time.Date(2026, 2, 3, 4, 5, 6, 789e6, time.FixedZone("somewhere", 3600)),
+		Life:        3,
 	}
 	less := broker.Entry{Holding: in(t, "ready")}
 	if key.IsBinding {
 		full.Binding = json.RawMessage(`{"credentials" : {"password":"\"\\ é"}}`)
 	}
-	return []broker.Entry{full, less, {Holding: tombstone(t)}}
+	return []broker.Entry{full, less, {Holding: tombstone(t), Life: 1 << 40}}
 }
 
 func testWritten(t *testing.T, open func(*testing.T) broker.NamedStore) {
@@ -116,7 +117,7 @@ func testNoEntry(t *testing.T, open func(*testing.T) broker.NamedStore) {
 func testInstanceOfBinding(t *testing.T, open func(*testing.T) broker.NamedStore) {
 	first, second := opened(t, open), opened(t, open)
 	for _, phase := range []string{"ready", "deleting"} {
-		of := broker.Entry{Holding: in(t, phase), Request: json.RawMessage(`{"instance_id":"` + phase + `"}`)}
+		of := broker.Entry{Holding: in(t, phase), Request: json.RawMessage(`{"instance_id":"` + phase + `"}`), Life: 2}
 		write(t, first, instance(1), of)
 		for _, key := range []broker.Key{binding(1, 1), binding(2, 1)} {
 			wantEntry(t, "the instance, by Read of "+key.String(), read(t, second, key).Instance, of)
@@ -130,7 +131,7 @@ func testInstanceOfBinding(t *testing.T, open func(*testing.T) broker.NamedStore
 		}
 	}
 	instance := read(t, first, instance(1)).Entry
-	wantEntry(t, "the instance", instance, broker.Entry{Holding: in(t, "deleting"), Request: instance.Request})
+	wantEntry(t, "the instance", instance, broker.Entry{Holding: in(t, "deleting"), Request: instance.Request, Life: 2})
 }
 
 func testHeldBindings(t *testing.T, open func(*testing.T) broker.NamedStore) {

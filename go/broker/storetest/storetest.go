@@ -33,6 +33,8 @@ func Run(t *testing.T, open func(t *testing.T) broker.NamedStore) {
 		{"a binding and its instance", testInstanceOfBinding},
 		{"held bindings", testHeldBindings},
 		{"unfinished keys", testUnfinished},
+		{"the age of a tombstone", testAge},
+		{"one of two changes finds a tombstone", testReturn},
 		{"no change is lost", testCounter},
 		{"changes that exclude each other", testExclusion},
 		{"fences", testFences},
@@ -131,7 +133,8 @@ func wantEntry(t *testing.T, what string, got, want broker.Entry) {
 	t.Helper()
 	isSame := got.Holding == want.Holding && string(got.Request) == string(want.Request) &&
 		(got.Request == nil) == (want.Request == nil) && string(got.Binding) == string(want.Binding) &&
-		(got.Binding == nil) == (want.Binding == nil) && got.Description == want.Description && got.Since.Equal(want.Since)
+		(got.Binding == nil) == (want.Binding == nil) && got.Description == want.Description &&
+		got.Since.Equal(want.Since) && got.Life == want.Life
 	if !isSame {
 		t.Errorf("%s: got %+v, want %+v", what, got, want)
 	}

@@ -198,6 +198,8 @@ func TestUnusable(t *testing.T) {
 		{nil, []string{"sell"}, "sell"},
 		{nil, []string{"serve"}, "OSB_BROKER_PASSWORD"},
 		{[]string{password}, []string{"serve", "--threads", "0"}, "threads"},
+		{[]string{password}, []string{"serve", "--ids-return-after", "299"}, `"--ids-return-after" flag: want a number from 300`},
+		{[]string{password}, []string{"serve", "--ids-return-after", "0"}, "from 300"},
 		{[]string{password}, []string{"serve", "--listen", "nowhere"}, "HOST:PORT"},
 		{[]string{password}, []string{"serve", "--user", "a:b"}, "--user"},
 		{[]string{password}, []string{"serve", "--state", empty, "--store", "mysql://x"}, "--store"},

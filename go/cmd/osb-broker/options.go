@@ -9,6 +9,7 @@ import (
 	"github.com/spf13/cobra"
 	"github.com/spf13/pflag"
 
+	"pippinterm/broker"
 	"pippinterm/program"
 )
 
@@ -23,6 +24,7 @@ type settings struct {
 	certificate, key, clientCA    string
 	firstPoll                     bool
 	waitForPoll                   time.Duration
+	idsReturnAfter                int // in seconds, or 0
 	threads, workers, connections int
 	longestBody, perInstance      int
 	requestTime, sweepTime        time.Duration
@@ -113,6 +115,9 @@ func (s *settings) addRules(flags *pflag.FlagSet) {
 		"create the instances and bindings of asynchronous plans only once the platform has polled")
 	flags.Var(program.Seconds(&s.waitForPoll, 10*time.Minute), "wait-for-poll",
 		"after so many seconds without the first poll, a creation has failed")
+	flags.Var(program.Count(&s.idsReturnAfter, 0, int(broker.ShortestReturn.Seconds()), most), "ids-return-after",
+		"let an id be created again so many `seconds` after its deletion has ended, at least 300; without this option, "+
+			"never. No request may be under way for that long: docs/broker-guide.md says what breaks otherwise")
 }
 
 func (s *settings) addLimits(flags *pflag.FlagSet) {

@@ -83,7 +83,7 @@ func serve(ctx context.Context, s *settings, stderr io.Writer) error {
 func (r *running) open(ctx, stop context.Context, queue *logs.Queue) (err error) {
 	s := r.settings
 	r.metrics = metrics.New(metrics.Options{DroppedLines: queue.Dropped, Connections: r.connections})
-	r.observer = program.Observers(logs.Observer(r.log), r.metrics)
+	r.observer = returns{program.Observers(logs.Observer(r.log), r.metrics), r.log}
 	if r.parts, err = partsOf(stop, s, r.log, r.observer); err != nil {
 		return err
 	}
@@ -101,8 +101,10 @@ func (r *running) open(ctx, stop context.Context, queue *logs.Queue) (err error)
 	if ids := inUpperCase(catalogue.Document()); len(ids) > 0 {
 		r.log.Warning("guid_in_upper_case").Strs("ids", ids).Send()
 	}
-	rules := broker.Rules{FirstPoll: s.firstPoll, WaitForPoll: s.waitForPoll, LocksAtOnce: s.locksAtOnce()}
-	service := broker.NewService(catalogue, r.parts.store, r.parts.backend, r.parts.locks, rules, r.observer)
+	if s.idsReturnAfter != 0 {
+		r.log.Warning("ids_return").Int("after_seconds", s.idsReturnAfter).Send()
+	}
+	service := broker.NewService(catalogue, r.parts.store, r.parts.backend, r.parts.locks, s.rules(), r.observer)
 	r.sweeper = broker.NewSweeper(service, r.observer)
 	r.work, r.endWork = context.WithCancel(ctx)
 	r.handler, err = broker.NewHandler(r.work, service, broker.Config{
@@ -110,6 +112,13 @@ func (r *running) open(ctx, stop context.Context, queue *logs.Queue) (err error)
 		Observer: r.observer,
 	})
 	return program.Unusable(err)
+}
+
+func (s *settings) rules() broker.Rules {
+	return broker.Rules{
+		FirstPoll: s.firstPoll, WaitForPoll: s.waitForPoll, LocksAtOnce: s.locksAtOnce(),
+		IDsReturnAfter: time.Duration(s.idsReturnAfter) * time.Second,
+	}
 }
 
 func (r *running) connections() int {

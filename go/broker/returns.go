@@ -1,0 +1,95 @@
+package broker
+
+import (
+	"encoding/json"
+	"errors"
+	"fmt"
+	"time"
+
+	"pippinterm/osb"
+)
+
+// An id returns if a creation is let in although the id has a tombstone. That is this project's choice, and off unless
+// Rules.IDsReturnAfter is set. A life of an id begins with a creation, and ends with a tombstone. What it rests on is in
+// docs/broker-guide.md: no request of an old life comes later than that time after its end.
+
+// ShortestReturn is the least that Rules.IDsReturnAfter may be, if it isn't 0. A minute of it is longestStay. PostgreSQL
+// ends a transaction that is idle for another minute, and the time of a tombstone is taken before its commit. The other
+// three minutes are left for a request that is under way.
+const ShortestReturn = 5 * time.Minute
+
+// longestStay is how long a broker keeps a request before it begins with it, if ids return. So a request that a broker
+// got in the old life changes nothing in the new one, also if the broker was stopped meanwhile (SIGSTOP).
+const longestStay = time.Minute
+
+// errLate reports that the broker has kept a request for longer than longestStay, and hasn't begun with it.
+var errLate = Away(errors.New("the request has waited in the broker for over a minute, and its id may have returned " +
+	"meanwhile"))
+
+// returned is what a request finds. If the id returns with it, that is what is held of an id for which no request has
+// come, in the next life of the instance.
+func (r Rules) returned(held Held, asked Asked) (found Held, returned *Return) {
+	isCreation := !asked.IsFetch && asked.Asked.Kind == osb.KindProvision
+	if r.IDsReturnAfter == 0 || !isCreation || !held.Holding.HasTombstone() || held.EndedAgo < r.IDsReturnAfter {
+		return held, nil
+	}
+	request, _ := requestOf(asked.Key, osb.BrokerRow{}, asked.Request) // for the log alone
+	returned = &Return{RequestID: request.RequestID, Key: asked.Key, EndedAgo: held.EndedAgo}
+	life := held.Life
+	if !asked.Key.IsBinding {
+		life++
+	}
+	held.Entry, held.EndedAgo = Entry{Life: life}, 0
+	return held, returned
+}
+
+// isLate is whether the broker has kept a request for too long. It is asked while the row is locked.
+func (s *Service) isLate(asked Asked) bool {
+	return s.rules.IDsReturnAfter != 0 && !asked.Arrived.IsZero() && time.Since(asked.Arrived) > s.stay
+}
+
+// inLife is what is held in the life of the instance that goes on. The tombstone of a binding counts in the life of its
+// instance in which it was written. A binding that is held is of this life, since no instance ends before its bindings.
+func (h Held) inLife(key Key) Held {
+	if !key.IsBinding || h.Life == h.Instance.Life {
+		return h
+	}
+	if !h.Holding.IsHeld() {
+		h.Entry, h.EndedAgo = Entry{}, 0
+	}
+	h.Life = h.Instance.Life
+	return h
+}
+
+func (s *Service) tellReturn(it Return) {
+	if observer, ok := s.observer.(ReturnObserver); ok {
+		observer.Returned(it)
+	}
+}
+
+// reuse is what a person is told of an id that has ended.
+func (r Rules) reuse() string {
+	if r.IDsReturnAfter == 0 {
+		return "An id is never used again: choose a new one."
+	}
+	return fmt.Sprintf("The id can be used again %.0f seconds after its end: repeat the request then, or choose a new one.",
+		r.IDsReturnAfter.Seconds())
+}
+
+// document is what is served as the catalogue. If ids return, it doesn't promise that none ever does.
+func (s *Service) document() []byte {
+	if s.rules.IDsReturnAfter != 0 {
+		return s.catalogue.returning
+	}
+	return s.catalogue.document
+}
+
+// withoutTombstones is a document that says that the broker has no tombstones, which last for good.
+func withoutTombstones(document []byte) ([]byte, error) {
+	var members map[string]json.RawMessage
+	if err := json.Unmarshal(document, &members); err != nil {
+		return nil, err
+	}
+	members["x-osb-tombstones"] = json.RawMessage("false")
+	return json.Marshal(members)
+}
