@@ -275,7 +275,14 @@ func TestFailuresHaveTheIDOfTheRequest(t *testing.T) {
 	}
 	expect("backend_failed_to_create", "of-an-operation")
 
-	backend.name = "delete"
+	backend.err = &broker.Rejected{Status: 400, Description: "no such size"}
+	w.ask("PUT", instances+"four", bodyOf(now, ""), "of-a-rejection")
+	if len(w.failures) == 1 && !w.failures[0].IsRejection {
+		t.Error("a rejection counts as a failure")
+	}
+	expect("backend_rejected", "of-a-rejection")
+
+	backend.name, backend.err = "delete", errScripted
 	w.ask("PUT", instances+"three", bodyOf(now, ""), "of-a-creation")
 	w.ask("DELETE", instances+"three"+names(now), "", "of-a-deletion")
 	expect("backend_failed_to_delete", "of-a-deletion")

@@ -59,6 +59,8 @@ type Failure struct {
 	Key       Key    // what it is about, if IsNamed is true
 	IsNamed   bool
 	Err       error
+	// IsRejection is whether the backend has rejected a creation (Rejected), so that nothing is wrong with the broker.
+	IsRejection bool
 }
 
 // Silent is an Observer that does nothing.

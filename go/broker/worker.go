@@ -113,20 +113,25 @@ func (w worker) told(request Request, what string, isDone bool, failed error, ca
 	if !isDone && failed == nil {
 		failed = errors.New("the backend returned no error, and it isn't so")
 	}
-	report := func(event string, err error) {
-		if err != nil {
-			w.observer.Failed(Failure{
-				Event: event, RequestID: calls.requestID(), Key: request.Key, IsNamed: true, Err: err,
-			})
+	var rejected *Rejected
+	isRejection := what == "create" && !isDone && errors.As(failed, &rejected)
+	event := "backend_failed_to_" + what
+	if isRejection {
+		event = "backend_rejected"
+	}
+	report := func(it Failure) {
+		if it.Err != nil {
+			it.RequestID, it.Key, it.IsNamed = calls.requestID(), request.Key, true
+			w.observer.Failed(it)
 		}
 	}
-	report("credentials_useless", calls.useless)
-	report("backend_failed_to_"+what, failed)
+	report(Failure{Event: "credentials_useless", Err: calls.useless})
+	report(Failure{Event: event, Err: failed, IsRejection: isRejection})
 	if isDone {
 		return result{outcome: osb.OutcomeDone, binding: calls.binding}, nil
 	}
-	given := result{outcome: osb.OutcomeBefore, description: Description(failed)}
-	if what == "create" && errors.As(failed, &given.rejected) {
+	given := result{outcome: osb.OutcomeBefore, description: Description(failed), rejected: rejected}
+	if isRejection {
 		given.outcome = osb.OutcomeRefused400
 		if given.rejected.Status == 422 {
 			given.outcome = osb.OutcomeRefused422

@@ -135,6 +135,7 @@ func TestObserverLogsOtherEvents(t *testing.T) {
 	why := errors.New("why")
 	observer.Failed(broker.Failure{Event: "store_failed", RequestID: "an-id", Key: key, IsNamed: true, Err: why})
 	observer.Failed(broker.Failure{Event: "sweep_failed"})
+	observer.Failed(broker.Failure{Event: "backend_rejected", Err: why, IsRejection: true})
 	observer.CallFailed("look")
 	observer.Committed(3)
 	observer.Finished(key, true)
@@ -142,6 +143,7 @@ func TestObserverLogsOtherEvents(t *testing.T) {
 	want := strings.ReplaceAll(`
 {"time":"T","level":"error","event":"store_failed","request":"an-id","instance":"ONE","error":"why"}
 {"time":"T","level":"error","event":"sweep_failed"}
+{"time":"T","level":"info","event":"backend_rejected","error":"why"}
 {"time":"T","level":"info","event":"operation_ended","instance":"ONE","succeeded":true}
 {"time":"T","level":"info","event":"operation_ended","instance":"ONE","succeeded":false}
 `, "ONE", one)

@@ -40,9 +40,13 @@ func (o observer) Answered(exchange broker.Exchange) {
 	event.Send()
 }
 
-// Failed logs a failure.
+// Failed logs a failure. That a backend has rejected a creation isn't an error.
 func (o observer) Failed(failure broker.Failure) {
-	event := o.Error(failure.Event)
+	level := o.Error
+	if failure.IsRejection {
+		level = o.Info
+	}
+	event := level(failure.Event)
 	add(event, "request", failure.RequestID)
 	addKey(event, failure.Key, failure.IsNamed)
 	if failure.Err != nil {

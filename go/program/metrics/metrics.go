@@ -115,8 +115,12 @@ func (m *Metrics) Answered(exchange broker.Exchange) {
 	m.durations.WithLabelValues(route).Observe(exchange.Duration.Seconds())
 }
 
-// Failed counts a failure by its event. After 99 different events, all further events count as other.
+// Failed counts a failure by its event, unless a backend has rejected a creation. After 99 different events, all further
+// events count as other.
 func (m *Metrics) Failed(failure broker.Failure) {
+	if failure.IsRejection {
+		return
+	}
 	m.failures.WithLabelValues(m.events.name(failure.Event)).Inc()
 }
 

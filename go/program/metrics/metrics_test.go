@@ -57,6 +57,7 @@ func TestEventsAreCounted(t *testing.T) {
 	}
 	metrics.Failed(broker.Failure{Event: "store_failed", Err: errors.New("why")})
 	metrics.Failed(broker.Failure{Event: "store_failed"})
+	metrics.Failed(broker.Failure{Event: "backend_rejected", IsRejection: true})
 	for _, call := range []string{"look", "sync", "look", "lock", "made-up"} {
 		metrics.CallFailed(call)
 	}

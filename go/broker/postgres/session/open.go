@@ -86,7 +86,8 @@ func withSettings(address string, options Options) (string, error) {
 		"tcp_keepalives_idle":                 "30",
 		"tcp_keepalives_interval":             "10",
 		"tcp_keepalives_count":                "3",
-		"binary_parameters":                   "yes", // a statement with parameters is one round trip
+		"tcp_user_timeout":                    "60000", // so a lost machine gives back its locks within a minute
+		"binary_parameters":                   "yes",   // a statement with parameters is one round trip
 	} {
 		asked.Set(name, value)
 	}

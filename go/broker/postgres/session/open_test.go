@@ -40,6 +40,7 @@ func TestSettings(t *testing.T) {
 	for name, want := range map[string]string{
 		"lock_timeout": "1500ms", "statement_timeout": "3s", "idle_in_transaction_session_timeout": "1min",
 		"search_path": "pg_catalog", "application_name": "osb", "tcp_keepalives_idle": "30",
+		"tcp_user_timeout": "60000",
 	} {
 		var got string
 		if err := db.QueryRow("SHOW " + name).Scan(&got); err != nil || got != want {
