@@ -131,14 +131,13 @@ def test_store_of_one_broker(texts: list[str], workdir: Workdir, port: int) -> N
     assert "web-db" in out.splitlines() and cells(out, 5)[0][0] == "default"
 
 
-@covers(PLATFORM, "./osb-platform bind web-db --id web-two ", "./osb-platform key --to new-key\n")
+@covers(PLATFORM, "./osb-platform create --broker local --id web-store ", "./osb-platform key --to new-key\n")
 def test_credentials(texts: list[str], workdir: Workdir, port: int) -> None:
     """They are written to a file that only its owner reads, and are the same after the key was replaced."""
     bind, rekey = texts
-    create, first, *_ = block(PLATFORM, LIFE).splitlines()
     out = workdir.run(
-        f"{begun(port)}{started(block(PLATFORM, RUN))}{create}\n{first}\n{bind}stat -c %a credentials.json\n"
-        f"{STOP}{rekey}./osb-platform credentials web-db/web-two | cmp - credentials.json && echo same\n"
+        f"{begun(port)}{started(block(PLATFORM, RUN))}{bind}stat -c %a credentials.json\n"
+        f"{STOP}{rekey}./osb-platform credentials web-store/web-app | cmp - credentials.json && echo same\n"
     )
     assert "\n600\n" in out and out.endswith("\nsame\n")
 

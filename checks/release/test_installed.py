@@ -2,19 +2,27 @@
 
 from __future__ import annotations
 
+import contextlib
+import json
 import re
 import shutil
 import subprocess
 from pathlib import Path
+from textwrap import indent
 from typing import Iterator
 
 import pytest
-from docs.pages import block
+import waiting
+from docs.pages import block, blocks, read
 
+from release import old_state
 from release.fresh import Fresh, fresh
 
 pytestmark = pytest.mark.slow
 
+PAGE = "docs/install.md"
+SECRETS = ("sudo sh -c 'umask 077; ", "sudo osb-platform key ")
+"""The beginnings of the page's blocks that write a secret, and start the service that has it."""
 INSTALL = "apt-get install -y -qq --no-install-recommends"
 OLDER = "0.2.99"
 """A version from which the package is updated."""
@@ -67,6 +75,8 @@ def test_package(dist: Path, version: str, debian: Fresh, tmp_path: Path) -> Non
     with debian.booted():
         instance = check_services(debian)
         update(debian, new, version, instance)
+        purge(debian)
+        update_from_02(debian, new)
         purge(debian)
     after = files(debian)
     left = sorted(it for it in after - before if not STATE.search(it))
@@ -124,14 +134,13 @@ def client(command: str) -> str:
 
 
 def check_services(debian: Fresh) -> str:
-    """By the commands of docs/install.md, both services start as accounts of their own, and create an instance. Returns
-    its id.
+    """By the commands of docs/install.md, both services start as accounts of their own. Returns the id of an instance
+    that they have created.
     """
     failed = debian.run("systemctl start osb-broker 2>&1 || systemctl show -p AssertResult osb-broker")
     assert failed.splitlines()[-1] == "AssertResult=no"
-    started = "|| { journalctl -o cat -n 50; exit 1; }"
-    for beginning in ("sudo sh -c 'umask 077; ", "sudo osb-platform key "):
-        debian.run(commands(beginning).replace("osb-broker\n", f"osb-broker {started}\n"))
+    for beginning in SECRETS:
+        start(debian, commands(beginning))
     for unit in ("osb-broker", "osb-platform"):
         about = properties(debian, unit)
         assert (about["ActiveState"], about["SubState"], about["Type"]) == ("active", "running", "notify")
@@ -139,16 +148,34 @@ def check_services(debian: Fresh) -> str:
         (user,) = re.findall(r"^Uid:\t(\d+)", status, re.MULTILINE)
         assert 61184 <= int(user) <= 65519  # the accounts of DynamicUser
         assert re.search(r"^CapEff:\t0+$", status, re.MULTILINE) and "NoNewPrivs:\t1\nSeccomp:\t2\n" in status
-    instance = debian.run(commands("export OSB_PLATFORM_STORE=")).split()[-1]
-    debian.run(client(f"bind {instance} --wait"))
-    assert len(debian.run("ls /var/lib/osb-broker/instances").split()) == 1
+    check_first_instance(debian)
+    debian.run(f"{client('create --id kept --service folder --plan at-once --wait')}\n{client('bind kept --wait')}")
+    assert len(instances(debian)) == 1
     reload(debian)
-    return instance
+    return "kept"
+
+
+def check_first_instance(debian: Fresh) -> None:
+    """In one shell, the page's first instance and its binding are created and deleted."""
+    printed = debian.run(commands("export OSB_PLATFORM_STORE=") + commands("osb-platform bind first")).splitlines()
+    assert printed[:2] == ["first", "first/app"]
+    assert json.loads(printed[2])
+    assert instances(debian) == set()
+
+
+def instances(debian: Fresh) -> set[str]:
+    """The ids of the instances whose folders the broker has."""
+    return set(debian.run("ls /var/lib/osb-broker/instances").split())
 
 
 def commands(beginning: str) -> str:
     """The commands of a block of docs/install.md, for root."""
-    return block("docs/install.md", beginning).replace("sudo ", "")
+    return block(PAGE, beginning).replace("sudo ", "")
+
+
+def start(debian: Fresh, script: str) -> None:
+    """Runs a script that starts services. If one doesn't start, the log is printed."""
+    debian.run(f"trap 'journalctl -o cat -n 50' ERR\n{script}")
 
 
 def reload(debian: Fresh) -> None:
@@ -171,10 +198,22 @@ def update(debian: Fresh, package: str, version: str, instance: str) -> None:
     for unit, number in before.items():
         about = properties(debian, unit)
         assert about["ActiveState"] == "active" and about["MainPID"] != number
-    assert debian.run(client("list")).startswith(f"{instance}\tready\t")
-    poll = f"http://127.0.0.1:8080/v2/service_instances/{instance}/last_operation"
-    ask = f"curl -s -u platform:secret -H 'X-Broker-API-Version: 2.17' {poll}"
-    assert debian.run(ask) == '{"state":"succeeded"}'
+    assert states(debian)[instance] == "ready"
+    assert poll(debian, instance) == SUCCEEDED
+
+
+SUCCEEDED = '{"state":"succeeded"}'
+
+
+def poll(debian: Fresh, instance: str) -> str:
+    """What the broker answers about the last operation of an instance."""
+    url = f"http://127.0.0.1:8080/v2/service_instances/{instance}/last_operation"
+    return debian.run(f"curl -s -u platform:secret -H 'X-Broker-API-Version: 2.17' {url}")
+
+
+def states(debian: Fresh) -> dict[str, str]:
+    """The state of each instance of the platform."""
+    return dict(it.split("\t")[:2] for it in debian.run(client("list")).splitlines())
 
 
 def purge(debian: Fresh) -> None:
@@ -183,3 +222,49 @@ def purge(debian: Fresh) -> None:
     assert debian.run("systemctl list-units --all --no-legend 'osb-*' | grep -v not-found || true") == ""
     assert debian.run("ps -e -o comm= 2>/dev/null | grep osb- || true") == ""
     debian.run("! test -e /etc/osb/broker-password")
+
+
+def update_from_02(debian: Fresh, package: str) -> None:
+    """By the commands of docs/install.md, the services go on with what the programs of version 0.2 have left."""
+    debian.run(commands("sudo rm -r /var/lib/osb-broker "))
+    debian.run(f"{INSTALL} {package}")
+    for beginning in SECRETS:
+        debian.run(commands(beginning).splitlines()[0])  # the second line starts a service
+    old_state.write(debian.top / "srv/.local/state")
+    debian.run("chown -R 1000:1000 ~/.local && chmod -R go= ~/.local")  # the state of a user
+    move, start_services, store_password = commands_from_02()
+    debian.run(f"{move}\nrmdir ~/.local/state ~/.local")  # nothing else is left there
+    start(debian, start_services)
+    check_state_of_02(debian)
+    debian.run(store_password)
+    check_convergence(debian)
+
+
+def commands_from_02() -> list[str]:
+    """The blocks of docs/install.md, "From version 0.2", for root."""
+    section = read(PAGE).partition("### From version 0.2\n")[2].partition("## ")[0]
+    found = [it for it in blocks(PAGE) if f"\n\n{indent(it, '    ')}\n" in section]
+    return [it.replace("sudo ", "") for it in found]
+
+
+def check_state_of_02(debian: Fresh) -> None:
+    """While the platform has no password, both programs have the instances that version 0.2 had."""
+    assert sorted(debian.run(f"{client('list')} | cut -f 1-5").splitlines()) == old_state.LISTED
+    for instance in (old_state.AT_ONCE, old_state.LATER):
+        assert poll(debian, instance) == SUCCEEDED
+    assert instances(debian) == {old_state.AT_ONCE, old_state.LATER}
+
+
+def check_convergence(debian: Fresh) -> None:
+    """The pending deletion and the pending creation succeed, and so does one more deletion."""
+    wanted = {it: "gone" for it in (old_state.AT_ONCE, old_state.GONE)}
+    wanted |= {it: "ready" for it in (old_state.LATER, old_state.ORDERED)}
+    with contextlib.suppress(AssertionError):
+        waiting.until(lambda: states(debian) == wanted)
+    assert states(debian) == wanted, debian.run("journalctl -o cat -n 50")
+    assert instances(debian) == {old_state.LATER, old_state.ORDERED}
+    for instance in (old_state.LATER, old_state.ORDERED):
+        assert poll(debian, instance) == SUCCEEDED
+    debian.run(client(f"remove {old_state.LATER} --wait"))
+    assert states(debian) == {**wanted, old_state.LATER: "gone"}
+    assert instances(debian) == {old_state.ORDERED}

@@ -10,6 +10,7 @@ import (
 
 	pgsession "pippinterm/broker/postgres/session"
 	"pippinterm/platform"
+	"pippinterm/platform/vault"
 	"pippinterm/program"
 	"pippinterm/program/sqlite"
 )
@@ -76,41 +77,46 @@ type need int
 const (
 	needsStore need = iota // a store that exists
 	needsKey               // that, and the vault, if there is a file with its key
-	makesStore             // the same, but the store is created if there is none
 )
 
-// over is the RunE of a command over the store.
+// over is the RunE of a command over a store that exists.
 func (a *app) over(
 	needs need, do func(ctx context.Context, c *cobra.Command, s session, arguments []string) error,
 ) func(*cobra.Command, []string) error {
-	return func(c *cobra.Command, arguments []string) (err error) {
-		ctx := c.Context()
-		open := existingStore
-		if needs == makesStore {
-			open = openStore
-		}
-		store, err := open(ctx, a.places.store, 1)
+	return func(c *cobra.Command, arguments []string) error {
+		store, err := existingStore(c.Context(), a.places.store, 1)
 		if err != nil {
 			return err
 		}
-		defer func() {
-			if failed := store.Close(); err == nil && failed != nil {
-				err = failed
-			}
-		}()
-		var vault platform.Vault
-		if needs != needsStore {
-			opened, err := openVault(ctx, a.places.keys(), store, warner(c.ErrOrStderr()))
-			if err != nil {
-				return a.judged(err)
-			}
-			if opened != nil {
-				vault = opened
+		var keys *vault.Vault
+		if needs == needsKey {
+			if keys, err = readVault(a.places.keys(), warner(c.ErrOrStderr())); err != nil {
+				return closed(store, err)
 			}
 		}
-		s := session{store: store, vault: vault, orders: platform.NewOrders(store, vault)}
-		return a.judged(do(ctx, c, s, arguments))
+		return closed(store, a.within(c.Context(), store, keys, func(s session) error {
+			return do(c.Context(), c, s, arguments)
+		}))
 	}
+}
+
+// within calls do in a session over a store, with these keys or nil.
+func (a *app) within(ctx context.Context, store platform.Store, keys *vault.Vault, do func(session) error) error {
+	if keys != nil {
+		if err := checkVault(ctx, store, keys); err != nil {
+			return a.judged(err)
+		}
+	}
+	sealing := asVault(keys)
+	return a.judged(do(session{store: store, vault: sealing, orders: platform.NewOrders(store, sealing)}))
+}
+
+// closed closes a store, and returns the error of what was done with it, or else that of Close.
+func closed(store platform.Store, err error) error {
+	if failed := store.Close(); err == nil {
+		return failed
+	}
+	return err
 }
 
 // wrapUsage has the options of all commands shown in lines that fit a wide terminal.

@@ -156,31 +156,62 @@ func addCommand(a *app) *cobra.Command {
 		Example: `  osb-platform broker add shop https://broker.example/postgres --password-file password
   OSB_PLATFORM_PASSWORD=secret osb-platform broker add local http://127.0.0.1:8080 --user platform --store-password`,
 		Args: wants("NAME", "URL"),
-		RunE: a.over(makesStore, func(ctx context.Context, c *cobra.Command, s session, arguments []string) error {
-			broker := platform.Broker{Name: arguments[0], URL: arguments[1], User: l.user, Settings: l.settings}
-			s.orders.AllowHTTP(l.allowHTTP)
-			warn := warner(c.ErrOrStderr())
-			password, err := l.password(c.InOrStdin(), s.vault, warn)
-			if err != nil {
-				return err
-			}
-			if broker.PasswordFile, err = absolute(l.passwordFile); err != nil {
-				return err
-			}
-			asking, err := l.client(s.vault, warn)
-			if err != nil {
-				return err
-			}
-			defer asking.Close()
-			if err := s.orders.AddBroker(ctx, broker, password); err != nil {
-				return err
-			}
-			return s.askCatalogue(ctx, broker.Name, asking, warn)
-		}),
+		RunE: func(c *cobra.Command, arguments []string) error {
+			return a.addBroker(c, l, platform.Broker{
+				Name: arguments[0], URL: arguments[1], User: l.user, Settings: l.settings,
+			})
+		},
 	}
 	l.add(made.Flags(), "platform")
 	return made
 }
+
+// addBroker adds a broker, and creates the store if there is none. A command that is rejected must not leave an empty
+// store behind. So everything that can be checked without the store is checked first.
+func (a *app) addBroker(c *cobra.Command, l *login, broker platform.Broker) error {
+	ctx, warn := c.Context(), warner(c.ErrOrStderr())
+	if err := checkPlace(a.places.store); err != nil {
+		return err
+	}
+	keys, err := readVault(a.places.keys(), warn)
+	if err != nil {
+		return err
+	}
+	password, err := l.password(c.InOrStdin(), asVault(keys), warn)
+	if err != nil {
+		return err
+	}
+	if broker.PasswordFile, err = absolute(l.passwordFile); err != nil {
+		return err
+	}
+	asking, err := l.client(asVault(keys), warn)
+	if err != nil {
+		return err
+	}
+	defer asking.Close()
+	addTo := func(orders *platform.Orders) error {
+		orders.AllowHTTP(l.allowHTTP)
+		return orders.AddBroker(ctx, broker, password)
+	}
+	if err := addTo(platform.NewOrders(dryStore{}, asVault(keys))); err != nil {
+		return a.judged(err)
+	}
+	store, err := openStore(ctx, a.places.store, 1)
+	if err != nil {
+		return err
+	}
+	return closed(store, a.within(ctx, store, keys, func(s session) error {
+		if err := addTo(s.orders); err != nil {
+			return err
+		}
+		return s.askCatalogue(ctx, broker.Name, asking, warn)
+	}))
+}
+
+// A dryStore takes a broker that orders have checked, and keeps nothing.
+type dryStore struct{ platform.Store }
+
+func (dryStore) AddBroker(context.Context, platform.Broker) error { return nil }
 
 func setCommand(a *app) *cobra.Command {
 	l := &login{}
@@ -248,7 +279,7 @@ func brokersCommand(a *app) *cobra.Command {
 		Use:   "list",
 		Short: "List the brokers",
 		Long: `List the brokers. The columns are name, url, user, since when the catalogue is as it is, and
-why the broker didn't answer it last. They are separated by tabs.`,
+why the broker didn't answer its catalogue the last time. They are separated by tabs.`,
 		Example: `  osb-platform broker list`,
 		RunE: a.over(needsStore, func(ctx context.Context, c *cobra.Command, s session, _ []string) error {
 			brokers, err := s.store.Brokers(ctx)
@@ -278,7 +309,7 @@ func orNone(text string) string {
 func dropCommand(a *app) *cobra.Command {
 	return &cobra.Command{
 		Use:     "drop NAME",
-		Short:   "Drop a broker of which nothing was ever ordered",
+		Short:   "Drop a broker for which no order was ever written",
 		Example: `  osb-platform broker drop shop`,
 		Args:    wants("NAME"),
 		RunE: a.over(needsStore, func(ctx context.Context, _ *cobra.Command, s session, arguments []string) error {

@@ -2,8 +2,11 @@ package main
 
 import (
 	"encoding/pem"
+	"errors"
+	"io/fs"
 	"net/http"
 	"net/http/httptest"
+	"os"
 	"path/filepath"
 	"strings"
 	"testing"
@@ -85,6 +88,36 @@ func TestStoredPassword(t *testing.T) {
 	if got.status != 0 {
 		t.Errorf("with both keys: %+v", got)
 	}
+}
+
+// A broker that is rejected leaves no store behind, and no folder for one.
+func TestRejectedBrokerLeavesNoStore(t *testing.T) {
+	t.Setenv("XDG_STATE_HOME", t.TempDir())
+	t.Setenv(passwordVariable, "")
+	key, password := newKey(t), filepath.Join(t.TempDir(), "password")
+	write(t, password, "secret\n")
+	folder := filepath.Join(t.TempDir(), "state")
+	store := filepath.Join(folder, "store")
+	for _, it := range []line{
+		{"one http://127.0.0.1:1 --store-password", 2, ``, `.*--key-file FILE.*`},
+		{"one http://127.0.0.1:1 --store-password --key-file /nowhere/key", 2, ``, `.*/nowhere/key.*`},
+		{"one http://127.0.0.1:1 --store-password --key-file " + key, 2, ``, `.*set OSB_PLATFORM_PASSWORD.*`},
+		{"one http://127.0.0.1:1", 2, ``, `.*has no password.*`},
+		{"one http://127.0.0.1:1 --password-file /nowhere/password", 2, ``, `.*/nowhere/password.*`},
+		{"one http://127.0.0.1:1 --tls-ca /nowhere/ca --password-file " + password, 2, ``, `.*/nowhere/ca.*`},
+		{"One http://127.0.0.1:1 --password-file " + password, 2, ``, `.*the name of a broker.*`},
+		{"one http://192.0.2.1 --password-file " + password, 2, ``, `.*with http://.*`},
+	} {
+		it.arguments = "broker add " + it.arguments
+		check(t, store, []line{it})
+		if _, err := os.Stat(folder); !errors.Is(err, fs.ErrNotExist) {
+			t.Fatalf("%s leaves %s (%v)", it.arguments, folder, err)
+		}
+	}
+	check(t, store, []line{
+		{"broker add one http://127.0.0.1:1 --password-file " + password, 0, ``, `.*warning: .*`},
+		{"broker list", 0, "one\thttp://127.0.0.1:1\t.*", ``},
+	})
 }
 
 // With the authority of its certificate, the catalogue of a broker is read at once.

@@ -22,7 +22,7 @@ func createCommand(a *app) *cobra.Command {
 	made := &cobra.Command{
 		Use:   "create",
 		Short: "Create an instance, and print its id",
-		Long: `Write down an instance to create, and print its id. 'run' sends the request.
+		Long: `Create an instance, and print its id: the order is written to the store, and 'run' sends the request.
 
 If the creation fails for a reason that may pass, such as a timeout or a 503, it is tried again under another id,
 --tries times in all. With --id it is tried once, unless --tries says otherwise. 'show' has the ids of all tries.`,
@@ -70,9 +70,9 @@ func bindCommand(a *app) *cobra.Command {
 	made := &cobra.Command{
 		Use:   "bind INSTANCE",
 		Short: "Create a binding of an instance that is ready, and print its id",
-		Long: `Write down a binding to create, and print its id: that of the instance, a slash, and its own. 'run' sends
-the request. Once the binding is ready, 'credentials' prints its credentials. They are kept in the store, encrypted with
-the key of --key-file.`,
+		Long: `Create a binding, and print its id, INSTANCE/BINDING: the order is written to the store, and 'run' sends
+the request. Once the binding is ready, 'credentials' prints its credentials. The store keeps them, encrypted with the
+key of --key-file.`,
 		Example: `  osb-platform bind 5f1b7c0e-2f0b-4d0a-9d3e-6a3f0e1f2a3b --wait
   osb-platform bind my-database --resource '{"app_guid": "one"}'`,
 		Args: wants("INSTANCE"),

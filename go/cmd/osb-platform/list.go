@@ -45,8 +45,8 @@ func listCommand(a *app) *cobra.Command {
 first, or with --latest the latest.
 
 The columns are ` + namesOfColumns() + `.
-On a terminal they are below a head. Elsewhere they are separated by tabs, without a head. What needs attention is
-printed on standard error.
+On a terminal they are below a header. Elsewhere they are separated by tabs, without a header. Standard error has what
+needs attention.
 
 --json prints an object on each line.`,
 		Example: `  osb-platform list --state unsettled --reasons

@@ -31,9 +31,9 @@ environment:
 
 exit status: 0 done; 1 rejected: an id or a broker is unknown, used already, or in a state
 that doesn't allow it; 2 change something first: an argument, a file, a password or a right;
-3 --wait: it has ended otherwise than asked for; 4 --wait: the time is over, or the wait was
-interrupted, and it goes on; 75 the store is away, its disk is full, or another worker has
-the name, so try again; 70 any other error`
+3 --wait: it has ended in another state than you asked for; 4 --wait: the wait timed out or was
+interrupted, and the creation or the deletion goes on; 75 the store isn't available, its disk is
+full, or another worker has the name, so try again; 70 any other error`
 
 func rootCommand(a *app) *cobra.Command {
 	root := &cobra.Command{
@@ -41,9 +41,10 @@ func rootCommand(a *app) *cobra.Command {
 		Short:   "A platform under the Open Service Broker API 2.17",
 		Version: program.Version(),
 		Long: `A platform under the Open Service Broker API 2.17. It creates instances and bindings of any number of
-brokers, goes on with each until it is ready or gone, and loses none.
+brokers, and deletes them.
 
-The commands write down what is wanted, and 'run' sends it. 'run' may be killed at any moment and started again.
+'create', 'bind', 'unbind' and 'remove' only write to the store, and 'run' sends the requests. You may kill 'run' at any
+moment and start it again.
 
     osb-platform broker add shop https://broker.example --user platform --password-file password
     osb-platform run &

@@ -16,13 +16,13 @@ func removeCommand(a *app) *cobra.Command {
 	withBindings, wait := false, &waiting{}
 	made := &cobra.Command{
 		Use:   "remove ID",
-		Short: "Have an instance deleted",
-		Long: `Write down that an instance is to be deleted. 'run' sends the request. An order that wasn't sent yet is
-withdrawn: it never will be sent. If the instance is gone or withdrawn already, that is printed.
+		Short: "Delete an instance",
+		Long: `Delete an instance: the removal is written to the store, and 'run' sends the request. An order that
+wasn't sent yet is withdrawn: it is never sent. If the instance is gone or withdrawn already, that is printed.
 
 If the creation was tried again under other ids, the last try is removed. Standard error has its id.
 
-An instance with bindings can't be removed, unless --bindings has them removed first.`,
+An instance with bindings is removed only with --bindings, which removes its bindings first.`,
 		Example: `  osb-platform remove 5f1b7c0e-2f0b-4d0a-9d3e-6a3f0e1f2a3b --bindings --wait`,
 		Args:    wants("ID"),
 		RunE: a.over(needsStore, func(ctx context.Context, c *cobra.Command, s session, arguments []string) error {
@@ -42,9 +42,10 @@ const printsEnd = "Standard error gets the state at the end"
 func unbindCommand(a *app) *cobra.Command {
 	wait := &waiting{}
 	made := &cobra.Command{
-		Use:     "unbind INSTANCE/BINDING",
-		Short:   "Have a binding deleted",
-		Long:    "Write down that a binding is to be deleted. 'run' sends the request. Its credentials stop working.",
+		Use:   "unbind INSTANCE/BINDING",
+		Short: "Delete a binding",
+		Long: `Delete a binding: the removal is written to the store, and 'run' sends the request. The credentials of
+the binding stop working.`,
 		Example: `  osb-platform unbind my-database/5f1b7c0e-2f0b-4d0a-9d3e-6a3f0e1f2a3b --wait`,
 		Args:    wants("INSTANCE/BINDING"),
 		RunE: a.over(needsStore, func(ctx context.Context, c *cobra.Command, s session, arguments []string) error {
@@ -134,9 +135,9 @@ func retryCommand(a *app) *cobra.Command {
 	return &cobra.Command{
 		Use:   "retry ID",
 		Short: "Send at once what is due later, and a deletion again that is polled without an end",
-		Long: `Send the next request of an instance or a binding at once. If the broker has accepted a deletion,
-and polling it doesn't end, the deletion is sent again. For what is unsettled nothing is sent: 'ask' says which command
-leads on.`,
+		Long: `Send the next request of an instance or a binding at once. A deletion still waits for the hold of its
+broker. If the broker has accepted a deletion, and polling it doesn't end, the deletion is sent again. For what is
+unsettled nothing is sent: 'ask' says which command leads on.`,
 		Example: `  osb-platform retry 5f1b7c0e-2f0b-4d0a-9d3e-6a3f0e1f2a3b`,
 		Args:    wants("ID"),
 		RunE: a.over(needsStore, func(ctx context.Context, _ *cobra.Command, s session, arguments []string) error {
@@ -170,9 +171,9 @@ func abandonCommand(a *app) *cobra.Command {
 	text := ""
 	made := &cobra.Command{
 		Use:   "abandon ID --because TEXT",
-		Short: "End a record although nobody knows what exists, for example because its broker is no more",
+		Short: "End a record although nobody knows what exists, for example if its broker doesn't exist any more",
 		Long: `End the record of an instance or a binding as abandoned. Nothing more is sent. Nobody knows whether the
-resource exists: first have the operator of the broker look. 'list' keeps it, with the reason.`,
+resource exists, so first ask the operator of the broker to look. 'list' keeps the record, with the reason.`,
 		Example: `  osb-platform abandon my-database --because 'the broker was shut down, ticket 4711'`,
 		Args:    wants("ID"),
 		RunE: a.over(needsStore, func(ctx context.Context, _ *cobra.Command, s session, arguments []string) error {
@@ -188,6 +189,6 @@ resource exists: first have the operator of the broker look. 'list' keeps it, wi
 			return err
 		}),
 	}
-	made.Flags().StringVar(&text, "because", "", "the reason, a `text` for whoever reads it later")
+	made.Flags().StringVar(&text, "because", "", "the reason, a `text` for people who read the record later")
 	return made
 }

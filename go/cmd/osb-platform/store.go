@@ -75,8 +75,8 @@ func (p *places) keys() []string {
 // existingStore is openStore of a store that exists. It creates none. A command that only reads or orders would
 // otherwise answer from an empty store if the name of the store is misspelt.
 func existingStore(ctx context.Context, place string, most int) (platform.Store, error) {
-	if err := program.CheckPlace(place); err != nil {
-		return nil, program.Unusable(fmt.Errorf("the store: %w", err))
+	if err := checkPlace(place); err != nil {
+		return nil, err
 	}
 	if !pgsession.IsAddress(place) {
 		store, err := sqlite.OpenExisting(ctx, place)
@@ -84,9 +84,6 @@ func existingStore(ctx context.Context, place string, most int) (platform.Store,
 			return nil, missing(place, err, ofFile)
 		}
 		return store, nil
-	}
-	if err := checkAddress(place); err != nil {
-		return nil, err
 	}
 	store, err := postgres.OpenExisting(ctx, place, most)
 	if err != nil {
@@ -108,14 +105,11 @@ func missing(place string, err error, other func(error) error) error {
 //
 // Errors: program.Unusable for what an operator has to change, and program.Unavailable for a server that is away.
 func openStore(ctx context.Context, place string, most int) (platform.Store, error) {
-	if err := program.CheckPlace(place); err != nil {
-		return nil, program.Unusable(fmt.Errorf("the store: %w", err))
+	if err := checkPlace(place); err != nil {
+		return nil, err
 	}
 	if !pgsession.IsAddress(place) {
 		return openFile(ctx, place)
-	}
-	if err := checkAddress(place); err != nil {
-		return nil, err
 	}
 	store, err := postgres.Open(ctx, place, most)
 	if err != nil {
@@ -124,8 +118,14 @@ func openStore(ctx context.Context, place string, most int) (platform.Store, err
 	return store, nil
 }
 
-// checkAddress returns an error if a URL can't be read, or has a password.
-func checkAddress(place string) error {
+// checkPlace returns an error if a place is neither a path nor a URL of PostgreSQL without a password.
+func checkPlace(place string) error {
+	if err := program.CheckPlace(place); err != nil {
+		return program.Unusable(fmt.Errorf("the store: %w", err))
+	}
+	if !pgsession.IsAddress(place) {
+		return nil
+	}
 	has, err := pgsession.HasPassword(place)
 	switch {
 	case err != nil:
@@ -179,6 +179,18 @@ func away(err error) error {
 func openVault(
 	ctx context.Context, files []string, store platform.Store, warn func(string),
 ) (*vault.Vault, error) {
+	opened, err := readVault(files, warn)
+	if err != nil || opened == nil {
+		return nil, err
+	}
+	if err := checkVault(ctx, store, opened); err != nil {
+		return nil, err
+	}
+	return opened, nil
+}
+
+// readVault is openVault without a store: call checkVault before you use the vault over one.
+func readVault(files []string, warn func(string)) (*vault.Vault, error) {
 	if len(files) == 0 {
 		return nil, nil
 	}
@@ -189,10 +201,15 @@ func openVault(
 	for _, it := range warnings {
 		warn(it)
 	}
-	if err := checkVault(ctx, store, opened); err != nil {
-		return nil, err
-	}
 	return opened, nil
+}
+
+// asVault is a vault as orders use it: nil if there is none.
+func asVault(keys *vault.Vault) platform.Vault {
+	if keys == nil {
+		return nil
+	}
+	return keys
 }
 
 // checkVault returns an error unless a vault can be used over a store.

@@ -19,9 +19,9 @@ type attention struct {
 const (
 	todoUnreadable = "Nothing is sent for such a record. `osb-platform show ID` shows why it can't be read, and " +
 		"`osb-platform list` finds all such records."
-	todoUnsettled = "For each, run `osb-platform ask ID`, which asks the broker what it has. Run " +
-		"`osb-platform remove ID` if the broker answers 410, or if it answers 200 for your service and plan and the " +
-		"instance is yours: that deletes it at the broker."
+	todoUnsettled = "For each, run `osb-platform ask ID`, which asks the broker for its last operation and prints what " +
+		"to do. Run `osb-platform remove ID` only if `ask` advises it, for example after a 410, or after a 200 if it is " +
+		"yours: that deletes it at the broker."
 	todoLong = "For each, see the broker's reason. `osb-platform retry ID` sends the deletion again, and " +
 		"`osb-platform abandon ID` ends the record."
 )

@@ -26,19 +26,19 @@ func (l look) one(path string, query url.Values, f frame) (*one, error) {
 		return nil, err
 	}
 	f.still(l.isStill, targetOf(r, !l.isStill))
-	o := &one{
-		frame: f, ID: nameOf(r), Heading: "Instance", State: plain(r.State), Since: l.moment(r.Since), Known: l.known(r),
-	}
+	o := &one{frame: f, ID: nameOf(r), Heading: "Instance", State: plain(r.State), Since: l.moment(r.Since)}
 	o.Title = o.State + ": " + o.ID
 	o.Todo = todo(r)
 	l.whole(o, r)
 	if r.IsBinding() {
-		o.Heading = "Binding"
+		o.Heading, o.Known = "Binding", l.known(r, apiclient.Reason{})
 		return o, nil
 	}
-	if o.Tries, err = l.tries(r); err != nil {
+	tries, err := l.tries(r)
+	if err != nil {
 		return nil, err
 	}
+	o.Known, o.Tries = l.known(r, l.whyBefore(r, tries)), l.chain(tries)
 	o.Bindings, err = l.bindings(r)
 	return o, err
 }
@@ -52,8 +52,9 @@ func todo(r apiclient.Record) []words {
 	switch r.State {
 	case apiclient.Unsettled:
 		return marked("It needs attention: nobody knows whether the broker holds it, or another one under the same " +
-			"id. Ask the broker for its last operation. Run `" + remove + r.Key() + "` only if the broker " +
-			"answers 200 for your service and plan: that deletes it at the broker.")
+			"id. Run `osb-platform ask " + r.Key() + "`, which asks the broker for its last operation and prints what " +
+			"to do. Run `" + remove + r.Key() + "` only if `ask` advises it, for example after a 410, or after a 200 " +
+			"if it is yours: that deletes it at the broker.")
 	case apiclient.Abandoned:
 		return marked("It was abandoned. Nothing is sent for it any more, and nobody knows whether the broker holds it.")
 	}
@@ -82,25 +83,42 @@ func (l look) whole(o *one, r apiclient.Record) {
 	}
 }
 
-// tries are all orders of a chain, if there is one.
-func (l look) tries(r apiclient.Record) (*rows, error) {
+// tries are all orders of a chain, if there may be one.
+func (l look) tries(r apiclient.Record) ([]apiclient.Record, error) {
 	if r.Try <= 1 && !r.FailureMayPass {
 		return nil, nil
 	}
 	found, err := l.api.List(l.ctx, apiclient.Query{
 		Kind: apiclient.Instances, First: r.First, Life: spans + 1, Limit: mostBound,
 	})
-	if err != nil || len(found.Items) < 2 {
-		return nil, err
+	return found.Items, err
+}
+
+// whyBefore is why the try before has failed, if this is a further try that waits.
+func (l look) whyBefore(r apiclient.Record, tries []apiclient.Record) apiclient.Reason {
+	if !l.waits(r) {
+		return apiclient.Reason{}
+	}
+	for _, it := range tries {
+		if it.Try == r.Try-1 {
+			return it.Failure
+		}
+	}
+	return apiclient.Reason{}
+}
+
+// chain shows the tries of an order that was tried again, and is nil for any other order.
+func (l look) chain(tries []apiclient.Record) *rows {
+	if len(tries) < 2 {
+		return nil
 	}
 	shown := &rows{
-		Caption: thousands(len(found.Items)) + " tries of one order, each under another id",
-		Rows:    l.rowsOf(found.Items, "try"),
+		Caption: thousands(len(tries)) + " tries of one order, each under another id", Rows: l.rowsOf(tries, "try"),
 	}
-	for at, it := range found.Items {
+	for at, it := range tries {
 		shown.Rows[at].Notes = append([]string{"try " + strconv.Itoa(it.Try)}, shown.Rows[at].Notes...)
 	}
-	return shown, nil
+	return shown
 }
 
 // bindings are those of an instance.
@@ -121,8 +139,9 @@ func (l look) bindings(r apiclient.Record) (*rows, error) {
 	return shown, nil
 }
 
-// known is what is known of a row. What it was ordered with may be secret, and isn't shown.
-func (l look) known(r apiclient.Record) (all []known) {
+// known is what is known of a row. What it was ordered with may be secret, and isn't shown. before is why the try
+// before has failed, if the row is a further try that waits.
+func (l look) known(r apiclient.Record, before apiclient.Reason) (all []known) {
 	text := func(name, text string) {
 		if text != "" {
 			all = append(all, known{Name: name, Text: cut(plain(text), longestText)})
@@ -155,6 +174,7 @@ func (l look) known(r apiclient.Record) (all []known) {
 	}
 	said("Last answer", r.Last)
 	said("Why it failed", r.Failure)
+	said("Why the try before failed", before)
 	if r.State == apiclient.Polling || r.State == apiclient.CleaningPolling {
 		when("Polled since", momentOf(r.PolledSince, l.now))
 	}

@@ -20,7 +20,8 @@ func TestFirstPage(t *testing.T) {
 		`id="go-binding-ready"><strong>1</strong>`, `data-refresh="5"`, "As of <time", "2026-01-03 03:04:05")
 	waiting := part(t, text, "waiting")
 	has(t, waiting, "<h3>1 unsettled</h3>", "1, the longest first", "<h3>Being deleted for over 1 h</h3>",
-		"2, the longest first", "<code>osb-platform remove ID</code>", `id="waits-`+idOf(9).String()+`"`,
+		"2, the longest first", "<code>osb-platform remove ID</code> only if <code>ask</code> advises it",
+		`id="waits-`+idOf(9).String()+`"`,
 		`id="waits-`+idOf(6).String()+`"`, `id="waits-`+idOf(7).String()+`"`,
 		"2026-01-02 03:04:05</time> <span class=\"ago\">(1 day ago)",
 		"The broker shut rejects the user or the password")
@@ -150,7 +151,9 @@ func TestInstancePage(t *testing.T) {
 	bound := got(t, pageOf(t, store, Options{}), linkOf(text, "b-"+e.Key.String()+"/"+idOf(0x51).String()))
 	has(t, bound, "<h1>Binding <code>"+idOf(0x51).String(), `<a href="`+pageOn(e.Key)+`" id="instance">`)
 	unsettled := got(t, pageOf(t, store, Options{}), pageOn(store.rows[8].Key))
-	has(t, unsettled, "<code>osb-platform remove "+store.rows[8].Key.String())
+	has(t, unsettled, "<code>osb-platform ask "+store.rows[8].Key.String(),
+		"<code>osb-platform remove "+store.rows[8].Key.String(),
+		"only if <code>ask</code> advises it, for example after a 410, or after a 200")
 }
 
 // The tries of an order are shown with each of them, in the order in which they are listed.
@@ -173,6 +176,34 @@ func TestChainOfTries(t *testing.T) {
 	alone := got(t, pageOf(t, shelf(), Options{}), pageOn(shelf().rows[4].Key))
 	if strings.Contains(alone, `id="tries"`) {
 		t.Error("an order without a further try has a chain")
+	}
+}
+
+// A further try that isn't due yet says until when it waits, and on its own page why. Any other order says neither.
+func TestWaitingTry(t *testing.T) {
+	const until, why = "<span>waits until 2026-01-03 03:14:05</span>", "<dt>Why the try before failed</dt>" +
+		`<dd>provision, status 503, no room <span class="ago">(1 day ago)</span></dd>`
+	for name, it := range map[string]struct {
+		try  int
+		wait time.Duration
+		want int
+	}{
+		"a further try that waits": {2, 10 * time.Minute, 1}, "one that is due": {2, 0, 0},
+		"a first try": {1, 10 * time.Minute, 0},
+	} {
+		before := entryOf(platform.InstanceKey(idOf(1)), platform.Gone)
+		before.Passing = true
+		before.Failure = platform.Reason{At: began, Kind: "provision", Status: 503, Description: "no room"}
+		e := entryOf(platform.InstanceKey(idOf(2)), platform.Ordered)
+		e.Try, e.First, e.Due = it.try, idOf(1), now.Add(it.wait)
+		h := pageOf(t, &fake{now: now, rows: []platform.Entry{before, e}}, Options{})
+		for target, part := range map[string]string{
+			"/": until, "/?state=ordered": until, "/?find=00000002": until, pageOn(e.Key): why, pageOn(before.Key): until,
+		} {
+			if text := got(t, h, target); strings.Count(text, part) != it.want {
+				t.Errorf("%s: %s: it isn't %d times %q: %s", name, target, it.want, part, mainOf(text))
+			}
+		}
 	}
 }
 

@@ -69,10 +69,21 @@ func (l look) row(r apiclient.Record, kind string) row {
 	if removals[r.Removal] != "" && r.State != apiclient.Gone && r.State != apiclient.Withdrawn {
 		shown.Notes = append(shown.Notes, "removal is asked for")
 	}
+	if l.waits(r) {
+		shown.Notes = append(shown.Notes, "waits until "+l.moment(r.Due).Text)
+	}
 	if shown.Reason = cut(why(r), longestReason); shown.Reason != "" {
 		shown.Notes = append(shown.Notes, shown.Reason)
 	}
 	return shown
+}
+
+// leastWait is how long a further try must still wait for the wait to be shown.
+const leastWait = time.Second
+
+// waits is whether a row is a further try that isn't due yet.
+func (l look) waits(r apiclient.Record) bool {
+	return r.State == apiclient.Ordered && r.Try > 1 && r.Due.Sub(l.now) >= leastWait
 }
 
 // why is what explains the state of a row: that it can't be read, why it was abandoned, what its deletion was answered,

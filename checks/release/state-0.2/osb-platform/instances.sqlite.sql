@@ -1,0 +1,24 @@
+-- Written by osb-platform 0.2 (see old_state.py), as the command .dump of sqlite3 shows it.
+PRAGMA foreign_keys=OFF;
+BEGIN TRANSACTION;
+CREATE TABLE osb_instances (id text PRIMARY KEY, service text NOT NULL, plan text NOT NULL, further text NOT NULL, record text, operation text, state text NOT NULL, since double precision NOT NULL, sent_until double precision, polled_since double precision, removal integer NOT NULL, due double precision, tries integer NOT NULL, worker text, leased_until double precision);
+INSERT INTO osb_instances VALUES('4a240f95-19b7-4b5b-a00c-205ed4001890','00000000-0000-0000-0000-0000000000a0','00000000-0000-0000-0000-0000000000b1','{}','{"attempt":1,"out":null,"plan":"00000000-0000-0000-0000-0000000000b1","service":"00000000-0000-0000-0000-0000000000a0","state":"ready","version":1}',NULL,'ready',1795780558.5852563381,1795780618.5719981193,NULL,1,1795780565.9872839451,0,NULL,NULL);
+INSERT INTO osb_instances VALUES('aefa1862-6518-46b3-b489-1ed8af055444','00000000-0000-0000-0000-0000000000a0','00000000-0000-0000-0000-0000000000b2','{}','{"attempt":2,"out":null,"plan":"00000000-0000-0000-0000-0000000000b2","service":"00000000-0000-0000-0000-0000000000a0","state":"ready","version":1}',NULL,'ready',1795780561.193498373,1795780618.5722532272,1795780558.5801560878,0,NULL,0,NULL,NULL);
+INSERT INTO osb_instances VALUES('c3a6e296-9cc2-4d8d-a2b9-66c53a5b1aca','00000000-0000-0000-0000-0000000000a0','00000000-0000-0000-0000-0000000000b1','{}','{"attempt":2,"out":null,"plan":"00000000-0000-0000-0000-0000000000b1","service":"00000000-0000-0000-0000-0000000000a0","state":"gone","version":1}',NULL,'gone',1795780563.2559719084,1795780618.5793845653,NULL,0,1795780565.6125695705,0,NULL,NULL);
+INSERT INTO osb_instances VALUES('180546bf-8ba5-434f-a860-c68bc8f1d167','00000000-0000-0000-0000-0000000000a0','00000000-0000-0000-0000-0000000000b1','{}',NULL,NULL,'ordered',1795780565.8114302158,NULL,NULL,0,1795780565.8114302158,0,NULL,NULL);
+CREATE TABLE osb_lives (id text NOT NULL, number integer NOT NULL, state text NOT NULL, since double precision NOT NULL, PRIMARY KEY (id, number));
+INSERT INTO osb_lives VALUES('aefa1862-6518-46b3-b489-1ed8af055444',1,'ordered',1795780558.0552914143);
+INSERT INTO osb_lives VALUES('4a240f95-19b7-4b5b-a00c-205ed4001890',1,'ordered',1795780557.8791449069);
+INSERT INTO osb_lives VALUES('c3a6e296-9cc2-4d8d-a2b9-66c53a5b1aca',1,'ordered',1795780558.2993526458);
+INSERT INTO osb_lives VALUES('aefa1862-6518-46b3-b489-1ed8af055444',2,'wanted',1795780558.5722532272);
+INSERT INTO osb_lives VALUES('4a240f95-19b7-4b5b-a00c-205ed4001890',2,'wanted',1795780558.5719981193);
+INSERT INTO osb_lives VALUES('c3a6e296-9cc2-4d8d-a2b9-66c53a5b1aca',2,'wanted',1795780558.5793845653);
+INSERT INTO osb_lives VALUES('aefa1862-6518-46b3-b489-1ed8af055444',3,'polling',1795780558.5801560878);
+INSERT INTO osb_lives VALUES('c3a6e296-9cc2-4d8d-a2b9-66c53a5b1aca',3,'ready',1795780558.5858032703);
+INSERT INTO osb_lives VALUES('c3a6e296-9cc2-4d8d-a2b9-66c53a5b1aca',4,'cleaning',1795780563.2155928611);
+CREATE TABLE osb_broker_asked (one integer PRIMARY KEY CHECK (one = 1), url text NOT NULL);
+INSERT INTO osb_broker_asked VALUES(1,'http://127.0.0.1:8080');
+CREATE INDEX osb_due_instances ON osb_instances (due) WHERE due IS NOT NULL;
+CREATE INDEX osb_instances_by_state ON osb_instances (state, since, id);
+CREATE INDEX osb_leased_instances ON osb_instances (leased_until) WHERE worker IS NOT NULL;
+COMMIT;
