@@ -1,4 +1,4 @@
-"""The package osb of Go as a module: gofmt, go vet, staticcheck, and the tests with the race detector."""
+"""The package osb of Go as a module: its tests with the race detector. test_packages.py looks at its sources."""
 from __future__ import annotations
 
 import pytest
@@ -7,18 +7,6 @@ from go.toolchain import TOP, Go
 pytestmark = pytest.mark.slow
 
 MODULE = TOP / "go" / "osb"
-
-
-def test_format(go: Go) -> None:
-    assert go(MODULE, "gofmt", "-l", ".") == ""
-
-
-def test_vet(go: Go) -> None:
-    go(MODULE, "go", "vet", "./...")
-
-
-def test_staticcheck(go: Go, staticcheck: str) -> None:
-    assert go(MODULE, staticcheck, "./...") == ""
 
 
 def test_tests(go: Go) -> None:

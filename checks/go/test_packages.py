@@ -24,22 +24,24 @@ RACE_SEEDS = 60
 
 FURTHER: dict[str, list[str]] = {
     "plain": [],
-    "crashpoints": ["crashpoints"],
-    "storm": ["storm"],
     "both": ["crashpoints", "storm"],
     "pages": ["pages"],
 }
-"""All combinations of the build tags that change the packages. With `pages` a program writes its manual pages."""
+"""Combinations of the build tags that change the packages. Each source is in one of them. The tests of crash points and
+of the storm build the packages with each tag alone. With `pages` a program writes its manual pages.
+"""
 
 TAGS = pytest.mark.parametrize("tags", [" ".join(["libsqlite3", *it]) for it in FURTHER.values()], ids=list(FURTHER))
 
 
 def test_tags() -> None:
-    """Each build tag of a source is among those that the sources are checked with."""
+    """Each source needs one build tag, or the absence of one, so that a combination has it."""
     sources = [path.read_text(encoding="utf-8") for path in (TOP / "go").rglob("*.go")]
-    lines = [it for source in sources for it in re.findall(r"^//go:build (.*)$", source, re.MULTILINE)]
-    found = {tag for line in lines for tag in re.findall(r"\w+", line)}
-    assert found - {"linux"} == {tag for tags in FURTHER.values() for tag in tags}
+    lines = {line for source in sources for line in re.findall(r"^//go:build (.*)$", source, re.MULTILINE)}
+    wanted = {tag for tags in FURTHER.values() for tag in tags}
+    assert {line.removeprefix("!") for line in lines} - {"linux"} == wanted
+    for line in lines - {"linux", "!linux"}:
+        assert any((line.removeprefix("!") in tags) != line.startswith("!") for tags in FURTHER.values())
 
 
 @TAGS
