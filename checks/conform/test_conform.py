@@ -2,21 +2,19 @@
 from __future__ import annotations
 
 import json
-import os
 import re
 import signal
 import socket
 import subprocess
-from collections.abc import Iterator
 from pathlib import Path
 
 import pytest
+from conform.login import ENVIRONMENT
 from conform.small_broker import SmallBroker
 from waiting import until
 
 pytestmark = pytest.mark.slow
 
-ENVIRONMENT = {**os.environ, "OSB_BROKER_PASSWORD": "secret"}
 # What docs/DECISIONS.md has a reason for: "A Bind is answered with 503 if its instance isn't available".
 DECIDED = "async-bind-during-provision"
 
@@ -24,41 +22,6 @@ DECIDED = "async-bind-during-provision"
 def conform(storm: Path, url: str, *arguments: str) -> subprocess.CompletedProcess[str]:
     line = [str(storm), "conform", "--url", url, "--poll-seconds", "0.01", *arguments]
     return subprocess.run(line, env=ENVIRONMENT, stdin=subprocess.DEVNULL, capture_output=True, text=True, timeout=60)
-
-
-@pytest.fixture
-def served(broker: Path, tmp_path: Path) -> Iterator[str]:
-    """The URL of osb-broker, which keeps its state in the folder `state`. Afterwards no folder is left there."""
-    with socket.create_server(("127.0.0.1", 0)) as free:
-        port = free.getsockname()[1]
-    line = [
-        str(broker),
-        "serve",
-        "--state",
-        str(tmp_path / "state"),
-        "--listen",
-        f"127.0.0.1:{port}",
-        "--sweep-seconds",
-        "0.1",
-    ]
-    with open(tmp_path / "log", "wb") as log:
-        process = subprocess.Popen(line, env=ENVIRONMENT, stdin=subprocess.DEVNULL, stderr=log)
-    try:
-        until(lambda: _answers(port), 20)
-        yield f"http://127.0.0.1:{port}"
-    finally:
-        process.terminate()
-        assert process.wait(20) == 0
-    sold = [it.name for it in (tmp_path / "state" / "instances").iterdir() if not it.name.startswith(".")]
-    assert sold == []
-
-
-def _answers(port: int) -> bool:
-    try:
-        socket.create_connection(("127.0.0.1", port)).close()
-    except OSError:
-        return False
-    return True
 
 
 def test_broker_passes(storm: Path, served: str, tmp_path: Path) -> None:

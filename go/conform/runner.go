@@ -88,14 +88,7 @@ func (r *Runner) Prefix() string { return r.prefix }
 // catalogue lacks the plan of the Config.
 func (r *Runner) Run(ctx context.Context) (*Report, error) {
 	r.ctx = ctx
-	r.fetched = r.send(request{method: "GET", path: "/v2/catalog"})
-	if err := r.fetched.err; err != nil {
-		return r.report(), fmt.Errorf("%w: %v", ErrUnreachable, err)
-	}
-	if r.fetched.is(401) {
-		return r.report(), ErrLogin
-	}
-	if err := r.choose(); err != nil {
+	if err := r.open(); err != nil {
 		return r.report(), err
 	}
 	for _, it := range scenarios() {
@@ -106,6 +99,18 @@ func (r *Runner) Run(ctx context.Context) (*Report, error) {
 		}
 	}
 	return r.report(), nil
+}
+
+// open asks for the catalogue, and chooses the plan to order.
+func (r *Runner) open() error {
+	r.fetched = r.send(request{method: "GET", path: "/v2/catalog"})
+	if err := r.fetched.err; err != nil {
+		return fmt.Errorf("%w: %v", ErrUnreachable, err)
+	}
+	if r.fetched.is(401) {
+		return ErrLogin
+	}
+	return r.choose()
 }
 
 // stopped returns why no further request may be sent, or nil.

@@ -141,18 +141,7 @@ func (s *conformSettings) write(report *conform.Report, out io.Writer) error {
 	if err := report.WriteText(out); err != nil {
 		return fmt.Errorf("the report can't be written: %w", err)
 	}
-	if s.json == "" {
-		return nil
-	}
-	file, err := os.Create(s.json)
-	if err != nil {
-		return program.Unusable(fmt.Errorf("the report can't be written: %w", err))
-	}
-	if err := report.WriteJSON(file); err != nil {
-		_ = file.Close()
-		return fmt.Errorf("the report can't be written: %w", err)
-	}
-	return file.Close()
+	return writeTo(s.json, report.WriteJSON)
 }
 
 // status returns the exit status for a report.

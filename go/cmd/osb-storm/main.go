@@ -39,10 +39,11 @@ func rootCommand(o *outcome) *cobra.Command {
 It creates instances and bindings of its own at the broker, and deletes them again.
 
     ./osb-storm conform --url http://127.0.0.1:8080 --user platform --password-file FILE
+    ./osb-storm broker --url http://127.0.0.1:8080 --user platform --password-file FILE
 
 docs/storm.md says how to run it against a broker of your own.`,
 	}
-	root.AddCommand(conformCommand(o))
+	root.AddCommand(conformCommand(o), brokerCommand(o))
 	root.CompletionOptions.DisableDefaultCmd = true
 	return root
 }

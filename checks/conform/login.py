@@ -1,0 +1,7 @@
+"""How osb-storm logs in at the brokers of these tests."""
+from __future__ import annotations
+
+import os
+
+ENVIRONMENT = {**os.environ, "OSB_BROKER_PASSWORD": "secret"}
+"""The environment of osb-storm, and of osb-broker."""

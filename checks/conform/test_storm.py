@@ -1,0 +1,107 @@
+"""`osb-storm broker` as a user runs it: its reports, its statuses, and what is left at the broker."""
+from __future__ import annotations
+
+import json
+import re
+import signal
+import socket
+import subprocess
+from pathlib import Path
+
+import pytest
+from conform.login import ENVIRONMENT
+from conform.small_broker import SmallBroker
+from conform.twice_broker import TwiceBroker
+from waiting import until
+
+pytestmark = pytest.mark.slow
+
+SHORT = (
+    *("--seconds", "4", "--instances", "20", "--fault-percent", "50", "--late-seconds", "0.8"),
+    *("--request-seconds", "0.4", "--poll-seconds", "0.1", "--seed", "1"),
+)
+
+
+def command(storm: Path, url: str, *arguments: str) -> list[str]:
+    return [str(storm), "broker", "--url", url, *SHORT, *arguments]
+
+
+def ran(line: list[str]) -> subprocess.CompletedProcess[str]:
+    return subprocess.run(line, env=ENVIRONMENT, stdin=subprocess.DEVNULL, capture_output=True, text=True, timeout=120)
+
+
+def test_broker_loses_nothing(storm: Path, served: str, tmp_path: Path) -> None:
+    """osb-broker loses nothing, whether it creates at once or by a worker."""
+    listed = f"ls {tmp_path / 'state' / 'instances'}"
+    for plan in ("at-once", "by-worker"):
+        arguments = "--service", "folder", "--plan", plan, "--list-command", listed, "--json", str(tmp_path / "json")
+        done = ran(command(storm, served, *arguments))
+        assert done.returncode == 0, done.stdout + done.stderr
+        report = json.loads((tmp_path / "json").read_text())
+        assert (report["lost"], report["false_records"], report["broken"], report["leftovers"]) == ([], [], [], [])
+        assert report["converged"] and report["instances"] == 20 and report["bindings"] > 0 and report["requests"] > 40
+        assert f"Each id begins with {report['prefix']}. The seed is 1.\n" in done.stdout
+
+
+def test_lost(storm: Path, tmp_path: Path) -> None:
+    """What a broker creates twice is found, is in all reports, and is lost again with the shortest list of faults."""
+    broker = TwiceBroker(tmp_path / "instances")
+    with broker.running():
+        arguments = "--list-command", broker.list_command, "--faults-to", str(tmp_path / "faults")
+        files = "--json", str(tmp_path / "json"), "--html", str(tmp_path / "html"), "--minimize"
+        done = ran(command(storm, broker.url, *arguments, *files))
+        assert done.returncode == 1, done.stdout + done.stderr
+        report = json.loads((tmp_path / "json").read_text())
+        lost = re.findall(r"^LOST: instance (\d+) \((.*?)\): .*it exists twice", done.stdout, re.MULTILINE)
+        assert lost == [(it["number"], it["instance"]) for it in report["lost"]] != []
+        assert [it["name"] for it in report["broken"]] == ["provision-repeated"]
+        assert all(id in (tmp_path / "html").read_text() for _, id in lost)
+        shortest = (tmp_path / "faults").read_text()
+        assert re.fullmatch(r"\d+\.\d+ repeated\S*\n", shortest)
+        assert report["minimal_fault_list"] == [shortest.strip()]
+        again = ran(command(storm, broker.url, *arguments[:2], "--faults", str(tmp_path / "faults")))
+        assert again.returncode == 1 and "1 lost, " in again.stdout
+        assert list((tmp_path / "instances").iterdir()) == []
+
+
+@pytest.mark.parametrize("number", [signal.SIGINT, signal.SIGTERM])
+def test_signal(storm: Path, number: int) -> None:
+    """After a signal, everything that exists is deleted."""
+    with SmallBroker().running() as small:
+        line = command(storm, small.url, "--seconds", "20", "--answer-seconds", "1")
+        with subprocess.Popen(line, env=ENVIRONMENT, stdout=subprocess.PIPE, text=True) as process:
+            until(lambda: len(small.instances) >= 3, 30)
+            process.send_signal(number)
+            text, _ = process.communicate(timeout=60)
+        assert process.returncode == 1
+        assert "the run was ended before\n" in text
+        assert small.instances == set()
+
+
+def test_leftovers(storm: Path) -> None:
+    """What can't be deleted is listed with its id, and the status says so. Nothing is tried with faults then."""
+    with SmallBroker(delete=500).running() as small:
+        done = ran(command(storm, small.url))
+        listed = re.findall(r"^not deleted: instance (.*?): the deletion was answered with 500", done.stdout, re.M)
+        assert (done.returncode, set(listed)) == (3, small.instances) and len(listed) == 1
+
+
+def test_statuses(storm: Path, tmp_path: Path) -> None:
+    with socket.create_server(("127.0.0.1", 0)) as free:
+        unused = f"http://127.0.0.1:{free.getsockname()[1]}"
+    done = ran(command(storm, unused))
+    assert (done.returncode, "osb-storm: the broker can't be reached: " in done.stderr) == (69, True)
+    (tmp_path / "faults").write_text("1.1 thunder\n")
+    with SmallBroker().running() as small:
+        for wrong in (
+            ["--plan", "small"],
+            ["--service", "things", "--plan", "big"],
+            ["--instances", "1"],
+            ["--faults", str(tmp_path / "faults")],
+            ["--faults", str(tmp_path / "none")],
+            ["--kill-command", "true"],
+            ["--fault-percent", "101"],
+        ):
+            done = ran(command(storm, small.url, *wrong))
+            assert (done.returncode, done.stderr.count("\n")) == (2, 1), (wrong, done.stderr)
+        assert small.instances == set()

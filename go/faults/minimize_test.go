@@ -1,0 +1,80 @@
+package faults
+
+import (
+	"context"
+	"fmt"
+	"reflect"
+	"testing"
+)
+
+// loserOf returns a test that passes if a list has all of these, and counts its calls.
+func loserOf(calls *int, needed ...int) func(context.Context, []int) bool {
+	return func(_ context.Context, list []int) bool {
+		*calls++
+		has := map[int]bool{}
+		for _, it := range list {
+			has[it] = true
+		}
+		for _, it := range needed {
+			if !has[it] {
+				return false
+			}
+		}
+		return true
+	}
+}
+
+func numbers(count int) (list []int) {
+	for n := 0; n < count; n++ {
+		list = append(list, n)
+	}
+	return list
+}
+
+// Only what is needed is left, in its order, wherever it stands.
+func TestMinimize(t *testing.T) {
+	for _, needed := range [][]int{{0}, {99}, {41}, {0, 99}, {3, 4}, {1, 50, 51, 98}, {10, 20, 30, 40, 50, 60, 70}} {
+		t.Run(fmt.Sprint(needed), func(t *testing.T) {
+			calls := 0
+			list := Minimize(context.Background(), numbers(100), loserOf(&calls, needed...))
+			if !reflect.DeepEqual(list, needed) {
+				t.Errorf("%v is left", list)
+			}
+			if calls > 500 {
+				t.Errorf("the test was called %d times", calls)
+			}
+		})
+	}
+}
+
+func TestMinimizeSmallLists(t *testing.T) {
+	calls := 0
+	if list := Minimize(context.Background(), []int{}, loserOf(&calls)); len(list) != 0 {
+		t.Error(list)
+	}
+	if list := Minimize(context.Background(), []int{5}, loserOf(&calls, 5)); !reflect.DeepEqual(list, []int{5}) {
+		t.Error(list)
+	}
+	if list := Minimize(context.Background(), numbers(3), loserOf(&calls, 0, 1, 2)); !reflect.DeepEqual(list, numbers(3)) {
+		t.Error(list)
+	}
+}
+
+// At the end of the time, what was found so far passes the test.
+func TestMinimizeEnds(t *testing.T) {
+	ctx, cancel := context.WithCancel(context.Background())
+	calls := 0
+	loses := loserOf(&calls, 3, 60)
+	list := Minimize(ctx, numbers(100), func(ctx context.Context, list []int) bool {
+		if calls == 8 {
+			cancel()
+		}
+		return loses(ctx, list)
+	})
+	if !loses(ctx, list) || len(list) == 2 || len(list) == 100 {
+		t.Errorf("%v is left", list)
+	}
+	if calls > 10 {
+		t.Errorf("the test was called %d times", calls)
+	}
+}

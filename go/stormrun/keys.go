@@ -1,0 +1,69 @@
+package stormrun
+
+import (
+	"sort"
+	"sync"
+
+	"pippinterm/faults"
+)
+
+// A Key names an instance, or a binding of it if Binding isn't empty, by their ids.
+type Key struct{ Instance, Binding string }
+
+// instance returns the key of the instance.
+func (k Key) instance() Key { return Key{Instance: k.Instance} }
+
+// keys are the ids of a run with their places. Any number of goroutines use them.
+type keys struct {
+	newID func(number int) string
+	mutex sync.Mutex
+	ofKey map[Key]faults.Place
+	next  map[string]int // the number of the next binding of an instance
+}
+
+func newKeys(newID func(int) string) *keys {
+	return &keys{newID: newID, ofKey: map[Key]faults.Place{}, next: map[string]int{}}
+}
+
+// instance makes up the id of an instance.
+func (k *keys) instance(number int) Key {
+	k.mutex.Lock()
+	defer k.mutex.Unlock()
+	key := Key{Instance: k.newID(number)}
+	k.ofKey[key] = faults.Place{Instance: number}
+	return key
+}
+
+// binding makes up the id of a binding.
+func (k *keys) binding(of Key) Key {
+	k.mutex.Lock()
+	defer k.mutex.Unlock()
+	k.next[of.Instance]++
+	number := k.next[of.Instance]
+	key := Key{of.Instance, k.newID(number)}
+	k.ofKey[key] = faults.Place{Instance: k.ofKey[of].Instance, Binding: number}
+	return key
+}
+
+// place returns the place of ids, if they are of the run.
+func (k *keys) place(instance, binding string) (faults.Place, bool) {
+	k.mutex.Lock()
+	defer k.mutex.Unlock()
+	place, is := k.ofKey[Key{instance, binding}]
+	return place, is
+}
+
+// all returns all keys, in the order of their places.
+func (k *keys) all() []Key {
+	k.mutex.Lock()
+	defer k.mutex.Unlock()
+	all := make([]Key, 0, len(k.ofKey))
+	for key := range k.ofKey {
+		all = append(all, key)
+	}
+	sort.Slice(all, func(one, other int) bool {
+		a, b := k.ofKey[all[one]], k.ofKey[all[other]]
+		return a.Instance < b.Instance || a.Instance == b.Instance && a.Binding < b.Binding
+	})
+	return all
+}
