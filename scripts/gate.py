@@ -207,10 +207,8 @@ def steps(python: str, *options: str) -> dict[str, Callable[[], Result]]:
     if "--tests" not in options:
         found["rt ci"] = prove
         found["scripts/prebuilt --compare"] = compare
-    cores = len(os.sched_getaffinity(0))
-    many = str(cores + cores // 2)  # since most tests wait for a process that they have started
-    found["pytest -m 'not alone'"] = partial(test, python, "-n", many, "-m", "not alone")
-    few = "3" if cores >= 4 else "1"
+    found["pytest -n auto -m 'not alone'"] = partial(test, python, "-n", "auto", "-m", "not alone")
+    few = "3" if len(os.sched_getaffinity(0)) >= 4 else "1"
     found["pytest -m alone"] = partial(test, python, "-n", few, "--dist", "loadgroup", "-m", "alone")
     return found
 
