@@ -66,12 +66,23 @@ CRASHES = "libsqlite3 crashpoints"
 ALONE = "pippinterm/backend/postgres"
 """The package whose tests fill the server's table of locks, so that no other tests may use that server meanwhile."""
 
+BY_THE_CLOCK = "pippinterm/stormrun"
+"""The package whose tests are storms of a few seconds, in which a busy machine loses requests by itself."""
+
 
 @pytest.mark.long
 @pytest.mark.postgres
 def test_tests(packages: Packages) -> None:
     """The tests of each package but osb, which has its own, with the race detector."""
-    packages.test(*(it for it in but_osb(packages) if it != ALONE), tags="libsqlite3", race=True)
+    these = [it for it in but_osb(packages) if it not in (ALONE, BY_THE_CLOCK)]
+    packages.test(*these, tags="libsqlite3", race=True)
+
+
+@pytest.mark.alone
+@pytest.mark.xdist_group("stormrun")
+def test_storms_against_a_broker(packages: Packages) -> None:
+    """The tests of stormrun, with the race detector."""
+    packages.test(BY_THE_CLOCK, tags="libsqlite3", race=True)
 
 
 @pytest.mark.long
