@@ -1,5 +1,5 @@
 //! Texts that cross from C and to it.
-ghost use Rattle.std.specs.Prelude.{◌≡◌, ◌↔◌, ◌++◌, IsSome, IfSome, OnOk, length, option_map, string_bytes};
+ghost use Rattle.std.specs.Prelude.{◌≡◌, ◌↔◌, ◌++◌, IsSome, IfSome, OnOk, OnErr, length, option_map, string_bytes};
 ghost use Rattle.osb_c_wire.specs.Texts as texts;
 
 use std::alloc::AllocError;
@@ -19,9 +19,14 @@ pub fn text_if(is_there: bool, text: &[u8]) -> Option<Option<&str>>
 }
 
 /// Adds a text, if it is there.
+///
+/// # Errors
+///
+/// [`AllocError`] if an allocation failed. `all` is then as before.
 pub fn push_if(all: &mut String, text: &Option<String>) -> Result<(), AllocError>
     ensures all { OnOk result (string_bytes all.new
         ≡ string_bytes all.old ++ texts.or_nothing (option_map string_bytes text.now)) }
+    ensures err { OnErr result (string_bytes all.new ≡ string_bytes all.old) }
 {
     match text {
         Some(text) => all.push_str(text.as_str()),

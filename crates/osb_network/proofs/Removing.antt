@@ -12,14 +12,14 @@ use Rattle.osb_instance.specs.Recorded.{Recorded}
 use Rattle.osb_network.specs.declared.event.Event.{Event}
 use Rattle.osb_network.specs.Cell.{Cell, IsPossible}
 use Rattle.osb_network.specs.Removing.{after_removing_round, removed_cell}
-use Rattle.osb_network.specs.Removing.{IsRemoved, ThreeRoundsRemove, TwoRoundsRemove}
-use Rattle.osb_network.specs.Settling.{HasNumbers, IsSettledIn, exchanged}
+use Rattle.osb_network.specs.Removing.{IsRemoved, ThreeRoundsRemove, TwoRoundsRemove, twice_removed_cell}
+use Rattle.osb_network.specs.Settling.{HasNumbers, IsSettledIn, exchanged, settled_cell}
 use Rattle.osb_network.specs.Steps.{cell_step, clean_up, with_state}
 use Rattle.osb_network.proofs.Kept.{kept_step, with_rec}
 use Rattle.osb_network.proofs.Rounds.{IsCalm, IsEnding, IsEndingInTwo, IsNear, HasRoom, NearBy, resting}
 use Rattle.osb_network.proofs.Rounds.{calmed, calm_after, deleted, deprovisioned, ending_in_two, given_up, kept_free}
 use Rattle.osb_network.proofs.Rounds.{nears, none_near, polled_gone, polled_on, rests, timeout_held, timeout_none}
-use Rattle.osb_network.proofs.Rounds.{unrecorded}
+use Rattle.osb_network.proofs.Rounds.{kept_settled, settled_with_two, unrecorded}
 
 -- ---- what removing makes of a cell in which nothing is out
 
@@ -210,6 +210,11 @@ two_rounds_remove c h settled room =
     let d : Cell = after_removing_round c in
     gone_by (after_removing_round d).held (after_removing_round d).recorded
     (third_round d d.recorded refl (kept_round c h) (settled_round c c.recorded refl h settled room))
+
+-- so three fault-free ones and two of them end one, whatever state it is in
+pub five_rounds_remove : (c : Cell) → IsPossible c → HasNumbers 5 c → IsRemoved (twice_removed_cell (settled_cell c))
+five_rounds_remove c h room =
+    let (settled, more) = settled_with_two c h room in two_rounds_remove (settled_cell c) (kept_settled c h) settled more
 
 pub removed_if : {T E : Type 0} (r : Result T E) (c n : Cell) → OnOk r (n ≡ removed_cell c) → IsPossible c → HasNumbers 3 c
     → OnOk r (IsRemoved n)

@@ -843,11 +843,11 @@ timeout_none c e = (λ i. (give_up c (e i)).recorded) ∙ e
 never_recorded : (c : Cell) → c.recorded ≡ None → (after_round c).recorded ≡ None
 never_recorded c e = unrecorded (cell_step c Event.Timeout) (timeout_none c e)
 
-first_round : (c : Cell) (r : Option Recorded) → c.recorded ≡ r → IsPossible c → HasRoom 3 r
-    → IsNear IsInTwo 2 (after_round c)
-first_round c None e h room = none_near IsInTwo 2 (after_round c) (never_recorded c e)
-first_round c (Some rec) e h room =
-    first (calmed (cell_step c Event.Timeout)) (resting rec (after_timeout rec.row.state)) 2 _ refl
+first_round : (n : ℕ) (c : Cell) (r : Option Recorded) → c.recorded ≡ r → IsPossible c → HasRoom (n + 1) r
+    → IsNear IsInTwo n (after_round c)
+first_round n c None e h room = none_near IsInTwo n (after_round c) (never_recorded c e)
+first_round n c (Some rec) e h room =
+    first (calmed (cell_step c Event.Timeout)) (resting rec (after_timeout rec.row.state)) n _ refl
     (given_up_calm c rec e h) room
 
 -- what runs has ended by the second half
@@ -901,27 +901,32 @@ cleans_no_more s h near = λ e. cc
 abbrev pub NearBy : (State → Held → Type 0) → ℕ → Held → Option Recorded → Type 0
 NearBy near n h r = IfSome r (λ rec. near rec.row.state h × (rec.attempt + n ≤ 18446744073709551615))
 
-second_round : (c : Cell) (r : Option Recorded) → c.recorded ≡ r → IsPossible c → NearBy IsInTwo 2 c.held r
-    → IsNear IsInOne 1 (after_round c)
-second_round c None e h near = none_near IsInOne 1 (after_round c) (never_recorded c e)
-second_round c (Some rec) e h near =
-    second (calmed (cell_step c Event.Timeout)) (resting rec (after_timeout rec.row.state)) 1 _ refl
+second_round : (n : ℕ) (c : Cell) (r : Option Recorded) → c.recorded ≡ r → IsPossible c
+    → NearBy IsInTwo (n + 1) c.held r → IsNear IsInOne n (after_round c)
+second_round n c None e h near = none_near IsInOne n (after_round c) (never_recorded c e)
+second_round n c (Some rec) e h near =
+    second (calmed (cell_step c Event.Timeout)) (resting rec (after_timeout rec.row.state)) n _ refl
     (given_up_calm c rec e h)
     (ends_in c rec.row.state near.0) (ready_in c rec.row.state near.0) near.1
 
-third_round : (c : Cell) (r : Option Recorded) → c.recorded ≡ r → IsPossible c → NearBy IsInOne 1 c.held r
-    → IsNear Settles 0 (after_round c)
-third_round c None e h near = none_near Settles 0 (after_round c) (never_recorded c e)
-third_round c (Some rec) e h near =
+third_round : (n : ℕ) (c : Cell) (r : Option Recorded) → c.recorded ≡ r → IsPossible c
+    → NearBy IsInOne (n + 1) c.held r → IsNear Settles n (after_round c)
+third_round n c None e h near = none_near Settles n (after_round c) (never_recorded c e)
+third_round n c (Some rec) e h near =
     let two : IsInTwo rec.row.state c.held = in_two_too rec.row.state c.held near.0 in
-    third (calmed (cell_step c Event.Timeout)) (resting rec (after_timeout rec.row.state)) 0 _ refl
+    third (calmed (cell_step c Event.Timeout)) (resting rec (after_timeout rec.row.state)) n _ refl
     (given_up_calm c rec e h)
     (ends_in c rec.row.state two) (polls_no_more rec.row.state c.held near.0)
     (cleans_no_more rec.row.state c.held near.0) near.1
 
-settled_by : (h : Held) (r : Option Recorded) → NearBy Settles 0 h r → IfSome r (λ rec. IsSettledIn rec.row.state)
-settled_by h None near = tt
-settled_by h (Some rec) near = near.0
+settled_by : (n : ℕ) (h : Held) (r : Option Recorded) → NearBy Settles n h r
+    → IfSome r (λ rec. IsSettledIn rec.row.state)
+settled_by n h None near = tt
+settled_by n h (Some rec) near = near.0
+
+room_by : (n : ℕ) (h : Held) (r : Option Recorded) → NearBy Settles n h r → HasRoom n r
+room_by n h None near = tt
+room_by n h (Some rec) near = near.1
 
 pub kept_free : (one : Cell) → IsPossible one → IsPossible (after_free one)
 kept_free one h =
@@ -935,15 +940,29 @@ kept_free one h =
 kept_round : (c : Cell) → IsPossible c → IsPossible (after_round c)
 kept_round c h = kept_free (cell_step c Event.Timeout) (kept_step c Event.Timeout h)
 
--- three of them settle the instance
-pub three_rounds_settle : ThreeRoundsSettle
-three_rounds_settle c h room =
+-- three of them settle the instance, and take three numbers at most
+settles : (n : ℕ) (c : Cell) → IsPossible c → HasRoom (n + 1 + 1 + 1) c.recorded
+    → NearBy Settles n (settled_cell c).held (settled_cell c).recorded
+settles n c h room =
     let d : Cell = after_round c in
     let e : Cell = after_round d in
     let kept : IsPossible d = kept_round c h in
-    settled_by (after_round e).held (after_round e).recorded
-    (third_round e e.recorded refl (kept_round d kept)
-    (second_round d d.recorded refl kept (first_round c c.recorded refl h room)))
+    third_round n e e.recorded refl (kept_round d kept)
+    (second_round (n + 1) d d.recorded refl kept (first_round (n + 1 + 1) c c.recorded refl h room))
+
+pub three_rounds_settle : ThreeRoundsSettle
+three_rounds_settle c h room = settled_by 0 (settled_cell c).held (settled_cell c).recorded (settles 0 c h room)
+
+-- what they leave can come about, and if there were five numbers, there are two
+pub kept_settled : (c : Cell) → IsPossible c → IsPossible (settled_cell c)
+kept_settled c h = kept_round (after_round (after_round c)) (kept_round (after_round c) (kept_round c h))
+
+pub settled_with_two : (c : Cell) → IsPossible c → HasNumbers 5 c → IsSettled (settled_cell c) × HasNumbers 2 (settled_cell c)
+settled_with_two c h room =
+    let near = settles 2 c h room in (
+      settled_by 2 (settled_cell c).held (settled_cell c).recorded near,
+      room_by 2 (settled_cell c).held (settled_cell c).recorded near,
+    )
 
 pub settled_if : {T E : Type 0} (r : Result T E) (c n : Cell) → OnOk r (n ≡ settled_cell c) → IsPossible c → HasNumbers 3 c
     → OnOk r (IsSettled n)

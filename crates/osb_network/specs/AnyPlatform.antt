@@ -197,6 +197,11 @@ any_applies cell BrokerEvent.GiveUpWaiting = cell.held.waiting
 any_applies cell (BrokerEvent.Work resource) = may_become cell resource
 any_applies cell BrokerEvent.Crash = true
 
+-- whether the event may ask for memory: only a crash does, for the text of the holding
+abbrev pub any_takes_memory : BrokerEvent → Bool
+any_takes_memory BrokerEvent.Crash = true
+any_takes_memory event = false
+
 -- ---- the promises
 
 -- how the plan works of the row, or of the pending work if there is no row

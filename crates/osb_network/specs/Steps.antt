@@ -1,7 +1,7 @@
 -- What an event makes of an instance; one that doesn't apply changes nothing. What the platform records and
 -- the broker answers are their own tables; the rest, what a network, work and crashes do, is this project's
 -- choice.
-use Rattle.std.specs.Prelude.{ℕ, ◌+◌, ◌-◌, Bool, true, false, ◌&&◌, ◌==◌, nat_lt, if◌then◌else◌, is_none, is_some}
+use Rattle.std.specs.Prelude.{◌≡◌, ⊤, ℕ, ◌+◌, ◌-◌, Bool, true, false, ◌&&◌, ◌==◌, nat_lt, if◌then◌else◌, is_none, is_some}
 use Rattle.std.specs.Prelude.{Option, Some, None, List, [], ◌∷◌, ◌++◌, slice_get}
 use Rattle.osb_message.specs.declared.messages.Answer.{Answer}
 use Rattle.osb_message.specs.declared.messages.Body.TheVariants.{Malformed}
@@ -276,3 +276,9 @@ takes_memory cell Event.EndUnknown = is_some cell.worker
 takes_memory cell Event.CrashBroker = true
 takes_memory cell Event.CrashPlatform = true
 takes_memory cell event = false
+
+-- none of a list of events may, one after the other
+abbrev pub TakeNoMemory : Cell → List Event → Type 0
+TakeNoMemory cell [] = ⊤
+TakeNoMemory cell (event ∷ events) =
+    (takes_memory cell event ≡ false) × TakeNoMemory (cell_step cell event) events

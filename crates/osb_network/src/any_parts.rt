@@ -1,5 +1,5 @@
 //! What a broker alone is made of: one method for each event, by the calls of `osb_instance`.
-ghost use Rattle.std.specs.Prelude.{◌≡◌, IfOk, OnOk, OnErr};
+ghost use Rattle.std.specs.Prelude.{◌≡◌, false, IfOk, IsOk, OnOk, OnErr};
 ghost use Rattle.osb_network.specs.AnyPlatform as spec;
 ghost use Rattle.osb_network.specs.Steps.{step_of};
 
@@ -297,6 +297,7 @@ impl AnyParts {
         ensures cell { OnOk result (self.new ≡ spec.any_step self.old event) }
         ensures step { IfOk result (λ s. s ≡ step_of (spec.any_applies self.old event)) }
         ensures err { OnErr result (self.new ≡ self.old) }
+        ensures no_memory { spec.any_takes_memory event ≡ false → IsOk result }
     {
         match event {
             BrokerEvent::Arrive {

@@ -1,6 +1,7 @@
 //! A broker alone, and any platform.
-ghost use Rattle.std.specs.Prelude.{◌≡◌, Ok, true, IfOk, OnOk, OnErr};
+ghost use Rattle.std.specs.Prelude.{◌≡◌, All, Ok, true, false, IfOk, IsOk, OnOk, OnErr};
 ghost use Rattle.osb_network.specs.AnyPlatform.{IsAlone, IsPromised, any_applies, any_empty, any_step, any_steps};
+ghost use Rattle.osb_network.specs.AnyPlatform.{any_takes_memory};
 ghost use Rattle.osb_network.specs.Steps.{step_of};
 
 use crate::any_parts::AnyParts;
@@ -110,6 +111,7 @@ impl AnyPlatform {
         ensures applied { IfOk result (λ s. s ≡ step_of (any_applies self.old event)) }
         ensures skipped { result ≡ Ok Step.Skipped → self.new ≡ self.old }
         ensures err { OnErr result (self.new ≡ self.old) }
+        ensures no_memory { any_takes_memory event ≡ false → IsOk result }
         ensures promised { IsPromised self.new }
     {
         self.parts.step(alloc, event)
@@ -149,7 +151,7 @@ impl AnyPlatform {
 ///
 /// # Errors
 ///
-/// [`Memory`] if an allocation failed.
+/// [`Memory`] if an allocation failed. Only crashes ask for memory.
 pub fn run_any(
     alloc: Global,
     catalogue: Catalogue,
@@ -157,6 +159,7 @@ pub fn run_any(
     events: &[BrokerEvent],
 ) -> Result<AnyPlatform, Memory>
     ensures cell { IfOk result (λ any. any ≡ any_steps (any_empty catalogue first_poll) events.now) }
+    ensures no_memory { All (λ event. any_takes_memory event ≡ false) events.now → IsOk result }
     ensures promised { IfOk result (λ any. IsPromised any) }
     ensures always { IsPromised (any_steps (any_empty catalogue first_poll) events.now) }
 {

@@ -10,7 +10,7 @@ ghost use Rattle.osb_network.specs.Settling.{arrival, good_work, latest_answer, 
 ghost use Rattle.osb_network.specs.Settling.{operated_well, with_answer, with_arrival, with_good, worked_well};
 ghost use Rattle.osb_network.specs.Settling.{free_events, operation_events, round_events, settling_events, work_events};
 ghost use Rattle.osb_network.specs.Settling.{IsPartWay, SettlesByEvents};
-ghost use Rattle.osb_network.specs.Steps.{applies, cell_step, cell_steps, step_of, takes_memory};
+ghost use Rattle.osb_network.specs.Steps.{applies, cell_step, cell_steps, step_of, takes_memory, TakeNoMemory};
 ghost use Rattle.osb_instance.specs.declared.record.Sent.{Sent};
 
 use crate::parts::Parts;
@@ -60,9 +60,9 @@ impl Instance {
     ///
     /// # Errors
     ///
-    /// [`Memory`] where an allocation failed, which only these ask for: a Create or a Send that applies, an Arrive
-    /// that is answered at once, an End or an EndUnknown of work whose request isn't answered yet, and the crashes. The
-    /// instance is then as before.
+    /// [`Memory`] if an allocation failed. Only these events ask for memory: a Create or a Send that applies, an Arrive
+    /// that is answered at once, a PutOff that applies, an End or an EndUnknown of work whose request isn't answered
+    /// yet, and the crashes. The instance is then as before.
     pub fn step(&mut self, alloc: Global, event: Event) -> Result<Step, Memory>
         ensures cell { OnOk result (self.new ≡ cell_step self.old event) }
         ensures applied { IfOk result (λ s. s ≡ step_of (applies self.old event)) }
@@ -335,9 +335,11 @@ impl Instance {
 ///
 /// # Errors
 ///
-/// [`Memory`] at the first step where an allocation failed.
+/// [`Memory`] at the first step where an allocation failed. Only the events at which [`Instance::step`] takes memory ask
+/// for it.
 pub fn run(alloc: Global, order: Order, events: &[Event]) -> Result<Instance, Memory>
     ensures cell { IfOk result (λ instance. instance ≡ cell_steps (empty_cell order) events.now) }
+    ensures no_memory { TakeNoMemory (empty_cell order) events.now → IsOk result }
     ensures agrees { IfOk result (λ instance. Agrees instance) }
     ensures always { Agrees (cell_steps (empty_cell order) events.now) }
 {

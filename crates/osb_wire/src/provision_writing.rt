@@ -1,5 +1,5 @@
 //! The body of a Provision, written.
-ghost use Rattle.std.specs.Prelude.{◌≡◌, ◌≢◌, ◌≤◌, ℕ, List, [], Some, Ok, IfOk, OnOk, codes, option_and_then, string_bytes};
+ghost use Rattle.std.specs.Prelude.{◌≡◌, ◌≢◌, ◌≤◌, ℕ, List, [], Some, Ok, IfOk, OnOk, OnErr, codes, option_and_then, string_bytes};
 ghost use Rattle.serde_json.specs.Data.{string, object, put, depth};
 ghost use Rattle.serde_json.specs.Find.{get, get_member};
 ghost use Rattle.serde_json.specs.Read.{read, max_depth};
@@ -17,7 +17,7 @@ use std::alloc::{AllocError, Global};
 ///
 /// # Errors
 ///
-/// [`AllocError`] where an allocation failed.
+/// [`AllocError`] if an allocation failed. The members are then as before.
 pub fn put_text(
     alloc: Global,
     members: &mut Map<String, Value>,
@@ -26,6 +26,7 @@ pub fn put_text(
 ) -> Result<(), AllocError>
     ensures put { OnOk result (members_view members.new.entries
         ≡ put name.now (string text.now) (members_view members.old.entries)) }
+    ensures err { OnErr result (members.new.entries ≡ members.old.entries) }
 {
     let value = Value::try_from_str(alloc, text)?;
     serde_json::put(members, alloc, name, value)

@@ -1,5 +1,5 @@
 -- The cell of an instance after a list of events: its own events alone, one after the other.
-use Rattle.std.specs.Prelude.{true, ℕ, Bool, ◌==◌, if◌then◌else◌, List, [], ◌∷◌, filter}
+use Rattle.std.specs.Prelude.{◌≡◌, ⊤, true, false, ℕ, Bool, ◌==◌, if◌then◌else◌, List, [], ◌∷◌, filter}
 use Rattle.std.specs.Option.{option_map_or}
 use Rattle.osb_message.specs.Plans.{Catalogue}
 use Rattle.osb_world.specs.declared.cell.Cell.{Cell}
@@ -40,3 +40,10 @@ cell_after catalogue id events = cell_steps catalogue empty_cell (events_of id e
 -- the cell of an id after one event more: a step where the event is the id's, and else as before
 abbrev pub next_cell : Catalogue → ℕ → Cell → Event → Cell
 next_cell catalogue id cell event = if is_of id event then cell_step catalogue cell event else cell
+
+-- none of a list of events may ask for memory, one after the other
+abbrev pub TakeNoMemory : Catalogue → (ℕ → Cell) → List Event → Type 0
+TakeNoMemory catalogue cells [] = ⊤
+TakeNoMemory catalogue cells (event ∷ events) =
+    (takes_memory_at catalogue cells event ≡ false)
+    × TakeNoMemory catalogue (λ id. next_cell catalogue id (cells id) event) events

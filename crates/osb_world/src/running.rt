@@ -1,7 +1,8 @@
 //! A world after a list of events.
-ghost use Rattle.std.specs.Prelude.{◌≡◌, ℕ, IfOk};
+ghost use Rattle.std.specs.Prelude.{◌≡◌, ℕ, IfOk, IsOk};
 ghost use Rattle.osb_world.specs.Agreement.{Agrees};
-ghost use Rattle.osb_world.specs.Events.{cell_after};
+ghost use Rattle.osb_world.specs.Cell.{empty_cell};
+ghost use Rattle.osb_world.specs.Events.{cell_after, TakeNoMemory};
 ghost use Rattle.osb_world.specs.Views.{catalogue_of, cell_at};
 
 use crate::{Event, World};
@@ -16,11 +17,13 @@ use std::alloc::Global;
 ///
 /// # Errors
 ///
-/// [`Memory`](osb_message::Memory) at the first step where an allocation failed.
+/// [`Memory`](osb_message::Memory) at the first step where an allocation failed. Only the events at
+/// which [`World::step`] takes memory ask for it.
 pub fn run(alloc: Global, catalogue: Catalogue, events: &[Event]) -> Result<World, Memory>
     ensures cells { IfOk result (λ world. (id : ℕ) →
         cell_at world id ≡ cell_after catalogue id events.now) }
     ensures catalogue { IfOk result (λ world. catalogue_of world ≡ catalogue) }
+    ensures no_memory { TakeNoMemory catalogue (λ _. empty_cell) events.now → IsOk result }
     ensures agrees { IfOk result (λ world. (id : ℕ) → Agrees (cell_at world id)) }
     ensures always { (id : ℕ) → Agrees (cell_after catalogue id events.now) }
 {
