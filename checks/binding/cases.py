@@ -3,13 +3,13 @@
     PYTHONPATH=checks python3 -m binding.cases stdin
     PYTHONPATH=checks python3 -m binding.cases stdout
 
-write the two files of crates/service_cases: the shortest ways of binding.ways, at a design with all its parts, and a
+write the two files of crates/service_cases: the ways of binding.ways, at a design with all its parts, and a
 short walk. The lines are those of binding.walks, and
 
     run SIDES: ORDER; ORDER ..: EVENT, EVENT ..
 
-which begins anew and lets all of these events happen. Behind an event of a binding there is no MORE: the crate doesn't
-show callers what was sent and given of a binding.
+which begins anew and lets all of these events happen. Behind an event of a binding there is no MORE: the program
+doesn't print what was sent and given of a binding.
 """
 
 from __future__ import annotations
@@ -23,7 +23,7 @@ from pathlib import Path
 from binding.cells import Way
 from binding.model import Order, Rules
 from binding.walks import RULES, Walk, services
-from binding.ways import WAYS
+from binding.ways import ALL
 from network.walks import Step
 
 FOLDER = Path(__file__).resolve().parent.parent.parent / "crates" / "service_cases"
@@ -48,9 +48,9 @@ def lines_of(rules: Rules, way: Way) -> list[str]:
 
 def of_ways() -> Iterator[list[str]]:
     """The lines of each way: with the rules of both sides, and with those of the sides that satisfy theirs in it."""
-    for name, way in WAYS.items():
+    for name, way in ALL.items():
         yield [f"# {name}", *lines_of(RULES, way)]
-    for name, way in WAYS.items():
+    for name, way in ALL.items():
         if not (way.rules.platform and way.rules.broker):
             own = RULES._replace(platform=way.rules.platform, broker=way.rules.broker)
             yield [f"# {name}: the rules of the sides that satisfy them in this way", *lines_of(own, way)]

@@ -10,7 +10,7 @@ from binding import alone
 from binding.cells import ORDERS, Cell, World, cell_of, forget_lives, promised, shortest_way
 from binding.model import OF_THE_BROKER, PROMISES, SETTLES, Order, Rules, Tied
 from binding.walks import services
-from binding.ways import FIRST_POLL, SYNC, WAYS
+from binding.ways import ALL, FIRST_POLL, SYNC, WAYS
 from network.model import error
 
 # Both sides keep their rules, or the platform alone.
@@ -41,6 +41,7 @@ def test_one_pair_of_plans() -> None:
 
 
 @pytest.mark.slow
+@pytest.mark.long(10)
 def test_all_pairs_of_plans() -> None:
     """The rules of the broker refuse nothing if the platform keeps its own. No walk leaves what can come about."""
     found = {}
@@ -102,10 +103,10 @@ def test_any_platform_without_a_part(part: str) -> None:
 # ---- the ways to a broken promise
 
 
-@pytest.mark.parametrize("name", WAYS)
+@pytest.mark.parametrize("name", ALL)
 def test_way(name: str) -> None:
     """Each event applies, and the last one breaks the promise. If nothing is left out, none is ever broken."""
-    rules, instance, binding, promise, events = WAYS[name]
+    rules, instance, binding, promise, events = ALL[name]
     without, design = Tied(rules, instance, binding), Tied(BOTH, instance, binding)
     for event in events:
         assert promise not in without.broken()

@@ -427,3 +427,48 @@ WAYS = {
         ),
     ),
 }
+
+# Further ways to the same broken promises, which begin with another fault, or end with another request.
+FURTHER = {
+    "rule a, and deleted tombstones: after a Bind that timed out": Way(
+        Rules(without=frozenset(["deleted tombstones", "rule a"])),
+        SYNC,
+        SYNC,
+        LIVES_AGREE,
+        (
+            *READY,
+            *ENDED,
+            *DELETED,
+            "binding 1 forget",
+            "binding 1 arrive 1",
+        ),
+    ),
+    "tombstones: after a Bind that timed out": Way(
+        Rules(without=frozenset(["tombstones"])),
+        SYNC,
+        SYNC,
+        LIVES_AGREE,
+        (
+            *READY,
+            *ENDED,
+            "binding 1 arrive 1",
+        ),
+    ),
+    "stored credentials: at a repeated Bind": Way(
+        Rules(without=frozenset(["stored credentials"])),
+        SYNC,
+        SYNC,
+        LIVES_AGREE,
+        (
+            *READY,
+            "binding 1 create",
+            "binding 1 arrive 1",
+            "binding 1 work whole 1",
+            "binding 1 end done",
+            "binding 1 take 0",
+            "binding 1 arrive 1",
+        ),
+    ),
+}
+
+ALL = {**WAYS, **FURTHER}

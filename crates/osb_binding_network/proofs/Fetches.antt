@@ -63,7 +63,7 @@ no_work : (w : Option Request) → w ≡ None → is_none w ≡ true
 no_work None e = refl
 no_work (Some q) e = cc
 
-fetchable : (c : Cell) (at : ℕ) → IsPossible c → needs_fetch c at ≡ true → is_fetchable c.held ≡ true
+pub fetchable : (c : Cell) (at : ℕ) → IsPossible c → needs_fetch c at ≡ true → is_fetchable c.held ≡ true
 fetchable c at h e =
     let ready = becomes_ready c at e in
     let next : Cell = cell_step c (Event.Take at) in

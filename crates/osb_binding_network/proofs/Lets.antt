@@ -26,7 +26,7 @@ none_out : (out : Option Kind) (n : ℕ) → out ≡ None → (if is_some out th
 none_out None n e = refl
 none_out (Some k) n e = cc
 
-number_none : (r : Option Recorded) → IsStill r → number_out r ≡ 0
+pub number_none : (r : Option Recorded) → IsStill r → number_out r ≡ 0
 number_none None h = refl
 number_none (Some rec) h = none_out rec.row.out rec.attempt h.0
 

@@ -12,3 +12,5 @@ pub mod Fetches
 pub mod Lets
 pub mod Rounds
 pub mod Many
+pub mod Five
+pub mod RoundsHappen

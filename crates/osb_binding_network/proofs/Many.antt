@@ -29,7 +29,8 @@ use Rattle.osb_binding_network.specs.Allowed.{may_bind, may_create, may_remove, 
 use Rattle.osb_binding_network.specs.Binding.{BindingCell, binding_step, empty_binding, is_fetchable, lived_if}
 use Rattle.osb_binding_network.specs.Happening.{service_takes_memory, some_takes_memory}
 use Rattle.osb_binding_network.specs.Possible.{IsOf, IsService}
-use Rattle.osb_binding_network.specs.Service.{binding_after, every, each_of}
+use Rattle.osb_binding_network.specs.Service.{binding_after, binding_by, every, each_of, instance_by, new_service}
+use Rattle.osb_binding_network.specs.Service.{IsStepped, ServiceCells}
 use Rattle.osb_binding_network.specs.Settled.{RemovesAt, SettlesAt}
 use Rattle.osb_binding_network.specs.Well.{IsWell}
 use Rattle.osb_binding_network.proofs.Bindings.{kept_step_binding}
@@ -57,7 +58,7 @@ found_or true b o P here more = here
 found_or false b o P here more = more
 
 -- what each binding passes the one does that is found
-every_found : (p : Cell → Bool) (test : ℕ → Bool) (es : List (ℕ × BindingCell)) → every p (values_of es) ≡ true
+pub every_found : (p : Cell → Bool) (test : ℕ → Bool) (es : List (ℕ × BindingCell)) → every p (values_of es) ≡ true
     → IfSome (lookup test es) (λ b. p b.life ≡ true)
 every_found p test [] e = tt
 every_found p test (x ∷ xs) e =
@@ -368,3 +369,17 @@ each_removed x r i old new id p here well others h =
 -- what holds of what is found
 pub at_found : (P : BindingCell → Type 0) (o : Option BindingCell) (b : BindingCell) → Some b ≡ o → IfSome o P → P b
 at_found P o b e h = subst (λ y. IfSome y P) (sym e) h
+
+-- one event
+pub stepped : (before next : ServiceCells) (event : ServiceEvent) → next.rules ≡ before.rules
+    → next.instance ≡ instance_by before event
+    → ((id : ℕ) → map.get next.bindings id ≡ binding_by before event id) → IsStepped before event next
+stepped before next event rules instance bindings = record { rules = rules; instance = instance; bindings = bindings }
+
+-- what nothing has happened to
+pub is_new : (rules : Rules) (order : Order) (start : ServiceCells) → start.rules ≡ rules
+    → start.instance ≡ empty_cell order → start.bindings ≡ map.empty → start ≡ new_service rules order
+is_new rules order start r i b =
+    ap (λ x. record { rules = x; instance = start.instance; bindings = start.bindings }) r
+    ∙ (ap (λ x. record { rules = rules; instance = x; bindings = start.bindings }) i
+    ∙ ap (λ x. record { rules = rules; instance = empty_cell order; bindings = x }) b)

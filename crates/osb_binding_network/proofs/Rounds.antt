@@ -109,31 +109,28 @@ all_both : (P : (Cell → Event) → Type 0) (xs ys : List (Cell → Event)) →
 all_both P [] ys a b = b
 all_both P (x ∷ xs) ys a b = (a.0, all_both P xs ys a.1 b)
 
-all_thrice : (P : (Cell → Event) → Type 0) (xs : List (Cell → Event)) → All P xs → All P (xs ++ (xs ++ xs))
+pub all_thrice : (P : (Cell → Event) → Type 0) (xs : List (Cell → Event)) → All P xs → All P (xs ++ (xs ++ xs))
 all_thrice P xs a = all_both P xs (xs ++ xs) a (all_both P xs xs a a)
+
+-- those after the first event of a round
+pub all_free : (P : (Cell → Event) → Type 0) → P good_work → P (λ c. Event.End Done) → P (λ c. Event.Finish true)
+    → P (λ c. Event.Send) → P arrival → P latest_answer → All P free_events
+all_free P good end finish send arrive answer =
+    let works : All P work_events = (good, (end, tt)) in
+    let operates : All P operation_events = (good, (finish, tt)) in
+    let exchanges : All P exchange_events =
+    (send, (arrive, all_both P work_events (latest_answer ∷ []) works (answer, tt))) in
+    all_both P work_events (operation_events ++ exchange_events) works
+    (all_both P operation_events exchange_events operates exchanges)
 
 instance_free : (go : Bool) → All (KeepsInstance go) free_events
 instance_free go =
-    let works : All (KeepsInstance go) work_events = (instance_good go, (instance_end go, tt)) in
-    let operates : All (KeepsInstance go) operation_events = (instance_good go, (instance_finish go, tt)) in
-    let exchanges : All (KeepsInstance go) exchange_events = (
-      instance_send go,
-      (
-        instance_arrival go,
-        all_both (KeepsInstance go) work_events (latest_answer ∷ []) works (instance_answer go, tt),
-      ),
-    ) in
-    all_both (KeepsInstance go) work_events (operation_events ++ exchange_events) works
-    (all_both (KeepsInstance go) operation_events exchange_events operates exchanges)
+    all_free (KeepsInstance go) (instance_good go) (instance_end go) (instance_finish go) (instance_send go)
+    (instance_arrival go) (instance_answer go)
 
 binding_free : All KeepsBinding free_events
 binding_free =
-    let works : All KeepsBinding work_events = (binding_good, (binding_end, tt)) in
-    let operates : All KeepsBinding operation_events = (binding_good, (binding_finish, tt)) in
-    let exchanges : All KeepsBinding exchange_events =
-    (binding_send, (binding_arrival, all_both KeepsBinding work_events (latest_answer ∷ []) works (binding_answer, tt))) in
-    all_both KeepsBinding work_events (operation_events ++ exchange_events) works
-    (all_both KeepsBinding operation_events exchange_events operates exchanges)
+    all_free KeepsBinding binding_good binding_end binding_finish binding_send binding_arrival binding_answer
 
 pub instance_settles : All (KeepsInstance false) settling_events
 instance_settles = all_thrice (KeepsInstance false) round_events (instance_timeout false, instance_free false)

@@ -1,5 +1,6 @@
 -- Whether an event happens, and whether it may ask for memory. All of this is this project's choice.
-use Rattle.std.specs.Prelude.{ℕ, Bool, false, ◌&&◌, Option, Some, None, is_none, is_some, slice_get}
+use Rattle.std.specs.Prelude.{◌≡◌, ⊤, ℕ, Bool, false, ◌&&◌, Option, Some, None, is_none, is_some, slice_get}
+use Rattle.std.specs.Prelude.{List, [], ◌∷◌}
 use Rattle.std.specs.FinMap as map
 use Rattle.osb_network.specs.declared.event.Event.{Event}
 use Rattle.osb_network.specs.Cell.{Cell}
@@ -8,7 +9,7 @@ use Rattle.osb_binding_network.specs.declared.event.BindingEvent.{BindingEvent}
 use Rattle.osb_binding_network.specs.declared.event.ServiceEvent.{ServiceEvent}
 use Rattle.osb_binding_network.specs.Allowed.{may_bind, may_create, may_remove, may_work, needs_fetch, of_binding, of_instance}
 use Rattle.osb_binding_network.specs.Binding.{BindingCell, is_fetchable}
-use Rattle.osb_binding_network.specs.Service.{ServiceCells, each_of}
+use Rattle.osb_binding_network.specs.Service.{ServiceCells, each_of, IsStepped}
 
 -- an event of a life, as the other side lets it happen
 abbrev pub applies_if : Cell → Option Event → Bool
@@ -73,3 +74,10 @@ service_takes_memory service (ServiceEvent.Order order) = is_none (map.get servi
 service_takes_memory service (ServiceEvent.Binding id event) =
     some_takes_memory (may_create service.rules service.instance) (may_bind service.rules service.instance)
     (map.get service.bindings id) event
+
+-- none of a list of events may, one after the other
+abbrev pub TakeNoMemory : ServiceCells → List ServiceEvent → Type 0
+TakeNoMemory service [] = ⊤
+TakeNoMemory service (event ∷ events) =
+    (service_takes_memory service event ≡ false)
+    × ((next : ServiceCells) → IsStepped service event next → TakeNoMemory next events)

@@ -5,6 +5,7 @@ pub mod Happening
 pub mod Possible
 pub mod PutOff
 pub mod Related
+pub mod Rounds
 pub mod Service
 pub mod Settled
 pub mod Together

@@ -1,10 +1,11 @@
 -- An instance with its bindings, by their ids, and what an event makes of them. All of this is this project's choice.
-use Rattle.std.specs.Prelude.{refl, Bool, true, ◌&&◌, ◌==◌, if◌then◌else◌, ℕ, List, [], ◌∷◌, Option, Some, None, option_map}
+use Rattle.std.specs.Prelude.{◌≡◌, refl, Bool, true, ◌&&◌, ◌==◌, if◌then◌else◌, ℕ, List, [], ◌∷◌, Option, Some, None}
+use Rattle.std.specs.Prelude.{option_map}
 use Rattle.std.specs.Coded.{Coded, code_by, coded×, coded_ℕ}
 use Rattle.std.specs.FinMap as map
 use Rattle.std.specs.Map.{values_of}
 use Rattle.std.specs.Ordering.{nat_cmp}
-use Rattle.osb_network.specs.Cell.{Cell}
+use Rattle.osb_network.specs.Cell.{Cell, empty_cell}
 use Rattle.osb_network.specs.contracts.instance.Instance as one
 use Rattle.osb_network.specs.declared.event.Event.{Event}
 use Rattle.osb_network.specs.declared.order.Order.{Order}
@@ -87,3 +88,21 @@ binding_by service (ServiceEvent.Binding at event) id =
     if id == at
     then binding_after service event (map.get service.bindings at)
     else map.get service.bindings id
+
+-- ---- a list of events
+
+-- an instance that nothing has happened to, with no bindings
+abbrev pub new_service : Rules → Order → ServiceCells
+new_service rules order = record { rules = rules; instance = empty_cell order; bindings = map.empty }
+
+-- what an event makes of all of them
+pub record IsStepped (before : ServiceCells) (event : ServiceEvent) (after : ServiceCells) : Type 0 where
+  pub rules : after.rules ≡ before.rules
+  pub instance : after.instance ≡ instance_by before event
+  pub bindings : (id : ℕ) → map.get after.bindings id ≡ binding_by before event id
+
+-- what events make of them, one after the other
+abbrev pub AreStepped : ServiceCells → List ServiceEvent → ServiceCells → Type 0
+AreStepped before [] after = after ≡ before
+AreStepped before (event ∷ events) after =
+    (next : ServiceCells) × (IsStepped before event next × AreStepped next events after)

@@ -1,8 +1,11 @@
--- What settling and removing make of a binding.
-use Rattle.std.specs.Prelude.{◌≡◌, ⊤, Option, Some, None, OnErr, OnOk, Result}
-use Rattle.osb_network.specs.Removing.{removed_cell, removing_events, IsRemoved}
+-- What settling and removing make of a binding, and how many rounds remove an instance with its bindings.
+use Rattle.std.specs.Prelude.{◌≡◌, ℕ, true, ⊤, IfSome, Option, Some, None, OnErr, OnOk, Result}
+use Rattle.std.specs.FinMap as map
+use Rattle.osb_network.specs.Removing.{removed_cell, removing_events, twice_removed_cell, IsRemoved}
 use Rattle.osb_network.specs.Settling.{settled_cell, settling_events, HasNumbers, IsPartWay, IsSettled}
+use Rattle.osb_binding_network.specs.Allowed.{may_remove}
 use Rattle.osb_binding_network.specs.Binding.{BindingCell}
+use Rattle.osb_binding_network.specs.Service.{ServiceCells}
 
 pub record IsSettledTo {T E : Type 0} (result : Result T E) (old new : BindingCell) : Type 0 where
   -- three fault-free rounds of its life, or some of their events where memory ran out
@@ -33,3 +36,21 @@ abbrev pub RemovesAt : {T E : Type 0} → Result T E → Option BindingCell → 
 RemovesAt result None None = ⊤
 RemovesAt result (Some old) (Some new) = IsRemovedTo result old new
 RemovesAt result old new = ⊥
+
+-- ---- five rounds
+
+-- there are numbers for the requests of five rounds: five of the instance, and three of each binding
+abbrev pub HasFiveRounds : ServiceCells → Type 0
+HasFiveRounds s =
+    HasNumbers 5 s.instance × ((id : ℕ) → IfSome (map.get s.bindings id) (λ b. HasNumbers 3 b.life))
+
+-- what five rounds make of an instance and its bindings, whatever state they are in
+pub record AreRemovedInFive (s : ServiceCells) : Type 0 where
+  -- in three, the instance is settled, and each binding is removed: it is gone then, and lets the instance be removed
+  pub gone : (id : ℕ) → IfSome (map.get s.bindings id) (λ b. IsRemoved (removed_cell b.life))
+  pub may : (id : ℕ) → IfSome (map.get s.bindings id) (λ b. may_remove s.rules (removed_cell b.life) ≡ true)
+  -- in two more, the instance is removed
+  pub instance : IsRemoved (twice_removed_cell (settled_cell s.instance))
+
+abbrev pub FiveRoundsRemove : ServiceCells → Type 0
+FiveRoundsRemove s = HasFiveRounds s → AreRemovedInFive s

@@ -15,7 +15,7 @@ use crate::allowed::Allowed;
 use crate::binding_parts::BindingParts;
 use osb_binding::{BindingHolding, BindingRecord};
 use osb_message::Memory;
-use osb_network::{Instance, Order, Resource, Step};
+use osb_network::{Given, Instance, Order, Resource, Step};
 use std::alloc::Global;
 use std::marker::Model;
 
@@ -126,6 +126,13 @@ impl ServiceBinding {
         ensures resource { result ≡ self.now.life.resource }
     {
         self.parts.life.resource()
+    }
+
+    /// Every answer ever given to a request of its life, in their order. It takes no memory.
+    pub fn given(&self) -> &[Given]
+        ensures given { result.now ≡ self.now.life.given }
+    {
+        self.parts.life.given()
     }
 
     /// The credentials that the resource in the backend has. They mean something only while there is one. It takes no

@@ -1,6 +1,6 @@
 //! An instance and its bindings.
 ghost use Rattle.std.specs.Prelude.{◌≡◌, ◌≢◌, ℕ, true, false, None, Some, Ok, IfOk, IfSome, IsOk, IsSome, OnOk, OnErr};
-ghost use Rattle.std.specs.Prelude.{is_none, option_copied, option_map};
+ghost use Rattle.std.specs.Prelude.{◌&&◌, is_none, is_some, option_copied, option_map};
 ghost use Rattle.std.specs.BTreeMap as tree;
 ghost use Rattle.std.specs.FinMap as finite;
 ghost use Rattle.std.specs.Ordering.{nat_cmp};
@@ -10,13 +10,14 @@ ghost use Rattle.osb_network.specs.Settling.{settled_cell, settling_events, HasN
 ghost use Rattle.osb_network.specs.Steps.{step_of};
 ghost use Rattle.osb_network.specs.declared.step.Step.{Step};
 ghost use Rattle.osb_binding_network.specs.declared.event.ServiceEvent.{ServiceEvent};
-ghost use Rattle.osb_binding_network.specs.Settled.{RemovesAt, SettlesAt};
+ghost use Rattle.osb_binding_network.specs.Settled.{FiveRoundsRemove, RemovesAt, SettlesAt};
 ghost use Rattle.osb_binding_network.specs.Agreement.{BindingAgrees, ServiceAgrees};
 ghost use Rattle.osb_binding_network.specs.Allowed as allowed;
 ghost use Rattle.osb_binding_network.specs.Binding.{binding_step, empty_binding};
 ghost use Rattle.osb_binding_network.specs.Happening as happening;
+ghost use Rattle.osb_binding_network.specs.Rounds.{RoundsHappen};
 ghost use Rattle.osb_binding_network.specs.Service.{binding_after, binding_by, each_of, every, instance_after, instance_by};
-ghost use Rattle.osb_binding_network.specs.Service.{life_order};
+ghost use Rattle.osb_binding_network.specs.Service.{life_order, new_service, AreStepped};
 ghost use Rattle.osb_binding_network.specs.Well.{IsWell};
 
 use crate::allowed::{Allowed, may_bind, may_create, may_remove, may_work, of_instance};
@@ -26,6 +27,7 @@ use osb_message::{InstanceId, Memory};
 use osb_network::{Event, Instance, Order, Step};
 use std::alloc::Global;
 use std::collections::BTreeMap;
+use std::collections::btree_map::Iter;
 use std::marker::Model;
 
 /// An instance and its bindings, each by its id: as many lives as there are bindings, and one more, tied by the
@@ -108,11 +110,20 @@ fn step_at(
     binding.step(alloc, allowed, event)
 }
 
+// The bindings, in ascending order of their keys.
+fn entries_of(bindings: &BTreeMap<BindingId, ServiceBinding>) -> Iter<'_, BindingId, ServiceBinding>
+    ensures entries { result ≡ bindings.now.entries }
+    ensures ordered { tree.IsOrdered nat_cmp bindings.now }
+{
+    bindings.iter()
+}
+
 // Settles the instance by itself.
 fn settle_life(instance: &mut Instance, alloc: Global) -> Result<Step, Memory>
     ensures instance { OnOk result (instance.new ≡ settled_cell instance.old) }
     ensures err { OnErr result (IsPartWay settling_events instance.old instance.new) }
     ensures settled { HasNumbers 3 instance.old → OnOk result (IsSettled instance.new) }
+    ensures applied { IfOk result (λ s. s ≡ Step.Applied) }
     ensures possible { IsPossible instance.new }
 {
     let settled = instance.settle(alloc);
@@ -129,6 +140,7 @@ fn remove_life(instance: &mut Instance, alloc: Global) -> Result<Step, Memory>
     ensures err { OnErr result (IsPartWay removing_events instance.old instance.new) }
     ensures removed { HasNumbers 3 instance.old → OnOk result (IsRemoved instance.new) }
     ensures settled { IsSettled instance.old → HasNumbers 2 instance.old → IsRemoved (twice_removed_cell instance.old) }
+    ensures applied { IfOk result (λ s. s ≡ Step.Applied) }
     ensures possible { IsPossible instance.new }
 {
     instance.agreement();
@@ -147,6 +159,8 @@ fn settle_at(
     id: BindingId,
 ) -> Result<Step, Memory>
     ensures here { SettlesAt result (tree.get nat_cmp bindings.old id) (tree.get nat_cmp bindings.new id) }
+    ensures applied { IfOk result (λ s. s ≡ step_of (is_some (tree.get nat_cmp bindings.old id))) }
+    ensures unknown { tree.get nat_cmp bindings.old id ≡ None → result ≡ Ok Step.Skipped }
     ensures others { (other : ℕ) → other ≢ id
         → tree.get nat_cmp bindings.new other ≡ tree.get nat_cmp bindings.old other }
     ensures well { IfSome (tree.get nat_cmp bindings.new id) IsWell }
@@ -165,6 +179,8 @@ fn remove_at(
     id: BindingId,
 ) -> Result<Step, Memory>
     ensures here { RemovesAt result (tree.get nat_cmp bindings.old id) (tree.get nat_cmp bindings.new id) }
+    ensures applied { IfOk result (λ s. s ≡ step_of (is_some (tree.get nat_cmp bindings.old id))) }
+    ensures unknown { tree.get nat_cmp bindings.old id ≡ None → result ≡ Ok Step.Skipped }
     ensures others { (other : ℕ) → other ≢ id
         → tree.get nat_cmp bindings.new other ≡ tree.get nat_cmp bindings.old other }
     ensures well { IfSome (tree.get nat_cmp bindings.new id) IsWell }
@@ -209,10 +225,33 @@ impl ServiceInstance {
         Some(binding)
     }
 
+    /// The bindings, each with its id, in ascending order of the ids. It takes no memory.
+    pub fn bindings(&self) -> Iter<'_, BindingId, ServiceBinding>
+        ensures entries { result ≡ finite.entries self.now.bindings }
+    {
+        entries_of(&self.bindings)
+    }
+
     /// Does nothing: its contract is that the instance and its bindings agree, in the sense of the [crate](crate)'s first
     /// page. It takes no memory.
     pub fn agreement(&self)
         ensures agrees { ServiceAgrees self.now }
+    {
+        let _ = &self.instance;
+    }
+
+    /// Does nothing: its contract is that no rule of either side stops or puts off an event of the rounds, if the platform
+    /// keeps its rules (`RoundsHappen`, in `specs/Rounds.antt`). The rounds are those that
+    /// [`settle`](ServiceInstance::settle), [`settle_binding`](ServiceInstance::settle_binding),
+    /// [`remove`](ServiceInstance::remove) and [`remove_binding`](ServiceInstance::remove_binding) let happen. It takes no
+    /// memory.
+    ///
+    /// Each event of the instance happens as it is, with the bindings as they are. If the instance is removed, each
+    /// binding has to let it be removed. Each event of a binding happens as it is, with the instance as it is. One answer
+    /// is taken together with another: that to a Poll that makes the record `ready`, with that to a Fetch. The broker
+    /// answers the Fetch with credentials then.
+    pub fn progress(&self)
+        ensures rounds { self.now.rules.platform ≡ true → RoundsHappen self.now }
     {
         let _ = &self.instance;
     }
@@ -245,8 +284,9 @@ impl ServiceInstance {
     }
 
     /// Cleans up after the instance, as it ends once nothing goes wrong any more: three fault-free rounds of the instance,
-    /// as at [`Instance::settle`]. No rule stops or puts off anything in them, if the platform keeps its rules. If it
-    /// doesn't, nothing happens: [`Step::Skipped`].
+    /// as at [`Instance::settle`]. If the platform keeps its rules, the call returns [`Step::Applied`], and no rule stops
+    /// or puts off an event of the rounds ([`ServiceInstance::progress`]). If the platform doesn't keep its rules, nothing
+    /// happens: [`Step::Skipped`].
     ///
     /// The instance has converged then: the platform records `ready`, `gone` or `unsettled`, or nothing as before. That
     /// needs three numbers for requests.
@@ -262,6 +302,7 @@ impl ServiceInstance {
             → (result ≡ Ok Step.Skipped) × (self.new.instance ≡ self.old.instance) }
         ensures instance { self.old.rules.platform ≡ true
             → OnOk result (self.new.instance ≡ settled_cell self.old.instance) }
+        ensures applied { IfOk result (λ s. s ≡ step_of self.old.rules.platform) }
         ensures err { OnErr result (IsPartWay settling_events self.old.instance self.new.instance) }
         ensures settled { self.old.rules.platform ≡ true → HasNumbers 3 self.old.instance
             → OnOk result (IsSettled self.new.instance) }
@@ -277,8 +318,10 @@ impl ServiceInstance {
     }
 
     /// Cleans up after the binding with the id: three fault-free rounds of the binding, as at
-    /// [`ServiceInstance::settle`]. If a Poll says that its making has succeeded, a Fetch follows. If there is no binding
-    /// with the id, or the platform doesn't keep its rules, nothing happens: [`Step::Skipped`].
+    /// [`ServiceInstance::settle`]. If a Poll says that its making has succeeded, a Fetch follows. A Bind that is out is
+    /// given up first, and the rounds send none: no answer to a Bind is taken in them. If there is no binding with the id,
+    /// or the platform doesn't keep its rules, nothing happens: [`Step::Skipped`]. Otherwise the call returns
+    /// [`Step::Applied`], and no rule stops or puts off an event of the rounds ([`ServiceInstance::progress`]).
     ///
     /// # Errors
     ///
@@ -292,6 +335,9 @@ impl ServiceInstance {
             × (finite.get self.new.bindings id ≡ finite.get self.old.bindings id) }
         ensures here { self.old.rules.platform ≡ true → SettlesAt result
             (finite.get self.old.bindings id) (finite.get self.new.bindings id) }
+        ensures applied { IfOk result (λ s.
+            s ≡ step_of (self.old.rules.platform && is_some (finite.get self.old.bindings id))) }
+        ensures unknown { finite.get self.old.bindings id ≡ None → result ≡ Ok Step.Skipped }
         ensures agrees { ServiceAgrees self.new }
     {
         if !self.rules.platform {
@@ -305,11 +351,14 @@ impl ServiceInstance {
 
     /// Ends the instance, as it ends where an operator wants it deleted and nothing goes wrong any more: three rounds, in
     /// each of which it is removed if it may be, as at [`Instance::remove`]. If a binding is recorded and isn't `gone`, or
-    /// the platform doesn't keep its rules, nothing happens: [`Step::Skipped`].
+    /// the platform doesn't keep its rules, nothing happens: [`Step::Skipped`]. Otherwise the call returns
+    /// [`Step::Applied`], and no rule stops or puts off an event of the rounds ([`ServiceInstance::progress`]).
     ///
     /// The platform records the instance `gone` then, or nothing as before. That needs three numbers for requests; an
     /// instance that was settled is `gone` after two of the rounds. So five rounds end an instance with its bindings,
-    /// whatever state they are in: three in which the instance is settled and each binding removed, and two of these.
+    /// whatever state they are in: three in which the instance is settled and each binding removed, and two of these
+    /// (`FiveRoundsRemove`, in `specs/Settled.antt`). That needs five numbers for requests of the instance, and three for
+    /// those of each binding.
     ///
     /// # Errors
     ///
@@ -325,10 +374,14 @@ impl ServiceInstance {
         ensures instance { self.old.rules.platform ≡ true
             → each_of (λ b. allowed.may_remove self.old.rules b) self.old.bindings ≡ true
             → OnOk result (self.new.instance ≡ removed_cell self.old.instance) }
+        ensures applied { IfOk result (λ s. s ≡ step_of (self.old.rules.platform
+            && each_of (λ b. allowed.may_remove self.old.rules b) self.old.bindings)) }
         ensures err { OnErr result (IsPartWay removing_events self.old.instance self.new.instance) }
         ensures removed { self.old.rules.platform ≡ true
             → each_of (λ b. allowed.may_remove self.old.rules b) self.old.bindings ≡ true
             → HasNumbers 3 self.old.instance → OnOk result (IsRemoved self.new.instance) }
+        // So it is of all that can come about.
+        ensures five { FiveRoundsRemove self.old }
         ensures agrees { ServiceAgrees self.new }
     {
         if !self.rules.platform {
@@ -346,8 +399,10 @@ impl ServiceInstance {
     }
 
     /// Ends the binding with the id: three rounds of the binding, in each of which it is removed if it may be, as at
-    /// [`ServiceInstance::remove`]. If there is no binding with the id, or the platform doesn't keep its rules, nothing
-    /// happens: [`Step::Skipped`].
+    /// [`ServiceInstance::remove`]. No answer to a Bind is taken in them, as at [`ServiceInstance::settle_binding`]. If
+    /// there is no binding with the id, or the platform doesn't keep its rules, nothing happens: [`Step::Skipped`].
+    /// Otherwise the call returns [`Step::Applied`], and no rule stops or puts off an event of the rounds
+    /// ([`ServiceInstance::progress`]).
     ///
     /// # Errors
     ///
@@ -361,6 +416,9 @@ impl ServiceInstance {
             × (finite.get self.new.bindings id ≡ finite.get self.old.bindings id) }
         ensures here { self.old.rules.platform ≡ true → RemovesAt result
             (finite.get self.old.bindings id) (finite.get self.new.bindings id) }
+        ensures applied { IfOk result (λ s.
+            s ≡ step_of (self.old.rules.platform && is_some (finite.get self.old.bindings id))) }
+        ensures unknown { finite.get self.old.bindings id ≡ None → result ≡ Ok Step.Skipped }
         ensures agrees { ServiceAgrees self.new }
     {
         if !self.rules.platform {
@@ -449,13 +507,14 @@ impl ServiceInstance {
     }
 }
 
-/// A new instance without bindings, stepped through the events: whatever they are, and in whatever order, it agrees with
-/// its bindings then, in the sense of the [crate](crate)'s first page (this project's choice). `alloc` is for all that is
-/// written.
+/// A new instance without bindings, stepped through the events one after the other (`AreStepped`, in
+/// `specs/Service.antt`). Whatever they are, and in whatever order, it agrees with its bindings then, in the sense of the
+/// [crate](crate)'s first page (this project's choice). `alloc` is for all that is written.
 ///
 /// # Errors
 ///
-/// [`Memory`] at the first step at which an allocation failed.
+/// [`Memory`] at the first step at which an allocation failed. Only the events at which [`ServiceInstance::step`] takes
+/// memory ask for it.
 pub fn run(
     alloc: Global,
     rules: Rules,
@@ -463,6 +522,8 @@ pub fn run(
     events: &[ServiceEvent],
 ) -> Result<ServiceInstance, Memory>
     ensures rules { IfOk result (λ service. service.rules ≡ rules) }
+    ensures cells { IfOk result (λ service. AreStepped (new_service rules order) events.now service) }
+    ensures no_memory { happening.TakeNoMemory (new_service rules order) events.now → IsOk result }
     ensures agrees { IfOk result (λ service. ServiceAgrees service) }
 {
     let mut service = ServiceInstance::new(alloc, rules, order);
