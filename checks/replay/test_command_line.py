@@ -11,6 +11,7 @@ from replay.worked import ONE, lines, report
 
 SCHEDULE = (EXAMPLES / "first.schedule").read_text()
 FIRST = (EXAMPLES / "first.report").read_text()
+NETWORK_SCHEDULE = (EXAMPLES / "network" / "lost-bind.schedule").read_text()
 
 # ---- options
 
@@ -67,11 +68,12 @@ def test_table_reads_no_input(replay: Path, tmp_path: Path) -> None:
 @pytest.mark.parametrize(
     ("arguments", "line"),
     [
-        ("--help", "  replay  Reads a schedule"),
-        ("-h", "  replay  Reads a schedule"),
+        ("--help", "  replay   Reads a schedule"),
+        ("-h", "  replay   Reads a schedule"),
         ("replay --help", "  deliver INSTANCE done|before|after"),
         ("replay --saved -h", "  deliver INSTANCE done|before|after"),
         ("trace --help", "  answer    the answer that travels then"),
+        ("network --help", "  issue ID/BINDING N      the resource becomes whole"),
         ("table --help", "The table has a line 'ANSWER STATE MITIGATED'"),
     ],
 )
@@ -81,7 +83,7 @@ def test_help(replay: Path, arguments: str, line: str) -> None:
     assert any(it.startswith(line) for it in ran.out.splitlines())
 
 
-@pytest.mark.parametrize("command", ["", "replay", "trace", "table"])
+@pytest.mark.parametrize("command", ["", "replay", "trace", "network", "table"])
 def test_help_command(replay: Path, command: str) -> None:
     """`help COMMAND` prints what `COMMAND --help` does."""
     expected = run(replay, *command.split(), "--help")
@@ -93,8 +95,11 @@ def test_help_command(replay: Path, command: str) -> None:
 
 REPLAY = "osb-replay replay [--settle] [--saved] < SCHEDULE"
 TRACE = "osb-replay trace [--instance ID] [--settle] < SCHEDULE"
-ALL = f"{REPLAY}\n       {TRACE}\n       osb-replay table"
-NO_COMMAND = "'osb-replay' requires a subcommand but one was not provided\n  [subcommands: replay, trace, table, help]"
+NETWORK = "osb-replay network [--settle | --trace [--instance ID]] < SCHEDULE"
+ALL = f"{REPLAY}\n       {TRACE}\n       {NETWORK}\n       osb-replay table"
+NO_COMMAND = (
+    "'osb-replay' requires a subcommand but one was not provided\n  [subcommands: replay, trace, network, table, help]"
+)
 REJECTED: list[tuple[list[str], str, str]] = [
     ([], NO_COMMAND, ALL),
     (["--"], NO_COMMAND, ALL),
@@ -129,6 +134,9 @@ REJECTED: list[tuple[list[str], str, str]] = [
     (["trace", "--saved"], "unexpected argument '--saved' found", TRACE),
     (["trace", "first.schedule"], "unexpected argument 'first.schedule' found", TRACE),
     (["trace", "--settle", "--settle"], "the argument '--settle' cannot be used multiple times", TRACE),
+    (["network", "--saved"], "unexpected argument '--saved' found", NETWORK),
+    (["network", "first.schedule"], "unexpected argument 'first.schedule' found", NETWORK),
+    (["network", "--trace", "--trace"], "the argument '--trace' cannot be used multiple times", NETWORK),
     (["table", "--saved"], "unexpected argument '--saved' found", "osb-replay table"),
     (["table", "table"], "unexpected argument 'table' found", "osb-replay table"),
 ]
@@ -160,6 +168,17 @@ def test_no_instance(replay: Path, instance: str) -> None:
     reason = "what stands after '--instance' is no GUID, as 00000000-0000-0000-0000-000000000001 is one"
     expected = rejected(reason, "For more information, try 'osb-replay trace --help'.")
     assert run(replay, "trace", "--settle", "--instance", instance, given=SCHEDULE) == expected
+
+
+@pytest.mark.parametrize(
+    "options",
+    [["--settle", "--trace"], ["--instance", ONE], ["--settle", "--instance", ONE], ["--trace", "--instance", "1"]],
+    ids=" ".join,
+)
+def test_network_options_that_do_not_fit(replay: Path, options: list[str]) -> None:
+    reason = "'--instance' needs '--trace' and a GUID, and '--settle' doesn't go with '--trace'"
+    expected = rejected(reason, "For more information, try 'osb-replay network --help'.")
+    assert run(replay, "network", *options, given=NETWORK_SCHEDULE) == expected
 
 
 def test_instance_is_missing(replay: Path) -> None:

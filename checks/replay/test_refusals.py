@@ -18,7 +18,7 @@ import pytest
 from crate_programs import program_of
 from replay.reference import trace
 from replay.refusing import Refuser, Tried, calls, refused_call
-from replay.running import TOP, Ran, fault, run
+from replay.running import EXAMPLES, TOP, Ran, fault, run
 from replay.worked import ONE, PLANS, Worked, lines, report, schedule, whole, worked
 
 pytestmark = pytest.mark.slow
@@ -107,6 +107,13 @@ def sixteen() -> Case:
     return Case("sixteen instances", ["replay"], text.encode(), Ran(0, report(ends, 18, 0), ""))
 
 
+def of_network(name: str, suffix: str, *options: str) -> Case:
+    """A schedule of examples/network/, and what stands beside it."""
+    path = EXAMPLES / "network" / f"{name}.schedule"
+    expected = Ran(0, path.with_suffix(suffix).read_text(), "")
+    return Case(f"network {name}{suffix}", ["network", *options], path.read_bytes(), expected)
+
+
 FAULTS = [
     (3, "LineTooLong", "whole plan S P sync\\nplan S Q async\\n{513*#}\\n"),
     (3, "LatePlan", "plan S P sync; restart; plan S Q async"),
@@ -122,8 +129,13 @@ CASES = [
     *map(of_worked, worked()),
     sixteen(),
     *(Case(f"{name}: {text}", ["replay"], schedule(text), fault(line, name)) for line, name, text in FAULTS),
+    of_network("lost-bind", ".report"),
+    of_network("lost-bind", ".trace", "--trace"),
+    of_network("unanswered-bind", ".settled", "--settle"),
+    Case("network with a fault", ["network"], f"create {ONE}\nsend 1\n".encode(), fault(2, "BadId")),
 ]
 WORDS = ["replay", "replay --saved", "replay --settle", "trace", f"trace --settle --instance {ONE}"]
+WORDS += ["network", "network --settle", f"network --trace --instance {ONE}"]
 
 
 def named(cases: list[Case]) -> list[str]:

@@ -9,6 +9,7 @@ ghost use Rattle.osb_words.specs.declared.command_line.Asked.TheVariants.{Table}
 
 use osb_device::{Input, Output};
 use osb_language::{ReplayFault, status_of};
+use osb_network_replay::replay_network;
 use osb_schedule::replay;
 use osb_table::write_table;
 use osb_trace::trace;
@@ -20,11 +21,11 @@ use std::process::ExitCode;
 // The status of a command line that is refused (this project's choice).
 const REFUSED: u8 = 2;
 
-/// Does what was asked for, from the reader to the writer. It takes memory for a replay and a trace alone.
+/// Does what was asked for, from the reader to the writer. It takes no memory for the table.
 ///
 /// # Errors
 ///
-/// Those of [`replay`], of [`write_table`] and of [`trace`].
+/// Those of [`replay`], of [`write_table`], of [`trace`] and of [`replay_network`].
 pub fn carry_out<R: Read, W: Write>(
     alloc: Global,
     asked: Asked,
@@ -45,6 +46,7 @@ pub fn carry_out<R: Read, W: Write>(
         Asked::Replay(options) => replay(alloc, reader, writer, options),
         Asked::Table => write_table(writer),
         Asked::Trace(options) => trace(alloc, reader, writer, options),
+        Asked::Network(options) => replay_network(alloc, reader, writer, options),
     }
 }
 

@@ -10,11 +10,15 @@ use crate::words::{four_words, one_word, split_word, three_words, two_words};
 use osb_broker::Outcome;
 use osb_message::{Id, Mode};
 
-// What a word may stand for.
+/// What a word may stand for (this project's choice).
 pub trait Field: Copy {
     ghost field: { List ℕ → Result Self Fault };
 
-    // Reads a word.
+    /// Reads a word. It takes no memory.
+    ///
+    /// # Errors
+    ///
+    /// [`LineFault::BadId`] or [`LineFault::BadChoice`] if the word stands for nothing of this kind.
     fn read(word: &[u8]) -> Result<Self, LineFault>
         ensures field { result ≡ field word.now };
 }
@@ -58,7 +62,7 @@ impl Field for Outcome {
     }
 }
 
-// Whether a Provision accepts an asynchronous operation: `yes` or `no`.
+/// Whether a Provision accepts an asynchronous operation: `yes` or `no`.
 #[derive(Clone, Copy)]
 pub struct Accepts(pub bool);
 
@@ -74,7 +78,7 @@ impl Field for Accepts {
     }
 }
 
-// Whether an operation ends well: `ok` or `fail`.
+/// Whether an operation ends well: `ok` or `fail`.
 #[derive(Clone, Copy)]
 pub struct EndsWell(pub bool);
 
@@ -90,7 +94,7 @@ impl Field for EndsWell {
     }
 }
 
-// A status that a gateway answers: `500` to `599`.
+/// A status that a gateway answers: `500` to `599`.
 #[derive(Clone, Copy)]
 pub struct GatewayStatus(pub u16);
 
@@ -117,7 +121,11 @@ pub fn read_none(words: &[u8]) -> Result<(), LineFault>
     }
 }
 
-// The one word after the first.
+/// The one word after the first. It takes no memory.
+///
+/// # Errors
+///
+/// [`LineFault::WordCount`] if there are more or fewer, or else the first fault from the left.
 pub fn read_one<A: Field>(words: &[u8]) -> Result<A, LineFault>
     ensures fields { result ≡ one_field A.field (words_in words.now) }
 {
@@ -127,7 +135,11 @@ pub fn read_one<A: Field>(words: &[u8]) -> Result<A, LineFault>
     A::read(word)
 }
 
-// The two words after the first.
+/// The two words after the first. It takes no memory.
+///
+/// # Errors
+///
+/// [`LineFault::WordCount`] if there are more or fewer, or else the first fault from the left.
 pub fn read_two<A: Field, B: Field>(words: &[u8]) -> Result<(A, B), LineFault>
     ensures fields { result ≡ two_fields A.field B.field (words_in words.now) }
 {
@@ -137,7 +149,11 @@ pub fn read_two<A: Field, B: Field>(words: &[u8]) -> Result<(A, B), LineFault>
     Ok((A::read(first)?, B::read(second)?))
 }
 
-// The three words after the first.
+/// The three words after the first. It takes no memory.
+///
+/// # Errors
+///
+/// [`LineFault::WordCount`] if there are more or fewer, or else the first fault from the left.
 pub fn read_three<A: Field, B: Field, C: Field>(words: &[u8]) -> Result<(A, B, C), LineFault>
     ensures fields { result ≡ three_fields A.field B.field C.field (words_in words.now) }
 {

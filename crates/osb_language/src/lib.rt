@@ -22,7 +22,8 @@ mod replay_fault;
 mod words;
 
 pub use fault::LineFault;
+pub use fields::{Accepts, EndsWell, Field, GatewayStatus, read_one, read_three, read_two};
 pub use limits::LONGEST_LINE;
-pub use line::{Line, read_line, without_carriage_return};
+pub use line::{Line, begins_comment, is_ascii, read_line, without_carriage_return};
 pub use replay_fault::{ReplayFault, ScheduleFault, status_of};
-pub use words::split_word;
+pub use words::{four_words, split_word};

@@ -33,8 +33,9 @@ pub enum Line {
     Event(Event),
 }
 
+/// Whether a line has no byte above 127. It takes no memory.
 #[tactic(auto, using(crate::proofs::Splitting::ascii_all, crate::proofs::Splitting::ascii_not))]
-fn is_ascii(line: &[u8]) -> bool
+pub fn is_ascii(line: &[u8]) -> bool
     ensures ascii { result ≡ is_ascii line.now }
 {
     line.is_ascii()
@@ -106,7 +107,8 @@ fn read_spelled(first: &[u8], words: &[u8]) -> Result<Line, LineFault>
     }
 }
 
-fn begins_comment(word: &[u8]) -> bool
+/// Whether a word begins a comment: with `#`. It takes no memory.
+pub fn begins_comment(word: &[u8]) -> bool
     ensures comment { result ≡ begins_comment word.now }
 {
     match word {

@@ -76,7 +76,7 @@ pub fn three_words(line: &[u8]) -> Option<(&[u8], &[u8], &[u8])>
     Some((first, second, third))
 }
 
-// The four words of a line, or none where it has more or fewer.
+/// The four words of a line, or none where it has more or fewer. It takes no memory.
 pub fn four_words(line: &[u8]) -> Option<(&[u8], &[u8], &[u8], &[u8])>
     ensures words { MatchOption result (length (words_in line.now) ≢ 4)
         (λ words. words_in line.now ≡ words.0.now ∷ words.1.now ∷ words.2.now ∷ words.3.now ∷ []) }

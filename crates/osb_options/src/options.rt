@@ -22,3 +22,19 @@ pub struct TraceOptions {
     /// ascending order of the ids, as by `World::settle` of `osb_world`.
     pub settle: bool,
 }
+
+/// What is written of a network schedule: a report or a trace (this project's choice).
+#[derive(Clone, Copy, Debug, PartialEq, Eq)]
+pub enum NetworkOptions {
+    /// The report at the end.
+    Report {
+        /// Whether each instance, and then each of its bindings, is settled after the last event. The counts stay those
+        /// of the schedule's events.
+        settle: bool,
+    },
+    /// A line for each event.
+    Trace {
+        /// The instance whose events it reports, with those of its bindings; every instance's, if there is none.
+        instance: Option<InstanceId>,
+    },
+}

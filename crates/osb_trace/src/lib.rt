@@ -22,5 +22,6 @@ mod teller;
 mod tracer;
 mod tracing;
 
+pub use line::{push_answer, push_head, push_number};
 pub use reason::{Reason, reason_of};
 pub use tracing::trace;

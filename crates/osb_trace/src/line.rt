@@ -59,7 +59,11 @@ fn body_word(body: Body) -> &'static str
     }
 }
 
-/// Adds a number, in decimal.
+/// Adds a number, in decimal. It takes memory (this project's choice).
+///
+/// # Errors
+///
+/// [`Memory`] if an allocation failed.
 pub fn push_number(text: &mut Vec<u8>, number: usize) -> Result<(), Memory>
     ensures added { OnOk result (text.new.items ≡ text.old.items ++ decimal number) }
 {
@@ -68,8 +72,12 @@ pub fn push_number(text: &mut Vec<u8>, number: usize) -> Result<(), Memory>
     Ok(())
 }
 
-// Adds the answer that travels.
-fn push_answer(text: &mut Vec<u8>, travelling: Option<Answer>) -> Result<(), Memory>
+/// Adds an answer: its status and what can be read of it, or `-` if there is none. It takes memory (this project's choice).
+///
+/// # Errors
+///
+/// [`Memory`] if an allocation failed.
+pub fn push_answer(text: &mut Vec<u8>, travelling: Option<Answer>) -> Result<(), Memory>
     ensures added { OnOk result (text.new.items ≡ text.old.items ++ answer_word travelling) }
 {
     match travelling {
@@ -114,7 +122,11 @@ fn push_words(text: &mut Vec<u8>, line: &[u8]) -> Result<(), Memory>
     Ok(())
 }
 
-/// Adds the first two columns: the number of a line of a schedule, and its words.
+/// Adds the first two columns: the number of a line of a schedule, and its words. It takes memory (this project's choice).
+///
+/// # Errors
+///
+/// [`Memory`] if an allocation failed.
 pub fn push_head(text: &mut Vec<u8>, number: u32, line: &[u8]) -> Result<(), Memory>
     ensures added { OnOk result (text.new.items ≡ text.old.items ++ head number line.now) }
 {

@@ -10,10 +10,11 @@ use Rattle.clap.specs.Simple.{App, new_app, new_rule, on_top, subcommand_of, wit
 use Rattle.clap.specs.declared.builder.action.ArgAction.TheVariants.{Set, SetTrue}
 use Rattle.clap.specs.declared.error.kind.ErrorKind.{ErrorKind}
 use Rattle.clap.specs.declared.error.kind.ErrorKind.TheVariants.{DisplayHelp, OutOfMemory}
+use Rattle.osb_options.specs.declared.options.NetworkOptions.{NetworkOptions}
 use Rattle.osb_options.specs.declared.options.Options.{Options}
 use Rattle.osb_message.specs.IdText.{id_of}
 use Rattle.osb_words.specs.declared.command_line.Asked.{Asked}
-use Rattle.osb_words.specs.declared.command_line.Asked.TheVariants.{Replay, Table, Trace}
+use Rattle.osb_words.specs.declared.command_line.Asked.TheVariants.{Network, Replay, Table, Trace}
 use Rattle.osb_words.specs.declared.command_line.WordsFault.{WordsFault}
 use Rattle.osb_words.specs.declared.command_line.WordsFault.TheVariants.{Help, Refused, Memory}
 
@@ -33,6 +34,11 @@ valued name = record (new_rule name) { long = Some name; action = Some Set; valu
 abbrev pub trace_command : App
 trace_command = with_rule (with_rule (new_app (codes "trace")) (valued (codes "instance"))) (flag (codes "settle"))
 
+abbrev pub network_command : App
+network_command =
+    with_rule (with_rule (with_rule (new_app (codes "network")) (flag (codes "settle"))) (flag (codes "trace")))
+    (valued (codes "instance"))
+
 abbrev pub table_command : App
 table_command = new_app (codes "table")
 
@@ -40,9 +46,12 @@ table_command = new_app (codes "table")
 abbrev pub program : App
 program = on_top (λ top. record top { subcommand_required = true }) (new_app (codes "osb-replay"))
 
+-- with the commands for schedules of one broker
+abbrev pub replaying : App
+replaying = with_subcommand (with_subcommand program replay_command.top) trace_command.top
+
 abbrev pub command : App
-command =
-    with_subcommand (with_subcommand (with_subcommand program replay_command.top) trace_command.top) table_command.top
+command = with_subcommand (with_subcommand replaying network_command.top) table_command.top
 
 -- ---- what words ask for
 
@@ -63,13 +72,29 @@ trace_of rows =
     option_map (λ instance. Trace (record { instance = instance; settle = is_set (codes "settle") rows }))
     (instance_named (first_of (codes "instance") rows))
 
+-- the report or the trace that is asked for: `--settle` goes with a report alone, and `--instance` with a trace
+abbrev pub network_options : Bool → Bool → Option ℕ → Option NetworkOptions
+network_options settle true instance = if settle then None else Some (NetworkOptions.Trace instance)
+network_options settle false None = Some (NetworkOptions.Report settle)
+network_options settle false (Some id) = None
+
+abbrev pub network_by : Bool → Bool → Option (Option ℕ) → Option Asked
+network_by settle trace None = None
+network_by settle trace (Some instance) = option_map (λ o. Network o) (network_options settle trace instance)
+
+abbrev pub network_of : List Row → Option Asked
+network_of rows =
+    network_by (is_set (codes "settle") rows) (is_set (codes "trace") rows)
+    (instance_named (first_of (codes "instance") rows))
+
 -- what a subcommand with its matches asks for
 abbrev pub asked_of : Option (Text × List Row) → Option Asked
 asked_of None = None
 asked_of (Some (name, rows)) =
     if bytes_eq name (codes "replay") then Some (Replay (options_of rows)) else
     (if bytes_eq name (codes "trace") then trace_of rows else
-    (if bytes_eq name (codes "table") then Some Table else None))
+    (if bytes_eq name (codes "network") then network_of rows else
+    (if bytes_eq name (codes "table") then Some Table else None)))
 
 -- what the words ask for: by the subcommand and the matches that the command has on them
 abbrev pub asked_words : List Text → Option Asked

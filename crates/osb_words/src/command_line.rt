@@ -1,7 +1,8 @@
 //! The command line (this project's choice).
 ghost use Rattle.std.specs.Prelude.{◌≡◌, [], codes, false, map, IfErr, IfOk, OnOk, string_bytes};
 ghost use Rattle.osb_words.specs.CommandLine.{asked_of, asked_words, command, flag, is_set, program};
-ghost use Rattle.osb_words.specs.CommandLine.{instance_named, replay_command, table_command, trace_command, valued};
+ghost use Rattle.osb_words.specs.CommandLine.{instance_named, network_command, network_of, network_options};
+ghost use Rattle.osb_words.specs.CommandLine.{replay_command, replaying, table_command, trace_command, valued};
 ghost use Rattle.osb_words.specs.CommandLine.{trace_of, IsNoHelp, IsWordsFault, IsTold};
 ghost use Rattle.clap.specs.Faults.{fault_of};
 ghost use Rattle.clap.specs.Words.{app_of, first_of, found_of, kind_of, rows_of, rule_of, subcommand_rows_of};
@@ -11,7 +12,7 @@ use crate::help;
 use clap::error::ErrorKind;
 use clap::{Arg, ArgAction, ArgMatches, Command};
 use osb_message::InstanceId;
-use osb_options::{Options, TraceOptions};
+use osb_options::{NetworkOptions, Options, TraceOptions};
 use std::alloc::{AllocError, Global};
 use thiserror::Error;
 
@@ -24,6 +25,8 @@ pub enum Asked {
     Table,
     /// To trace the schedule on standard input, with these options.
     Trace(TraceOptions),
+    /// To run the network schedule on standard input, and to write what these options ask for.
+    Network(NetworkOptions),
 }
 
 /// Why the words of a command line ask for nothing that can be done (this project's choice).
@@ -89,6 +92,20 @@ fn make_trace<'a>(alloc: Global) -> Result<Command<'a>, AllocError>
     Ok(trace)
 }
 
+fn make_network<'a>(alloc: Global) -> Result<Command<'a>, AllocError>
+    ensures shape { IfOk result (λ c. app_of c ≡ network_command) }
+    ensures local { IfOk result (λ c. (out-Command c).has_globals ≡ false) }
+{
+    let network = Command::new(alloc, "network")
+        .about(help::NETWORK)
+        .override_usage(help::NETWORK_USAGE)
+        .after_help(help::NETWORK_OUTPUT)
+        .arg(make_flag(alloc, "settle", help::NETWORK_SETTLE))?
+        .arg(make_flag(alloc, "trace", help::NETWORK_TRACE))?
+        .arg(make_valued(alloc, "instance", "ID", help::NETWORK_INSTANCE))?;
+    Ok(network)
+}
+
 fn make_table<'a>(alloc: Global) -> Command<'a>
     ensures shape { app_of result ≡ table_command }
     ensures local { (out-Command result).has_globals ≡ false }
@@ -111,14 +128,22 @@ fn make_program<'a>(alloc: Global) -> Result<Command<'a>, AllocError>
     Ok(program)
 }
 
-fn make_command<'a>(alloc: Global) -> Result<Command<'a>, AllocError>
-    ensures shape { IfOk result (λ c. app_of c ≡ command) }
+// The program with the commands for schedules of one broker.
+fn make_replaying<'a>(alloc: Global) -> Result<Command<'a>, AllocError>
+    ensures shape { IfOk result (λ c. app_of c ≡ replaying) }
 {
     let replay = make_replay(alloc)?;
     let trace = make_trace(alloc)?;
-    let command = make_program(alloc)?
-        .subcommand(replay)?
-        .subcommand(trace)?
+    let command = make_program(alloc)?.subcommand(replay)?.subcommand(trace)?;
+    Ok(command)
+}
+
+fn make_command<'a>(alloc: Global) -> Result<Command<'a>, AllocError>
+    ensures shape { IfOk result (λ c. app_of c ≡ command) }
+{
+    let network = make_network(alloc)?;
+    let command = make_replaying(alloc)?
+        .subcommand(network)?
         .subcommand(make_table(alloc))?;
     Ok(command)
 }
@@ -157,6 +182,32 @@ fn read_trace(matches: &ArgMatches<'_>) -> Option<Asked>
     }))
 }
 
+// The report or the trace that is asked for: `--settle` goes with a report alone, and `--instance` with a trace.
+fn network_options(
+    settle: bool,
+    trace: bool,
+    instance: Option<InstanceId>,
+) -> Option<NetworkOptions>
+    ensures options { result ≡ network_options settle trace instance }
+{
+    match (settle, trace, instance) {
+        (false, true, instance) => Some(NetworkOptions::Trace { instance }),
+        (settle, false, None) => Some(NetworkOptions::Report { settle }),
+        _ => None,
+    }
+}
+
+// What is asked for of a network schedule.
+fn read_network(matches: &ArgMatches<'_>) -> Option<Asked>
+    ensures network { result ≡ network_of (rows_of (found_of matches.now)) }
+{
+    let instance = read_instance(matches)?;
+    let settle = read_flag(matches, "settle");
+    let trace = read_flag(matches, "trace");
+    let options = network_options(settle, trace, instance)?;
+    Some(Asked::Network(options))
+}
+
 // What the matched words ask for.
 fn asked_by(matches: &ArgMatches<'_>) -> Option<Asked>
     ensures asked { result ≡ asked_of (subcommand_rows_of matches.now) }
@@ -167,6 +218,7 @@ fn asked_by(matches: &ArgMatches<'_>) -> Option<Asked>
             saved: read_flag(inner, "saved"),
         })),
         Some(("trace", inner)) => read_trace(inner),
+        Some(("network", inner)) => read_network(inner),
         Some(("table", _)) => Some(Asked::Table),
         _ => None,
     }
@@ -179,12 +231,29 @@ error: what stands after '--instance' is no GUID, as 00000000-0000-0000-0000-000
 For more information, try 'osb-replay trace --help'.
 ";
 
-// The fault of a command line whose instance is no id: the words that `clap` takes ask for nothing else that can't be
-// done.
-fn no_id(alloc: Global) -> WordsFault
+// What is said of options of a network schedule that don't go together, or of an instance that is no id.
+const NO_NETWORK: &str = "\
+error: '--instance' needs '--trace' and a GUID, and '--settle' doesn't go with '--trace'
+
+For more information, try 'osb-replay network --help'.
+";
+
+// Whether the words are those of a network schedule.
+fn is_network(matches: &ArgMatches<'_>) -> bool {
+    matches!(matches.subcommand(), Some(("network", _)))
+}
+
+// The fault of a command line that `clap` takes and that asks for nothing that can be done: its instance is no id, or
+// its options don't go together.
+fn not_asked(alloc: Global, matches: &ArgMatches<'_>) -> WordsFault
     ensures no_help { IsNoHelp result }
 {
-    match String::from_str(alloc, NO_ID) {
+    let text = if is_network(matches) {
+        NO_NETWORK
+    } else {
+        NO_ID
+    };
+    match String::from_str(alloc, text) {
         Ok(text) => WordsFault::Refused(text),
         Err(_) => WordsFault::Memory,
     }
@@ -208,7 +277,8 @@ fn fault_by(alloc: Global, error: &clap::Error) -> WordsFault
 ///
 /// The first word is the program's name, whatever it is. Then stands `replay`, and after it
 /// `--settle`, `--saved`, both or neither, in either order; or `trace`, and after it `--instance` with an id,
-/// `--settle`, both or neither, in either order; or `table`. The words are read by `clap`,
+/// `--settle`, both or neither, in either order; or `network`, and after it `--settle`, or `--trace` with or without
+/// `--instance` and an id, or nothing; or `table`. The words are read by `clap`,
 /// so what they ask for is what its definition of the matches gives for them under this command. It
 /// takes memory, and changes nothing.
 ///
@@ -229,7 +299,7 @@ pub fn read_words(alloc: Global, words: &[String]) -> Result<Asked, WordsFault>
     match command.try_get_matches_from(words) {
         Ok(matches) => match asked_by(&matches) {
             Some(asked) => Ok(asked),
-            None => Err(no_id(alloc)),
+            None => Err(not_asked(alloc, &matches)),
         },
         Err(error) => Err(fault_by(alloc, &error)),
     }

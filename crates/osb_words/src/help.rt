@@ -10,6 +10,7 @@ Broker API 2.17)";
 pub const PROGRAM_USAGE: &str = "\
 osb-replay replay [--settle] [--saved] < SCHEDULE
        osb-replay trace [--instance ID] [--settle] < SCHEDULE
+       osb-replay network [--settle | --trace [--instance ID]] < SCHEDULE
        osb-replay table";
 
 /// How to start, and how the program ends.
@@ -117,6 +118,77 @@ Tells of this instance and of the restarts alone";
 pub const TRACE_SETTLE: &str = "\
 After the last event, gives each instance three rounds in which nothing
 is lost, and tells of these too";
+
+/// What `network` does.
+pub const NETWORK: &str = "\
+Reads a schedule of instances with bindings on standard input and writes a report or a trace";
+
+/// How `network` is called, below `Usage: `.
+pub const NETWORK_USAGE: &str =
+    "osb-replay network [--settle | --trace [--instance ID]] < SCHEDULE";
+
+/// What stands in a network schedule, in its report and in its trace.
+pub const NETWORK_OUTPUT: &str = "\
+A network schedule says what happens to instances and bindings, a line each. The network loses,
+delays and repeats what is sent. A LIFE is an instance ID, or a binding ID/BINDING: two GUIDs with a
+slash between. N is a number in decimal, and STATUS is one of 500 to 599. '|' separates choices. A
+line that begins with '#' is a comment.
+
+  instance ID SERVICE PLAN sync|async|none yes|no first-poll|at-once both|platform|broker|none
+                          takes an instance in: how the plan works; whether a Provision may take
+                          time; the broker's rule for the first Poll; who keeps the rules
+  binding ID/BINDING sync|async|none yes|no first-poll|at-once fetch|no-fetch
+                          takes a binding in; 'fetch': the broker serves a Fetch of it
+  create LIFE             the platform records the life and sends its first request
+  send LIFE               the platform sends the request that is due next
+  expire LIFE             the platform has polled for as long as it may
+  retry LIFE              the platform sends a deletion again
+  remove LIFE             an operator has it deleted
+  timeout LIFE            the platform gives the request up
+  arrive LIFE N           the request of attempt N reaches the broker, in time, late or again
+  put-off LIFE N          it reaches a broker that lets nothing begin now
+  take LIFE N             the platform takes the answer N, from 0, in time, late or again
+  garble LIFE N           it takes the answer N, whose body can't be read any more
+  gateway LIFE STATUS     a gateway answers with this status in the broker's place
+  work LIFE absent|part|whole
+                          the resource becomes this
+  issue ID/BINDING N      the resource becomes whole, with credentials N
+  end LIFE done|before|after|refused-400|refused-422|unknown
+                          the pending work ends so
+  finish LIFE ok|fail     what takes the broker time succeeds or fails
+  give-up-waiting LIFE    the broker gives up a row that waits for its first Poll
+  crash LIFE broker|platform
+                          this side crashes and starts again
+  fetch ID/BINDING        a Fetch of the binding reaches the broker
+  take-fetched ID/BINDING N M
+                          the platform takes the answer N with the fetched credentials M, from 0
+  forget ID/BINDING       the broker deletes the binding's tombstone
+
+The report has a line for each instance, and then for each of its bindings:
+
+  LIFE STATE OUT ATTEMPT PHASE WORK TOMBSTONE RESOURCE [RECORDED CREDENTIALS]
+
+STATE, OUT and ATTEMPT are what the platform records: the state, the request that is out, and the
+number of the latest request. PHASE, WORK and TOMBSTONE are what the broker holds. RECORDED are the
+credentials that the platform records with 'ready', and CREDENTIALS those of a resource that is
+whole. '-' or 'none' stands for nothing. Then the lines 'applied N' and 'skipped M' count the events
+that took effect, and those that could not where they stand. A trace has the same columns of the
+event's life, then how many answers were given of it, and the answer that the event gave. If a line
+of the schedule has a fault, nothing is written.";
+
+/// What `--settle` does in a network schedule.
+pub const NETWORK_SETTLE: &str = "\
+After the last event, gives each instance and then each of its bindings three
+rounds in which nothing is lost, if its platform keeps the rules";
+
+/// What `--trace` does.
+pub const NETWORK_TRACE: &str = "\
+Writes a line for each event in place of the report: whether it applied, and
+its life after it";
+
+/// What `--instance` does in a network schedule.
+pub const NETWORK_INSTANCE: &str = "\
+Reports the events of this instance and of its bindings alone";
 
 /// What `table` does.
 pub const TABLE: &str = "Writes the orphan mitigation table on standard output";

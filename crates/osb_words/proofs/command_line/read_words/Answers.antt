@@ -10,6 +10,6 @@ returns-clause-fault c =
 
 pub returns-in-Ok-try_get_matches_from-clause-fault : goal.returns-in-Ok-try_get_matches_from-clause-fault
 returns-in-Ok-try_get_matches_from-clause-fault c =
-    refused_unasked (map string_bytes c.args.words.now) c.no_id.result c.no_id.ensures.no_help
+    refused_unasked (map string_bytes c.args.words.now) c.not_asked.result c.not_asked.ensures.no_help
     (unasked _ _ _ _ c.in-Ok.ensures.shape c.in-Ok-try_get_matches_from.ensures.kinds
     c.in-Ok-try_get_matches_from.ensures.matches (sym c.in-None.ensures.asked))

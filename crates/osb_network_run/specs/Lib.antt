@@ -1,0 +1,4 @@
+pub mod Faults
+pub mod Network
+pub mod Settling
+pub mod Tally
