@@ -34,14 +34,15 @@ func (s *Service) begin(held Held, asked Asked) (next *Entry, given begun, err e
 		}
 	}
 	if holding == held.Holding {
-		return nil, given, nil
+		return s.rules.renewed(held, asked), given, nil
 	}
 	entry := held.Entry
 	entry.Holding = holding
-	if err := entry.begun(asked); err != nil {
+	of, err := entry.begun(asked)
+	if err != nil {
 		return nil, given, err
 	}
-	given.entry, given.returned = entry, returned
+	given.pending, given.returned = pending{entry, of}, returned
 	return &entry, given, nil
 }
 
@@ -63,10 +64,10 @@ func (s *Service) beginHolding(
 	if err != nil || holding == held.Holding || asked.Asked.Kind == osb.KindPoll {
 		return holding, happened, false, err
 	}
-	if isBound, err = held.AnyBinding(); err != nil {
-		return holding, happened, isBound, err
+	if isBound, err = held.AnyBinding(); err != nil || !isBound {
+		return holding, happened, isBound, err // BeginIf returns what Begin has, if something may begin
 	}
-	holding, happened, err = held.Holding.BeginIf(mode, request, rules, !isBound)
+	holding, happened, err = held.Holding.BeginIf(mode, request, rules, false)
 	return holding, happened, isBound, err
 }
 
@@ -94,28 +95,30 @@ func failedBefore(held Held, asked Asked, answer osb.Answer) (Answered, error) {
 	return Answered{Answer: answer, Description: held.Description}, nil
 }
 
-// begun writes down, beside a holding that has changed, what the worker needs.
-func (e *Entry) begun(asked Asked) error {
+// begun writes down, beside a holding that has changed, what the worker needs. It returns what the entry's Request is the
+// text of, or nil if that has to be read.
+func (e *Entry) begun(asked Asked) (*Request, error) {
 	e.Since = now()
 	switch {
 	case !e.Holding.IsHeld(): // only a tombstone
 		*e = Entry{Holding: e.Holding, Life: e.Life}
 	case asked.Asked.Kind == osb.KindProvision:
 		e.Request, e.Binding, e.Description = asked.Request, nil, ""
+		return asked.Creation, nil
 	case asked.Asked.Kind == osb.KindDeprovision:
 		return e.deletionBegun(asked)
 	}
-	return nil
+	return nil, nil
 }
 
-func (e *Entry) deletionBegun(asked Asked) error {
+func (e *Entry) deletionBegun(asked Asked) (*Request, error) {
 	row, _ := e.Holding.Row()
 	request, err := requestOf(asked.Key, row, e.Request)
 	if err != nil {
-		return err
+		return nil, err
 	}
 	origin := asked.Origin
 	request.Deletion = &origin
 	e.Request, err = json.Marshal(request)
-	return err
+	return &request, err
 }

@@ -19,7 +19,8 @@ import (
 const ShortestReturn = 5 * time.Minute
 
 // longestStay is how long a broker keeps a request before it begins with it, if ids return. So a request that a broker
-// got in the old life changes nothing in the new one, also if the broker was stopped meanwhile (SIGSTOP).
+// got in the old life changes nothing in the new one, also if the broker was stopped meanwhile (SIGSTOP). That doesn't
+// count the time in which the request is still in its socket, or in which the machine is suspended.
 const longestStay = time.Minute
 
 // errLate reports that the broker has kept a request for longer than longestStay, and hasn't begun with it.
@@ -43,7 +44,18 @@ func (r Rules) returned(held Held, asked Asked) (found Held, returned *Return) {
 	return held, returned
 }
 
-// isLate is whether the broker has kept a request for too long. It is asked while the row is locked.
+// renewed is what is written if a deletion finds a tombstone, if ids return: the tombstone again, which the store gives
+// the time of now. Otherwise it is nil. The platform may have sent the deletion after a creation that has timed out and
+// is still under way. That creation mustn't find an old tombstone: nobody would know what it creates.
+func (r Rules) renewed(held Held, asked Asked) *Entry {
+	if r.IDsReturnAfter == 0 || asked.Asked.Kind != osb.KindDeprovision || !held.Holding.HasTombstone() {
+		return nil
+	}
+	return &held.Entry
+}
+
+// isLate is whether the broker has kept a request for too long. It is asked while the row is locked, or after it was
+// read.
 func (s *Service) isLate(asked Asked) bool {
 	return s.rules.IDsReturnAfter != 0 && !asked.Arrived.IsZero() && time.Since(asked.Arrived) > s.stay
 }

@@ -162,7 +162,7 @@ func TestAnIDReturns(t *testing.T) {
 	}
 }
 
-// Only a creation that begins something lets an id return. All else leaves the tombstone, and its time.
+// Only a creation that begins something lets an id return. All else leaves the tombstone.
 func TestWhatLetsNoIDReturn(t *testing.T) {
 	one := instances + "i"
 	l := newLives(t, newShelf(calm), anHour)
@@ -475,5 +475,131 @@ func TestCatalogueOfIDsThatReturn(t *testing.T) {
 			!strings.Contains(string(given.body), "00000000-0000-0000-0000-0000000000c4") {
 			t.Errorf("%s", given.body)
 		}
+	}
+}
+
+// A Fetch that a broker has kept for too long isn't answered with credentials: they may be of another life.
+func TestALateFetchOfTheOldLife(t *testing.T) {
+	bound := instances + "i/service_bindings/b"
+	for _, rules := range []broker.Rules{anHour, {}} {
+		l, status := newLives(t, newShelf(calm), rules), http.StatusOK
+		if rules.IDsReturnAfter > 0 {
+			status = http.StatusServiceUnavailable
+		}
+		l.expect(t, 201, "PUT", instances+"i", bodyOf(now, ""))
+		l.expect(t, 201, "PUT", bound, bodyOf(now, ""))
+		l.expect(t, 200, "GET", bound, "")
+		l.SetStay(-1)
+		l.expect(t, status, "GET", bound, "")
+	}
+}
+
+// A deletion that finds a tombstone makes it young, if ids return: the platform may have sent it after a creation that
+// is still under way. Without the option, and after any other request, the tombstone keeps its age.
+func TestADeletionRenewsATombstone(t *testing.T) {
+	const pause, inexact = 100 * time.Millisecond, 10 * time.Millisecond
+	one := instances + "i"
+	bound, binding := one+"/service_bindings/b", broker.BindingKey(keyOf("i").Instance, keyOf("b").Instance)
+	for _, rules := range []broker.Rules{anHour, {}} {
+		l := newLives(t, newShelf(calm), rules)
+		l.expect(t, 201, "PUT", one, bodyOf(now, ""))
+		l.expect(t, 201, "PUT", bound, bodyOf(now, ""))
+		for _, it := range []struct {
+			target string
+			key    broker.Key
+		}{{bound, binding}, {one, keyOf("i")}} {
+			l.expect(t, 200, "DELETE", it.target+names(now), "")
+			time.Sleep(pause)
+			l.expect(t, 410, "GET", it.target+"/last_operation", "")
+			l.expect(t, 409, "PUT", it.target, bodyOf(now, ""))
+			if age := l.age(t, it.key); age < pause {
+				t.Errorf("%v: the age is %v after a Poll and a creation with %+v", it.key, age, rules)
+			}
+			again := time.Now()
+			l.expect(t, 410, "DELETE", it.target+names(now), "")
+			age := l.age(t, it.key)
+			if isYoung := age <= time.Since(again)+inexact; isYoung != (rules.IDsReturnAfter > 0) {
+				t.Errorf("%v: the age is %v after a deletion with %+v", it.key, age, rules)
+			}
+		}
+	}
+}
+
+// age is how old a tombstone is.
+func (l *lives) age(t *testing.T, key broker.Key) time.Duration {
+	t.Helper()
+	held, err := l.store.Read(context.Background(), key)
+	if err != nil || !held.Holding.HasTombstone() {
+		t.Fatalf("%v has no tombstone: %+v, %v", key, held.Entry, err)
+	}
+	return held.EndedAgo
+}
+
+// A noting backend keeps the requests by which instances were created.
+type noting struct {
+	*shelf
+	created []broker.Request
+}
+
+func (n *noting) Create(ctx context.Context, request broker.Request) error {
+	n.created = append(n.created, request)
+	return n.shelf.Create(ctx, request)
+}
+
+// A worker of the old life that lost its lock before it wrote down its fence creates nothing by the request of the old
+// life.
+func TestALateOperationOfTheOldLife(t *testing.T) {
+	ctx, one, key := context.Background(), instances+"i", keyOf("i")
+	backend := &noting{shelf: newShelf(calm)}
+	l := newLives(t, backend, anHour)
+	old := l.service(t, backend, losable{newMemoryLocks()}, anHour)
+	l.Service = l.service(t, backend, losable{newMemoryLocks()}, anHour)
+	takeUp := func() {
+		if err := l.TakeUp(ctx, key); err != nil {
+			t.Error(err)
+		}
+	}
+	l.expect(t, 202, "PUT", one+query, bodyOf(later, `,"parameters":{"life":0}`))
+	l.clock.afterRead = func(broker.Key) {
+		takeUp()
+		l.expect(t, 202, "DELETE", one+names(later)+"&accepts_incomplete=true", "")
+		takeUp()
+		l.clock.set(time.Hour)
+		l.expect(t, 202, "PUT", one+query, bodyOf(later, `,"parameters":{"life":1}`))
+	}
+	if err := old.TakeUp(ctx, key); err != nil && !errors.Is(err, broker.ErrLostWork) {
+		t.Error(err)
+	}
+	takeUp()
+	l.expect(t, 200, "GET", one+"/last_operation", "")
+	for life, it := range backend.created {
+		if !strings.Contains(string(it.Body), `{"life":`+string(rune('0'+life))+`}`) {
+			t.Errorf("in life %d it is created by %s", life, it.Body)
+		}
+	}
+	if row, _ := l.holding(t, key).Row(); len(backend.created) != 2 || row.Phase != osb.PhaseReady {
+		t.Errorf("created %d times: %+v", len(backend.created), l.entry(t, key))
+	}
+}
+
+// A worker that lost its lock before it wrote down its fence does nothing if the operation has ended.
+func TestAnOperationThatHasEnded(t *testing.T) {
+	ctx, one, key := context.Background(), instances+"i", keyOf("i")
+	backend := &noting{shelf: newShelf(calm)}
+	l := newLives(t, backend, anHour)
+	l.Service = l.service(t, backend, losable{newMemoryLocks()}, anHour)
+	l.expect(t, 202, "PUT", one+query, bodyOf(later, ""))
+	other := l.service(t, backend, losable{newMemoryLocks()}, anHour)
+	l.clock.afterRead = func(broker.Key) {
+		if err := other.TakeUp(ctx, key); err != nil {
+			t.Error(err)
+		}
+	}
+	if err := l.TakeUp(ctx, key); !errors.Is(err, broker.ErrLostWork) {
+		t.Errorf("the error is %v", err)
+	}
+	row, _ := l.holding(t, key).Row()
+	if row.Phase != osb.PhaseReady || backend.there(key) != broker.Whole || len(backend.created) != 1 {
+		t.Errorf("%v exists, created %d times: %+v", backend.there(key), len(backend.created), row)
 	}
 }

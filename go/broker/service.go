@@ -59,6 +59,7 @@ type Asked struct {
 	IsFetch    bool      // whether it is the Fetch of a binding
 	Attributes osb.Digest
 	Request    json.RawMessage // of a creation: the text of its Request
+	Creation   *Request        // of a creation: what Request is the text of, or nil if only the text is known
 	Origin     Origin          // of a deletion
 	Arrived    time.Time       // when the broker got the request, or the zero Time if that doesn't count
 }
@@ -105,7 +106,7 @@ func (s *Service) Handle(ctx context.Context, asked Asked) (Answered, error) {
 				return Answered{}, err
 			}
 		}
-		answered, err := s.do(ctx, lock, asked.Key, begun.entry, isSure)
+		answered, err := s.do(ctx, lock, asked.Key, begun.pending, isSure)
 		if !errors.Is(err, errDoneBefore) {
 			return answered, err
 		}
@@ -164,6 +165,9 @@ func (s *Service) fetch(ctx context.Context, asked Asked) (Answered, error) {
 	if err != nil {
 		return Answered{}, err
 	}
+	if s.isLate(asked) {
+		return Answered{}, errLate
+	}
 	if isAnother, err := asked.namesAnother(held.Entry); err != nil || isAnother {
 		return asked.unknown(), err
 	}
@@ -193,8 +197,22 @@ func (s *Service) withBinding(key Key, answer osb.Answer, object json.RawMessage
 type begun struct {
 	answered Answered
 	work     osb.Work
-	entry    Entry   // what was written, if work is due
+	pending  pending // what was written, if work is due
 	returned *Return // if the id returns with what was written
+}
+
+// pending is an entry with pending work.
+type pending struct {
+	entry   Entry
+	request *Request // what entry.Request is the text of, or nil if it has to be read
+}
+
+// requestOf is the request whose work is pending.
+func (p pending) requestOf(key Key) (Request, error) {
+	if p.request != nil {
+		return *p.request, nil
+	}
+	return requestOf(key, rowOf(p.entry.Holding), p.entry.Request)
 }
 
 // record is the first transaction of a request: it is answered, or its work becomes pending. If away isn't nil, work
@@ -223,12 +241,12 @@ func (s *Service) record(ctx context.Context, asked Asked, away error) (given be
 	return given, err
 }
 
-// do does the pending work of an entry under the lock, and ends it. If isSure is true, nobody else can have done it
+// do does pending work under the lock, and ends it. If isSure is true, nobody else can have done it
 // since the entry was written. Otherwise it is read once more.
 //
 // Errors: errDoneBefore, and then nothing was done; those of the store and the backend.
-func (s *Service) do(ctx context.Context, lock Lock, key Key, entry Entry, isSure bool) (answered Answered, err error) {
-	pending, isPending := entry.Holding.Work()
+func (s *Service) do(ctx context.Context, lock Lock, key Key, due pending, isSure bool) (answered Answered, err error) {
+	work, isPending := due.entry.Holding.Work()
 	if !isPending {
 		return answered, ErrLostWork
 	}
@@ -241,21 +259,21 @@ func (s *Service) do(ctx context.Context, lock Lock, key Key, entry Entry, isSur
 		if err != nil {
 			return answered, err
 		}
-		if now, isPending := held.Holding.Work(); !isPending || now != pending {
+		if now, isPending := held.Holding.Work(); !isPending || now != work {
 			return answered, errDoneBefore
 		}
-		entry = held.Entry
+		due = pending{entry: held.Entry}
 	}
-	request, err := requestOf(key, rowOf(entry.Holding), entry.Request)
+	request, err := due.requestOf(key)
 	if err != nil {
 		return answered, err
 	}
-	mode := s.catalogue.mode(key.IsBinding, plan{pending.Service, pending.Plan})
-	done, err := s.worker.do(lock.Context(ctx), osb.WorkOf(pending.Kind, mode), request)
+	mode := s.catalogue.mode(key.IsBinding, plan{work.Service, work.Plan})
+	done, err := s.worker.do(lock.Context(ctx), osb.WorkOf(work.Kind, mode), request)
 	if err != nil {
 		return answered, err
 	}
-	return s.end(ctx, key, fence, pending, done)
+	return s.end(ctx, key, fence, work, done)
 }
 
 // rowOf is the row, or the one that the pending work would make.

@@ -37,7 +37,7 @@ func (s *Service) TakeUp(ctx context.Context, key Key) error {
 		return err
 	}
 	if _, isPending := held.Holding.Work(); isPending {
-		answered, err := s.do(ctx, lock, key, held.Entry, !s.locks.CanBeLost())
+		answered, err := s.do(ctx, lock, key, pending{entry: held.Entry}, !s.locks.CanBeLost())
 		if err != nil {
 			return err
 		}
@@ -71,11 +71,14 @@ func (s *Service) stillTaken(ctx context.Context, key Key) error {
 
 // operate goes on with the operation that runs, and ends it.
 func (s *Service) operate(ctx context.Context, lock Lock, key Key, held Held) error {
-	row, _ := held.Holding.Row()
 	fence, err := s.fence(ctx, key)
 	if err != nil {
 		return err
 	}
+	if held, err = s.sure(ctx, key, held); err != nil {
+		return err
+	}
+	row, _ := held.Holding.Row()
 	request, err := requestOf(key, row, held.Request)
 	if err != nil {
 		return err
@@ -104,6 +107,22 @@ func (s *Service) operate(ctx context.Context, lock Lock, key Key, held Held) er
 	crash.At("finish-written")
 	s.observer.Finished(key, done.isDone())
 	return nil
+}
+
+// sure is what is held of an operation that runs. If the lock can be lost, that is read once more after the fence is
+// written: meanwhile somebody else may have ended the operation, and the life whose request was read.
+//
+// Errors: ErrLostWork if another operation runs or none; those of the store.
+func (s *Service) sure(ctx context.Context, key Key, before Held) (Held, error) {
+	if !s.locks.CanBeLost() {
+		return before, nil
+	}
+	row, _ := before.Holding.Row()
+	held, err := s.read(ctx, key)
+	if now, isHeld := held.Holding.Row(); err == nil && (!isHeld || now != row) {
+		err = ErrLostWork
+	}
+	return held, err
 }
 
 // giveUpWaiting ends a creation whose first Poll hasn't come in time: it has failed, and nothing of it was made.

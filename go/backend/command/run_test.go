@@ -300,13 +300,21 @@ func TestRunsLeaveNothing(t *testing.T) {
 	}
 }
 
-func openFiles(t *testing.T) int {
+// openFiles returns how many files are open, without those that were deleted: the locks of an earlier test leave some open
+// until they are collected as garbage.
+func openFiles(t *testing.T) (count int) {
 	t.Helper()
 	found, err := os.ReadDir("/proc/self/fd")
 	if err != nil {
 		t.Fatal(err)
 	}
-	return len(found)
+	for _, it := range found {
+		path, err := os.Readlink("/proc/self/fd/" + it.Name())
+		if err == nil && !strings.HasSuffix(path, " (deleted)") {
+			count++
+		}
+	}
+	return count
 }
 
 // What a run that failed has left in the background is killed, whatever made it fail.

@@ -28,6 +28,18 @@ func removed(path string) error {
 	return nil
 }
 
+// renamed renames a folder to a name that doesn't exist. os.Rename would look once more whether it does.
+func renamed(from, to string) error {
+	err := syscall.Rename(from, to)
+	for err == syscall.EINTR {
+		err = syscall.Rename(from, to)
+	}
+	if err != nil {
+		return &os.LinkError{Op: "rename", Old: from, New: to, Err: err}
+	}
+	return nil
+}
+
 // written writes a file with mode 0600, and returns once its content is on disk. If it fails, the file may exist with a
 // part of its content.
 func written(path string, text []byte) error {

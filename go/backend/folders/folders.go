@@ -8,6 +8,7 @@ import (
 	"io/fs"
 	"os"
 	"path/filepath"
+	"sync"
 	"syscall"
 	"unicode/utf8"
 
@@ -47,6 +48,7 @@ type Folders struct {
 	topSync      together
 	bindingsSync together
 	setAttribute func(path, name string, value []byte, flags int) error
+	attributes   sync.Map // of folders: soldAs to []byte
 }
 
 var (
@@ -147,7 +149,7 @@ func (f *Folders) create(request broker.Request) error {
 		return err
 	}
 	crash.At("work-half")
-	return os.Rename(part, f.whole(request.Key.Instance))
+	return renamed(part, f.whole(request.Key.Instance))
 }
 
 // Delete deletes the folder of an instance with its content. It doesn't follow symbolic links.
@@ -178,7 +180,7 @@ func (f *Folders) retract(instance osb.ID) error {
 	if err := os.RemoveAll(f.part(instance)); err != nil {
 		return err
 	}
-	return os.Rename(f.whole(instance), f.part(instance))
+	return renamed(f.whole(instance), f.part(instance))
 }
 
 // Sync returns once what Look or LookBinding returns for a request would outlive a power cut.

@@ -3,6 +3,7 @@ package folders
 import (
 	"encoding/json"
 	"os"
+	"strings"
 	"syscall"
 	"testing"
 
@@ -11,9 +12,8 @@ import (
 )
 
 func TestLabel(t *testing.T) {
-	wanted := `{"instance":"` + first.Key.Instance.String() + `","plan":"` + first.PlanID +
-		`","service":"` + first.ServiceID + `"}` + "\n"
 	t.Run("an attribute", func(t *testing.T) {
+		wanted := "000000000000000000000000000000a0 000000000000000000000000000000b1"
 		f := newFolders(t, t.TempDir())
 		if syscall.Setxattr(f.top, labelAttribute, []byte("x"), 0) != nil {
 			t.Skip("the file system of the temporary folder has no extended attributes")
@@ -29,6 +29,8 @@ func TestLabel(t *testing.T) {
 		}
 	})
 	t.Run("a file", func(t *testing.T) {
+		wanted := `{"instance":"` + first.Key.Instance.String() + `","plan":"` + first.PlanID +
+			`","service":"` + first.ServiceID + `"}` + "\n"
 		f := newFolders(t, t.TempDir())
 		f.setAttribute = func(string, string, []byte, int) error { return syscall.ENOTSUP }
 		ok(t, f.Create(ctx, first))
@@ -42,17 +44,24 @@ func TestLabel(t *testing.T) {
 
 // An id that isn't a GUID stands for its number.
 func TestLabelHasNumbers(t *testing.T) {
-	request := first
-	request.ServiceID, request.PlanID = "postgres", "small"
-	text, err := labelOf(request)
+	sold := soldAs{"postgres", "small"}
+	text, err := sold.textOf(first.Key.Instance)
 	ok(t, err)
 	var label map[string]string
 	ok(t, json.Unmarshal(text, &label))
-	for name, id := range map[string]string{"service": "postgres", "plan": "small"} {
-		number, err := osb.IDOfText(id)
+	wanted := ""
+	for _, it := range [][2]string{{"service", "postgres"}, {"plan", "small"}} {
+		number, err := osb.IDOfText(it[1])
 		ok(t, err)
-		if label[name] != number.String() {
-			t.Errorf("%s is %s, and not %v", name, label[name], number)
+		if label[it[0]] != number.String() {
+			t.Errorf("%s is %s, and not %v", it[0], label[it[0]], number)
+		}
+		wanted += " " + strings.ReplaceAll(number.String(), "-", "")
+	}
+	f := newFolders(t, t.TempDir())
+	for again := 0; again < 2; again++ {
+		if attribute, err := f.attributeOf(sold); err != nil || " "+string(attribute) != wanted {
+			t.Errorf("the attribute is %s, %v, and not%s", attribute, err, wanted)
 		}
 	}
 }

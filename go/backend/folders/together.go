@@ -2,6 +2,7 @@ package folders
 
 import (
 	"context"
+	"runtime"
 	"sync"
 )
 
@@ -39,6 +40,7 @@ func (t *together) do(ctx context.Context) error {
 	select {
 	case <-mine.done:
 	default: // nobody else can begin it now, so it is the next one
+		runtime.Gosched() // lets those join who are about to. If no goroutine can run, that takes no time
 		t.begin()
 		mine.err = t.call()
 		close(mine.done)

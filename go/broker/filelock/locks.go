@@ -39,10 +39,14 @@ const (
 // ErrLent reports that a process still has an open file that Lend has returned before.
 var ErrLent = errors.New("a process still has the lock that it inherited")
 
+// mostSpare is how many open files without a lock are kept at most.
+const mostSpare = 64
+
 // Locks are broker.Locks in one file. Any number of goroutines and processes use the file at once.
 type Locks struct {
-	path string
-	file syscall.Stat_t // of the file that New opened
+	path  string
+	file  syscall.Stat_t // of the file that New opened
+	spare chan *os.File  // open files without a lock, which this process opened before
 }
 
 // New returns the locks in the file path. It creates the file with mode 0600 if it doesn't exist. The file stays empty.
@@ -61,7 +65,7 @@ func New(path string) (*Locks, error) {
 	if found.Mode&syscall.S_IFMT != syscall.S_IFREG {
 		return nil, fmt.Errorf("filelock: %s isn't a regular file", path)
 	}
-	return &Locks{path: path, file: found}, nil
+	return &Locks{path: path, file: found, spare: make(chan *os.File, mostSpare)}, nil
 }
 
 // CanBeLost returns false: a lock ends only by Unlock, or with its process.
@@ -72,7 +76,7 @@ func (l *Locks) CanBeLost() bool { return false }
 // Errors: those of opening and locking the file, and if the file was deleted or replaced since New. Nothing is locked
 // then.
 func (l *Locks) TryLock(_ context.Context, key broker.Key) (broker.Lock, error) {
-	file, err := l.open()
+	file, err := l.take()
 	if err != nil {
 		return nil, err
 	}
@@ -90,7 +94,7 @@ func (l *Locks) TryLock(_ context.Context, key broker.Key) (broker.Lock, error) 
 //
 // Errors: that of ctx; those of TryLock. Nothing is locked then.
 func (l *Locks) Lock(ctx context.Context, key broker.Key) (broker.Lock, error) {
-	file, err := l.open()
+	file, err := l.take()
 	if err != nil {
 		return nil, err
 	}
@@ -128,16 +132,56 @@ func sleep(ctx context.Context, pause time.Duration) {
 	}
 }
 
-// open opens the file anew, which is what makes its locks exclude those of the other goroutines.
+// take returns an open file that no other goroutine uses, and that has no lock. That is what makes its locks exclude
+// those of the other goroutines.
+func (l *Locks) take() (*os.File, error) {
+	select {
+	case file := <-l.spare:
+		if err := l.check(); err != nil {
+			_ = file.Close()
+			return nil, err
+		}
+		return file, nil
+	default:
+		return l.open()
+	}
+}
+
+// give keeps an open file without a lock for the next take.
+func (l *Locks) give(file *os.File) {
+	select {
+	case l.spare <- file:
+	default:
+		_ = file.Close()
+	}
+}
+
+// check fails if the file was deleted or replaced since New.
+func (l *Locks) check() error {
+	var found syscall.Stat_t
+	if err := syscall.Lstat(l.path, &found); err != nil {
+		return fmt.Errorf("filelock: %w", &os.PathError{Op: "lstat", Path: l.path, Err: err})
+	}
+	return l.isSame(found)
+}
+
+// isSame fails unless a file is the one that New opened.
+func (l *Locks) isSame(found syscall.Stat_t) error {
+	if found.Dev != l.file.Dev || found.Ino != l.file.Ino {
+		return fmt.Errorf("filelock: %s was replaced. Stop every process that uses it, and start them again", l.path)
+	}
+	return nil
+}
+
+// open opens the file anew.
 func (l *Locks) open() (*os.File, error) {
 	file, found, err := open(l.path, 0)
 	if err != nil {
 		return nil, err
 	}
-	if found.Dev != l.file.Dev || found.Ino != l.file.Ino {
+	if err := l.isSame(found); err != nil {
 		_ = file.Close()
-		return nil, fmt.Errorf("filelock: %s was replaced. Stop every process that uses it, and start them again",
-			l.path)
+		return nil, err
 	}
 	return file, nil
 }
@@ -208,11 +252,20 @@ func (l *lock) Context(ctx context.Context) context.Context {
 	return context.WithValue(ctx, lockKey{}, l)
 }
 
-// Unlock unlocks the bytes and closes the file. A second byte that is lent stays locked. Closing alone isn't enough,
-// because between fork and exec any process that is being started has the file open for a moment.
+// Unlock unlocks the bytes, and keeps the open file for the next lock. A second byte that is lent stays locked. A file
+// that can't be unlocked is closed, which isn't enough by itself: between fork and exec any process that is being
+// started has the file open for a moment.
 func (l *lock) Unlock() {
-	_ = set(l.file, l.bytes, syscall.F_UNLCK)
-	_ = l.file.Close()
+	file := l.file
+	if file == nil {
+		return // a file that was given twice would be two locks
+	}
+	l.file = nil
+	if err := set(file, l.bytes, syscall.F_UNLCK); err != nil {
+		_ = file.Close()
+		return
+	}
+	l.locks.give(file)
 }
 
 // Lend returns an open file for a child process to inherit (exec.Cmd.ExtraFiles), or nil if ctx doesn't come from the

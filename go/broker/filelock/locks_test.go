@@ -5,6 +5,7 @@ import (
 	"errors"
 	"os"
 	"path/filepath"
+	"strings"
 	"sync"
 	"sync/atomic"
 	"syscall"
@@ -110,6 +111,23 @@ func TestKeysHaveLocksOfTheirOwn(t *testing.T) {
 	}
 }
 
+// One lock after the other uses the same open file, and never two at once, even after a second Unlock.
+func TestOpenFileIsUsedAgain(t *testing.T) {
+	locks := newLocks(t, filepath.Join(t.TempDir(), "locks"))
+	lock := locked(t, locks, one)
+	lock.Unlock()
+	lock.Unlock()
+	before := openFiles(t)
+	lock = locked(t, locks, one)
+	defer lock.Unlock()
+	if after := openFiles(t); after != before {
+		t.Errorf("%d files are open, and %d were open before", after, before)
+	}
+	if isFree(t, locks, one) {
+		t.Error("a lock that was taken is free")
+	}
+}
+
 func TestLockWaitsUntilItsContextIsDone(t *testing.T) {
 	locks := newLocks(t, filepath.Join(t.TempDir(), "locks"))
 	lock := locked(t, locks, one)
@@ -128,13 +146,21 @@ func TestLockWaitsUntilItsContextIsDone(t *testing.T) {
 	}
 }
 
-func openFiles(t *testing.T) int {
+// openFiles returns how many files are open, without those that were deleted: the locks of an earlier test leave some open
+// until they are collected as garbage.
+func openFiles(t *testing.T) (count int) {
 	t.Helper()
 	found, err := os.ReadDir("/proc/self/fd")
 	if err != nil {
 		t.Fatal(err)
 	}
-	return len(found)
+	for _, it := range found {
+		path, err := os.Readlink("/proc/self/fd/" + it.Name())
+		if err == nil && !strings.HasSuffix(path, " (deleted)") {
+			count++
+		}
+	}
+	return count
 }
 
 func TestLentFile(t *testing.T) {
@@ -190,6 +216,7 @@ func TestFileThatWasReplaced(t *testing.T) {
 	locks := newLocks(t, path)
 	lock := locked(t, locks, one) // keeps the number of the old file from being used again
 	defer lock.Unlock()
+	locked(t, locks, two).Unlock() // leaves an open file, which the next lock would use
 	if err := os.Remove(path); err != nil {
 		t.Fatal(err)
 	}

@@ -22,17 +22,35 @@ type connection struct {
 	instances, bindings       texts
 }
 
-// texts are what the texts of holdings mean that were read or written lately. Those of instances at rest name none, so
-// few are there. The others are read again soon, or never.
-type texts map[string]osb.Holding
+// texts are the texts of holdings that were read or written lately, with what they mean. Those of instances at rest name
+// none, so few are there. The others are read again soon, or never.
+type texts struct {
+	meanings map[string]osb.Holding
+	written  map[osb.Holding]string
+}
 
 const fewTexts = 1024
 
 func (t *texts) keep(text string, holding osb.Holding) {
-	if *t == nil || len(*t) >= fewTexts {
-		*t = make(texts, fewTexts)
+	if t.meanings == nil || len(t.meanings) >= fewTexts {
+		t.meanings, t.written = make(map[string]osb.Holding, fewTexts), map[osb.Holding]string{}
 	}
-	(*t)[text] = holding
+	t.meanings[text] = holding
+	if _, isPending := holding.Work(); !isPending {
+		t.written[holding] = text
+	}
+}
+
+// text is the text of a holding, which write writes unless it is known.
+func (t *texts) text(holding osb.Holding, write func() ([]byte, error)) (string, error) {
+	if text, isKnown := t.written[holding]; isKnown {
+		return text, nil
+	}
+	text, err := write()
+	if err == nil {
+		t.keep(string(text), holding)
+	}
+	return string(text), err
 }
 
 // prepared prepares the statements for a connection.
@@ -122,7 +140,7 @@ func entryOf(row []driver.Value, known *texts, read func([]byte) (osb.Holding, e
 	if !ok {
 		return entry, errors.New("the column holding has no text")
 	}
-	if entry.Holding, ok = (*known)[text]; !ok {
+	if entry.Holding, ok = known.meanings[text]; !ok {
 		if entry.Holding, err = read([]byte(text)); err != nil {
 			return entry, err
 		}
@@ -161,12 +179,12 @@ func (c *connection) put(key broker.Key, entry broker.Entry) error {
 	if key.IsBinding {
 		write, known = entry.Holding.BindingText, &c.bindings
 	}
-	text, err := write()
+	text, err := known.text(entry.Holding, write)
 	if err != nil {
 		return err
 	}
 	values := []driver.Value{
-		string(text), entry.IsUnfinished(), column(entry.Request), nil, nil, entry.Life, nil,
+		text, entry.IsUnfinished(), column(entry.Request), nil, nil, entry.Life, nil,
 	}
 	if entry.Description != "" {
 		values[3] = entry.Description
@@ -186,7 +204,6 @@ func (c *connection) put(key broker.Key, entry broker.Entry) error {
 	if err != nil {
 		return fmt.Errorf("sqlite: %w", err)
 	}
-	known.keep(string(text), entry.Holding)
 	return nil
 }
 
