@@ -16,8 +16,24 @@ const (
 	DefaultSpace        = "osb-platform"
 )
 
-// mostTries is the most for which an instance may be ordered under further ids.
+// mostTries is the most for which an instance or a binding may be ordered under further ids.
 const mostTries = 100
+
+// triesOf returns how often a creation is tried at most. wanted is how often somebody asks for, or 0. In that case, what
+// has a chosen id is tried once, because the next try would have another id.
+//
+// Errors: a Fault.
+func triesOf(wanted int, isOwnID bool) (int, error) {
+	switch {
+	case wanted < 0 || wanted > mostTries:
+		return 0, fault(Invalid, "a creation is tried 1 to %d times", mostTries)
+	case wanted != 0:
+		return wanted, nil
+	case isOwnID:
+		return DefaultTries, nil
+	}
+	return 1, nil
+}
 
 // Create writes down an instance to create, and returns its row.
 //
@@ -36,22 +52,16 @@ func (o *Orders) Create(ctx context.Context, wanted NewInstance) (Entry, error) 
 	if err != nil {
 		return Entry{}, err
 	}
-	if wanted.Tries < 0 || wanted.Tries > mostTries {
-		return Entry{}, fault(Invalid, "an instance is tried 1 to %d times", mostTries)
+	tries, err := triesOf(wanted.Tries, wanted.ID == "")
+	if err != nil {
+		return Entry{}, err
 	}
 	order := Order{
 		Key: InstanceKey(number), Broker: broker.Name, Service: service.Number, Plan: plan.Number,
 		IsOwnID:      wanted.ID == "",
 		Names:        Names{Instance: text, Service: service.ID, Plan: plan.ID},
 		Organization: orText(wanted.Organization, DefaultOrganization), Space: orText(wanted.Space, DefaultSpace),
-		Identity: wanted.Identity, Try: 1, Tries: wanted.Tries, First: number,
-	}
-	switch {
-	case order.Tries != 0:
-	case order.IsOwnID:
-		order.Tries = DefaultTries
-	default: // the next try would have another id than the one that was asked for
-		order.Tries = 1
+		Identity: wanted.Identity, Try: 1, Tries: tries, First: number,
 	}
 	order.Body, err = bodyOf(member{"parameters", wanted.Parameters}, member{"context", wanted.Context})
 	if err != nil {
@@ -72,26 +82,23 @@ func (o *Orders) Bind(ctx context.Context, wanted NewBinding) (Entry, error) {
 	if o.vault == nil {
 		return Entry{}, fault(Conflict, "there is no key to keep credentials with: give the program one")
 	}
-	_, instance, err := namedID(wanted.Instance)
+	of, err := o.bindable(ctx, wanted.Instance)
 	if err != nil {
-		return Entry{}, err
-	}
-	of, err := o.store.Read(ctx, InstanceKey(instance))
-	if err != nil {
-		return Entry{}, unknownInstance(wanted.Instance, err)
-	}
-	if err := o.checkBindable(ctx, of); err != nil {
 		return Entry{}, err
 	}
 	text, number, err := o.idOf(wanted.ID)
 	if err != nil {
 		return Entry{}, err
 	}
+	tries, err := triesOf(wanted.Tries, wanted.ID == "")
+	if err != nil {
+		return Entry{}, err
+	}
 	order := Order{
-		Key: BindingKey(instance, number), Broker: of.Broker, Service: of.Service, Plan: of.Plan,
+		Key: BindingKey(of.Key.Instance, number), Broker: of.Broker, Service: of.Service, Plan: of.Plan,
 		IsOwnID:      wanted.ID == "",
 		Names:        Names{Instance: of.Names.Instance, Binding: text, Service: of.Names.Service, Plan: of.Names.Plan},
-		Organization: of.Organization, Space: of.Space, Identity: wanted.Identity, Try: 1, Tries: 1, First: number,
+		Organization: of.Organization, Space: of.Space, Identity: wanted.Identity, Try: 1, Tries: tries, First: number,
 	}
 	order.Body, err = bodyOf(
 		member{"parameters", wanted.Parameters}, member{"context", wanted.Context},
@@ -107,6 +114,19 @@ func (o *Orders) Bind(ctx context.Context, wanted NewBinding) (Entry, error) {
 		return Entry{}, unsendable(err)
 	}
 	return o.insert(ctx, order, func(held Held) error { return checkReady(*held.Instance) })
+}
+
+// bindable is the row of an instance whose plan is bindable.
+func (o *Orders) bindable(ctx context.Context, id string) (Entry, error) {
+	_, instance, err := namedID(id)
+	if err != nil {
+		return Entry{}, err
+	}
+	of, err := o.store.Read(ctx, InstanceKey(instance))
+	if err != nil {
+		return Entry{}, unknownInstance(id, err)
+	}
+	return of, o.checkBindable(ctx, of)
 }
 
 // checkReady is a Fault unless an instance is recorded ready and isn't removed.

@@ -50,9 +50,11 @@ type NewBinding struct {
 	Context      json.RawMessage // an object, or nil
 	BindResource json.RawMessage // an object, or nil
 	Identity     string
+	Tries        int // as of a NewInstance
 }
 
-// DefaultTries is how often an instance is ordered at most, under a new id each time, if the reason may pass.
+// DefaultTries is how often an instance or a binding is ordered at most, under a new id each time, if the reason may
+// pass.
 const DefaultTries = 3
 
 // A Fault is an order that can't be taken. Nothing was written.

@@ -166,7 +166,8 @@ func TestBind(t *testing.T) {
 			})
 			if state == Ready && removal == NotRemoved {
 				check(t, err)
-				if e.Key.Instance != anInstance.Instance || !e.Key.IsBinding || e.State != Ordered || e.Tries != 1 ||
+				if e.Key.Instance != anInstance.Instance || !e.Key.IsBinding || e.State != Ordered || e.Tries != 3 ||
+					e.Try != 1 || e.First != e.Key.Binding || !e.IsOwnID ||
 					e.Broker != "shelf" || e.Names.Plan != instance.Names.Plan ||
 					string(e.Body) != `{"bind_resource":{"app_guid":"1"},"parameters":{}}` ||
 					!e.Due.Equal(d.dial.time()) {
@@ -178,6 +179,25 @@ func TestBind(t *testing.T) {
 			if len(d.store.rows) != 1 {
 				t.Errorf("%s: it was written", state)
 			}
+		}
+	}
+}
+
+// A binding whose id is chosen is tried once, unless more tries are asked for.
+func TestBindNamed(t *testing.T) {
+	d := newDesk(t)
+	instance := d.put(rowIn(anInstance, Ready)).Names.Instance
+	for _, it := range []struct {
+		wanted NewBinding
+		tries  int
+	}{
+		{NewBinding{ID: "a binding"}, 1}, {NewBinding{ID: "another", Tries: 7}, 7}, {NewBinding{Tries: 1}, 1},
+		{NewBinding{}, DefaultTries}, {NewBinding{Tries: 100}, 100},
+	} {
+		it.wanted.Instance = instance
+		e, err := d.orders.Bind(background, it.wanted)
+		if err != nil || e.Tries != it.tries || e.IsOwnID != (it.wanted.ID == "") {
+			t.Errorf("%+v: %d tries, own %v, %v", it.wanted, e.Tries, e.IsOwnID, err)
 		}
 	}
 }
@@ -197,6 +217,8 @@ func TestBindRejected(t *testing.T) {
 		{NewBinding{Instance: name, ID: aBinding.Binding.String()}, Conflict, "used already"},
 		{NewBinding{Instance: name, BindResource: json.RawMessage(`1`)}, Invalid, "bind_resource"},
 		{NewBinding{Instance: name, Identity: "me"}, Invalid, "identity"},
+		{NewBinding{Instance: name, Tries: 101}, Invalid, "1 to 100"},
+		{NewBinding{Instance: name, Tries: -1}, Invalid, "1 to 100"},
 	} {
 		_, err := d.orders.Bind(background, it.wanted)
 		wantFault(t, err, it.kind, it.part)
@@ -271,6 +293,32 @@ func TestRemoveWithBindings(t *testing.T) {
 	}
 	if after, err = d.orders.Remove(background, anInstance, false); err != nil || after.Removal != RemovedWhole {
 		t.Errorf("a second time: %v, %v", after.Removal, err)
+	}
+}
+
+// A binding that was never sent is withdrawn at once if its instance is removed or abandoned, also if it is due later.
+func TestRemoveWhileBindingWaits(t *testing.T) {
+	for name, end := range map[string]func(*Orders) (Entry, error){
+		"removed":               func(o *Orders) (Entry, error) { return o.Remove(background, anInstance, false) },
+		"removed with bindings": func(o *Orders) (Entry, error) { return o.Remove(background, anInstance, true) },
+		"abandoned":             func(o *Orders) (Entry, error) { return o.Abandon(background, anInstance, "shut") },
+	} {
+		d := newDesk(t)
+		d.put(rowIn(anInstance, Ready))
+		d.put(with(rowIn(BindingKey(id("1"), id("b0")), Gone), func(e *Entry) { e.Due = time.Time{} }))
+		d.put(with(rowIn(aBinding, Ordered), func(e *Entry) { e.Try, e.Due = 2, d.dial.time().Add(time.Hour) }))
+		_, err := end(d.orders)
+		check(t, err)
+		e, err := d.store.Read(background, aBinding)
+		check(t, err)
+		if e.State != Ordered || e.Removal != Removed || !e.Due.Equal(d.dial.time()) {
+			t.Errorf("%s: got %s, removal %d, due %v", name, e.State, e.Removal, e.Due)
+		}
+		instance := d.store.rows[anInstance]
+		if got := decide(d.dial.time(), Held{Entry: e, Instance: &instance}, false, plain()); got.send != nil ||
+			got.entry.State != Withdrawn || !got.entry.Rests() {
+			t.Errorf("%s: got %+v", name, got.entry)
+		}
 	}
 }
 

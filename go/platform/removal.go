@@ -11,7 +11,8 @@ import (
 )
 
 // Remove has an instance or a binding deleted. An order that wasn't sent is withdrawn. withBindings has the bindings of
-// an instance deleted first. It returns the row after that; if the row is gone or withdrawn already, it stays as it is.
+// an instance deleted first. Without that, bindings of it that were ordered and never sent are withdrawn. It returns the
+// row after that; if the row is gone or withdrawn already, it stays as it is.
 //
 // Errors: a Fault if the key is unknown, or if the instance has bindings and withBindings is false; those of the Store.
 // A binding that is abandoned doesn't count.
@@ -27,9 +28,10 @@ func (o *Orders) Remove(ctx context.Context, key Key, withBindings bool) (Entry,
 			e.State, e.Since, e.Due, e.Removal = Withdrawn, now, time.Time{}, Removed
 			return &Change{Entry: e, WakeInstance: key.IsBinding}, nil
 		}
-		removal := Removed
+		removal, allGone := Removed, false
 		if !key.IsBinding {
-			allGone, err := held.AllGone()
+			var err error
+			allGone, err = held.AllGone()
 			switch {
 			case err != nil:
 				return nil, err
@@ -43,7 +45,7 @@ func (o *Orders) Remove(ctx context.Context, key Key, withBindings bool) (Entry,
 			e.Removal = removal
 		}
 		e.Due = now
-		return &Change{Entry: e, RemoveBindings: !key.IsBinding && withBindings}, nil
+		return &Change{Entry: e, RemoveBindings: !key.IsBinding && (withBindings || allGone)}, nil
 	})
 }
 
@@ -91,7 +93,8 @@ func notRetried(e Entry, err error) error {
 
 // Abandon ends the record as abandoned, for a reason that an operator gives. Nothing is sent any more. Nobody knows
 // whether the resource exists. If a binding of an instance may exist, the instance can't be abandoned. An instance
-// whose bindings are gone or abandoned can be removed, and it can be abandoned.
+// whose bindings are gone or abandoned can be removed, and it can be abandoned. Bindings of it that were ordered and
+// never sent are withdrawn.
 //
 // Errors: a Fault; those of the Store.
 func (o *Orders) Abandon(ctx context.Context, key Key, because string) (Entry, error) {
@@ -121,7 +124,7 @@ func (o *Orders) Abandon(ctx context.Context, key Key, because string) (Entry, e
 		if e.State != Gone { // of what is gone, only the last deletion is abandoned
 			e.State, e.Since = Abandoned, now
 		}
-		return &Change{Entry: e, WakeInstance: key.IsBinding}, nil
+		return &Change{Entry: e, WakeInstance: key.IsBinding, RemoveBindings: !key.IsBinding}, nil
 	})
 }
 

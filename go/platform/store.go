@@ -43,10 +43,21 @@ type Filter struct {
 	Instance *osb.ID // only the bindings of this instance
 	Bindings *bool   // only bindings, or only instances
 	Prefix   string  // only rows whose number, as a GUID, begins so
-	First    *osb.ID // only the tries of this order
+	First    *osb.ID // only the tries of the order with this first id; Entry.Chain has those of a row
 	Latest   bool    // in the opposite order
 	After    *Place  // only rows behind this place, in the order in which they are listed
 	Most     int     // as many at most; 0 for all
+}
+
+// Chain chooses all tries of the order of a row. The ids of bindings are those of one instance.
+func (e Entry) Chain() Filter {
+	first, isBinding := e.First, e.Key.IsBinding
+	chain := Filter{First: &first, Bindings: &isBinding}
+	if isBinding {
+		instance := e.Key.Instance
+		chain.Instance = &instance
+	}
+	return chain
 }
 
 // A Place is one in a list.

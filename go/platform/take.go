@@ -25,6 +25,8 @@ type hearing struct {
 	Incoming
 	kind   string // of the request whose reason counts
 	sealed []byte // the object of a binding, sealed, or nil
+	// isUnsealed is whether there is such an object, and it can't be sealed. Another binding would come to the same.
+	isUnsealed bool
 }
 
 // taken is what is written once a request was answered, or wasn't. It is nil if nothing is to be written, because
@@ -56,7 +58,7 @@ func taken(now time.Time, held Held, s sending, heard hearing) (*Change, error) 
 	e.putOff(s, heard.Incoming)
 	change := &Change{Entry: e, WakeInstance: e.Key.IsBinding && e.State == Gone}
 	if e.State == Gone {
-		change.Next, err = nextTry(now, e, t)
+		change.Next, err = nextTry(now, e, held.Instance, t)
 	}
 	return change, err
 }
@@ -158,9 +160,13 @@ func (in Incoming) isTakenUp() bool {
 	return in.Lost == nil && !isRefusal(in.Status) && in.Status < http.StatusInternalServerError
 }
 
-// nextTry is the order under another id that follows one that has ended for a passing reason, or nil.
-func nextTry(now time.Time, e Entry, t terms) (*Entry, error) {
-	if e.Key.IsBinding || !e.Passing || e.Removal != NotRemoved || e.Try >= e.Tries {
+// nextTry is the order under another id that follows one that has ended for a passing reason, or nil. A binding is
+// ordered again only if one could be ordered now: instance is the row of its instance, locked in the same transaction.
+func nextTry(now time.Time, e Entry, instance *Entry, t terms) (*Entry, error) {
+	switch {
+	case !e.Passing || e.Removal != NotRemoved || e.Try >= e.Tries:
+		return nil, nil
+	case e.Key.IsBinding && (instance == nil || checkReady(*instance) != nil):
 		return nil, nil
 	}
 	id, err := t.newID()
@@ -168,7 +174,12 @@ func nextTry(now time.Time, e Entry, t terms) (*Entry, error) {
 		return nil, err
 	}
 	next := Entry{Order: e.Order, State: Ordered, Since: now}
-	next.Key, next.Names.Instance, next.IsOwnID = InstanceKey(id), id.String(), true
+	if e.Key.IsBinding {
+		next.Key, next.Names.Binding = BindingKey(e.Key.Instance, id), id.String()
+	} else {
+		next.Key, next.Names.Instance = InstanceKey(id), id.String()
+	}
+	next.IsOwnID = true
 	next.Try++
 	next.Due = later(now.Add(t.pace.wait(e.Try-1, 0)), e.Failure.At.Add(t.pace.wait(0, e.After)))
 	return &next, nil
@@ -189,6 +200,8 @@ var ofGateways = map[int]bool{
 func (h hearing) isPassing() bool {
 	status := int(h.Answer.Status)
 	switch {
+	case h.isUnsealed:
+		return false
 	case h.Lost != nil, ofGateways[status]:
 		return true
 	case status == http.StatusUnprocessableEntity:

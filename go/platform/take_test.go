@@ -38,7 +38,12 @@ func (it trial) heard(status int, body string) hearing {
 
 func (it trial) taken(t *testing.T, heard hearing) *Change {
 	t.Helper()
-	change, err := taken(at(11), Held{Entry: it.row}, it.sent, heard)
+	held := Held{Entry: it.row}
+	if it.row.Key.IsBinding {
+		instance := rowIn(anInstance, Ready)
+		held.Instance = &instance
+	}
+	change, err := taken(at(11), held, it.sent, heard)
 	if err != nil {
 		t.Fatal(err)
 	}
@@ -109,6 +114,10 @@ var takenRows = []takenRow{
 	{"binding", rowIn(aBinding, Ordered), 202, object, Polling, 2, false, false},
 	{"a Bind rejected", rowIn(aBinding, Ordered), 400, object, Gone, rest, false, true},
 	{"a Bind of 422", rowIn(aBinding, Ordered), 422, `{"error": "RequiresApp"}`, Unsettled, 0, false, true},
+	{"a Bind while something else goes on", rowIn(aBinding, Ordered), 422, `{"error": "ConcurrencyError"}`, Unsettled, 0,
+		true, true},
+	{"a Bind that has to be asynchronous", rowIn(aBinding, Ordered), 422, `{"error": "AsyncRequired"}`, Gone, rest, false,
+		true},
 	{"a Bind of 500", rowIn(aBinding, Ordered), 500, object, Cleaning, 2, true, true},
 	{"still binding", rowIn(aBinding, Polling), 200, `{"state": "in progress"}`, Polling, 4, false, false},
 	{"not bound", rowIn(aBinding, Polling), 200, `{"state": "failed"}`, Cleaning, 2, false, true},

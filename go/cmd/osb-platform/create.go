@@ -37,7 +37,7 @@ If the creation fails for a reason that may pass, such as a timeout or a 503, it
 			}
 			ctx, forget := wait.interruptible(ctx)
 			defer forget()
-			return wait.ordered(ctx, c, s, entry, true)
+			return wait.ordered(ctx, c, s, entry)
 		}),
 	}
 	flags := made.Flags()
@@ -50,10 +50,18 @@ If the creation fails for a reason that may pass, such as a timeout or a 503, it
 		platform.DefaultOrganization+")")
 	flags.StringVar(&wanted.Space, "space", "", "the `text` sent as space_guid (default "+platform.DefaultSpace+")")
 	addObjects(made, flags, &wanted.Parameters, &wanted.Context, &wanted.Identity)
-	flags.Var(program.Count(&wanted.Tries, 0, 1, mostTries), "tries", fmt.Sprintf("how often it is tried at most, under "+
-		"another id each time (default: %d, or 1 with --id)", platform.DefaultTries))
-	wait.add(flags, "ready", "Standard error gets the id at once, and standard output the id of the last try at the end")
+	addTries(flags, &wanted.Tries)
+	wait.add(flags, "ready", printsLastTry)
+	a.journal.add(flags)
 	return made
+}
+
+// printsLastTry is what a command that creates something prints if it waits.
+const printsLastTry = "Standard error gets the id at once, and standard output the id of the last try at the end"
+
+func addTries(flags *pflag.FlagSet, tries *int) {
+	flags.Var(program.Count(tries, 0, 1, mostTries), "tries", fmt.Sprintf("how often it is tried at most, under another "+
+		"id each time (default: %d, or 1 with --id)", platform.DefaultTries))
 }
 
 func addObjects(c *cobra.Command, flags *pflag.FlagSet, parameters, around *json.RawMessage, user *string) {
@@ -72,9 +80,14 @@ func bindCommand(a *app) *cobra.Command {
 		Short: "Create a binding of an instance that is ready, and print its id",
 		Long: `Create a binding, and print its id, INSTANCE/BINDING: the order is written to the store, and 'run' sends
 the request. Once the binding is ready, 'credentials' prints its credentials. The store keeps them, encrypted with the
-key of --key-file.`,
+key of --key-file.
+
+If the creation fails for a reason that may pass, such as a timeout or a 503, and the instance is still ready, it is
+tried again under another id, --tries times in all. With --id it is tried once, unless --tries says otherwise. 'show'
+has the ids of all tries.`,
 		Example: `  osb-platform bind 5f1b7c0e-2f0b-4d0a-9d3e-6a3f0e1f2a3b --wait
-  osb-platform bind my-database --resource '{"app_guid": "one"}'`,
+  osb-platform bind my-database --resource '{"app_guid": "one"}'
+  binding=$(osb-platform bind my-database --wait=600)`,
 		Args: wants("INSTANCE"),
 		RunE: a.over(needsKey, func(ctx context.Context, c *cobra.Command, s session, arguments []string) error {
 			if s.vault == nil {
@@ -88,7 +101,7 @@ key of --key-file.`,
 			}
 			ctx, forget := wait.interruptible(ctx)
 			defer forget()
-			return wait.ordered(ctx, c, s, entry, false)
+			return wait.ordered(ctx, c, s, entry)
 		}),
 	}
 	flags := made.Flags()
@@ -97,6 +110,8 @@ key of --key-file.`,
 	flags.Var(objectValue(&wanted.BindResource, made.InOrStdin), "resource",
 		"an object sent as bind_resource, or @ and a file with it")
 	addObjects(made, flags, &wanted.Parameters, &wanted.Context, &wanted.Identity)
-	wait.add(flags, "ready", "Standard error gets the id at once, and standard output gets it at the end")
+	addTries(flags, &wanted.Tries)
+	wait.add(flags, "ready", printsLastTry)
+	a.journal.add(flags)
 	return made
 }

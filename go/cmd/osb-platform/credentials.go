@@ -6,6 +6,7 @@ import (
 
 	"github.com/spf13/cobra"
 
+	"pippinterm/platform"
 	"pippinterm/program"
 )
 
@@ -30,7 +31,7 @@ whose member credentials has the credentials. Nothing of it stands in a log.`,
 			}
 			object, err := s.orders.Credentials(ctx, entry.Key)
 			if err != nil {
-				return err
+				return ofEarlierTry(ctx, s.store, entry, err)
 			}
 			text := append(asciiJSON(object), '\n')
 			if name == "" {
@@ -42,4 +43,17 @@ whose member credentials has the credentials. Nothing of it stands in a log.`,
 	}
 	made.Flags().StringVar(&name, "to", "", "a new `file` to write them to, that only its owner can read (mode 0600)")
 	return made
+}
+
+// ofEarlierTry names the last try of the order of a binding, if the binding has no credentials and was tried again.
+func ofEarlierTry(ctx context.Context, store platform.Store, entry platform.Entry, err error) error {
+	var fault *platform.Fault
+	if !errors.As(err, &fault) || fault.Kind != platform.Conflict {
+		return err
+	}
+	last, failed := lastTry(ctx, store, entry)
+	if failed != nil || last.Key == entry.Key {
+		return err
+	}
+	return &platform.Fault{Kind: fault.Kind, Text: fault.Text + ". It was tried again as " + printable(idOf(last))}
 }

@@ -32,6 +32,7 @@ An instance with bindings is removed only with --bindings, which removes its bin
 	made.Flags().SortFlags = false
 	made.Flags().BoolVar(&withBindings, "bindings", false, "remove its bindings first")
 	wait.add(made.Flags(), "gone", printsEnd)
+	a.journal.add(made.Flags())
 	return made
 }
 
@@ -45,7 +46,9 @@ func unbindCommand(a *app) *cobra.Command {
 		Use:   "unbind INSTANCE/BINDING",
 		Short: "Delete a binding",
 		Long: `Delete a binding: the removal is written to the store, and 'run' sends the request. The credentials of
-the binding stop working.`,
+the binding stop working.
+
+If the creation was tried again under other ids, the last try is removed. Standard error has its id.`,
 		Example: `  osb-platform unbind my-database/5f1b7c0e-2f0b-4d0a-9d3e-6a3f0e1f2a3b --wait`,
 		Args:    wants("INSTANCE/BINDING"),
 		RunE: a.over(needsStore, func(ctx context.Context, c *cobra.Command, s session, arguments []string) error {
@@ -61,6 +64,7 @@ the binding stop working.`,
 		}),
 	}
 	wait.add(made.Flags(), "gone", printsEnd)
+	a.journal.add(made.Flags())
 	return made
 }
 
@@ -132,7 +136,7 @@ func hinted(err error, before platform.Entry, withBindings bool) error {
 
 // retryCommand has what is due later sent at once.
 func retryCommand(a *app) *cobra.Command {
-	return &cobra.Command{
+	made := &cobra.Command{
 		Use:   "retry ID",
 		Short: "Send at once what is due later, and a deletion again that is polled without an end",
 		Long: `Send the next request of an instance or a binding at once. A deletion still waits for the hold of its
@@ -149,6 +153,8 @@ unsettled nothing is sent: 'ask' says which command leads on.`,
 			return undecided(err, entry)
 		}),
 	}
+	a.journal.add(made.Flags())
+	return made
 }
 
 // undecided names the commands that lead on from a row that is unsettled, if that is why it can't be retried.
@@ -190,5 +196,6 @@ resource exists, so first ask the operator of the broker to look. 'list' keeps t
 		}),
 	}
 	made.Flags().StringVar(&text, "because", "", "the reason, a `text` for people who read the record later")
+	a.journal.add(made.Flags())
 	return made
 }

@@ -33,11 +33,10 @@ func readEntry(ctx context.Context, store platform.Store, id string) (platform.E
 
 // triesOf are all tries of the order of a row, the first one first.
 func triesOf(ctx context.Context, store platform.Store, e platform.Entry) ([]platform.Entry, error) {
-	if e.Key.IsBinding || e.Tries <= 1 {
+	if e.Tries <= 1 {
 		return []platform.Entry{e}, nil
 	}
-	first, isInstance := e.First, false
-	all, err := store.List(ctx, platform.Filter{First: &first, Bindings: &isInstance})
+	all, err := store.List(ctx, e.Chain())
 	if err != nil {
 		return nil, err
 	}

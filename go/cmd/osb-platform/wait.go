@@ -50,15 +50,14 @@ func (w *waiting) add(flags *pflag.FlagSet, end, prints string) {
 }
 
 // ordered prints the id of an order, on a terminal with escapes if it needs them. With --wait, that id is printed on
-// standard error at once. At the end, standard output has the id of the last try. If isChain, the order may be tried
-// again under other ids.
+// standard error at once. At the end, standard output has the id of the last try.
 //
 // Errors: those of wait.
-func (w *waiting) ordered(ctx context.Context, c *cobra.Command, s session, entry platform.Entry, isChain bool) error {
+func (w *waiting) ordered(ctx context.Context, c *cobra.Command, s session, entry platform.Entry) error {
 	var err error
 	if w.isOn {
 		fmt.Fprintf(c.ErrOrStderr(), "ordered %s\n", printable(idOf(entry)))
-		entry, err = w.wait(ctx, c, s, entry, isChain, created)
+		entry, err = w.wait(ctx, c, s, entry, true, created)
 	}
 	if _, failed := fmt.Fprintln(c.OutOrStdout(), printableOn(c.OutOrStdout(), idOf(entry))); err == nil {
 		err = failed
@@ -197,11 +196,19 @@ func ended(ctx context.Context, store platform.Store, e platform.Entry, hasEnded
 	case isGood:
 		return nil
 	case !hasEnded:
-		text := fmt.Sprintf("%s is still %s%s", printable(idOf(e)), e.State, because(ctx, store, e))
+		text := fmt.Sprintf("%s is still %s%s%s", printable(idOf(e)), e.State, dueLater(e), because(ctx, store, e))
 		return &endError{status: statusGoesOn, text: text}
 	}
 	text := fmt.Sprintf("%s is %s%s", printable(idOf(e)), e.State, because(ctx, store, e))
 	return &endError{status: statusOtherwise, text: text}
+}
+
+// dueLater is when a deletion that isn't in flight is due, in brackets and behind a blank, or empty if that is soon.
+func dueLater(e platform.Entry) string {
+	if e.State != platform.Cleaning || e.Lease.Worker != "" || time.Until(e.Due) < 5*time.Second {
+		return ""
+	}
+	return fmt.Sprintf(" (the deletion is due at %s)", moment(e.Due))
 }
 
 // because is why a row is as it is, behind a colon, or empty. Of an order that isn't sent, it is why its broker isn't

@@ -6,6 +6,9 @@ import (
 	"strings"
 	"syscall"
 	"testing"
+	"time"
+
+	"pippinterm/platform"
 )
 
 // SIGINT and SIGTERM end a wait. The id is printed, and that what was ordered goes on.
@@ -37,5 +40,27 @@ func TestInterruptedWait(t *testing.T) {
 			t.Errorf("%v: status %d: %q, %q, %v", it, status, out.String(), rest, err)
 		}
 		check(t, store, []line{{"list", 0, "one\tordered\t.*", ``}})
+	}
+}
+
+// A wait that has ended too soon says until when the deletion waits, such as for the hold.
+func TestLaterDeletion(t *testing.T) {
+	at := time.Now().Add(time.Hour)
+	later := platform.Entry{State: platform.Cleaning, Due: at}
+	soon, sent, polled, rests := later, later, later, later
+	soon.Due = time.Now()
+	sent.Lease.Worker = "one"
+	polled.State = platform.CleaningPolling
+	rests.Due = time.Time{}
+	for _, it := range []struct {
+		of   platform.Entry
+		want string
+	}{
+		{later, " (the deletion is due at " + at.UTC().Format("2006-01-02T15:04:05Z") + ")"},
+		{soon, ""}, {sent, ""}, {polled, ""}, {rests, ""},
+	} {
+		if got := dueLater(it.of); got != it.want {
+			t.Errorf("%+v: %q, and %q is wanted", it.of, got, it.want)
+		}
 	}
 }

@@ -27,15 +27,7 @@ type list struct {
 
 func (a *asked) listInstances() (answer, error) {
 	isBinding := false
-	filter := platform.Filter{Bindings: &isBinding}
-	if first := a.query.Get("first"); first != "" {
-		number, err := osb.IDOfText(first)
-		if err != nil {
-			return answer{}, malformed("first isn't an id")
-		}
-		filter.First = &number
-	}
-	return a.list(filter)
+	return a.list(platform.Filter{Bindings: &isBinding})
 }
 
 func (a *asked) listBindings() (answer, error) {
@@ -191,6 +183,13 @@ func (a *asked) readRows(s *selection) error {
 		if s.filter.Prefix, isPrefix = prefixOf(prefix); !isPrefix {
 			return malformed("a prefix has 1 to 32 hexadecimal digits; its hyphens don't count")
 		}
+	}
+	if first := a.query.Get("first"); first != "" {
+		number, err := osb.IDOfText(first)
+		if err != nil {
+			return malformed("first isn't an id")
+		}
+		s.filter.First = &number
 	}
 	s.filter.Broker = a.query.Get("broker")
 	if s.filter.Broker != "" && !brokerName.MatchString(s.filter.Broker) {

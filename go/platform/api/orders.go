@@ -27,6 +27,7 @@ type newBinding struct {
 	Context      json.RawMessage `json:"context"`
 	BindResource json.RawMessage `json:"bind_resource"`
 	Identity     string          `json:"originating_identity"`
+	Tries        int             `json:"tries"`
 }
 
 type reasonGiven struct {
@@ -89,7 +90,7 @@ func (a *asked) bind() (answer, error) {
 	}
 	e, err := a.orders.Bind(a.Context(), platform.NewBinding{
 		Instance: a.values["id"], ID: id, Parameters: given.Parameters, Context: given.Context,
-		BindResource: given.BindResource, Identity: given.Identity,
+		BindResource: given.BindResource, Identity: given.Identity, Tries: given.Tries,
 	})
 	if err != nil {
 		return answer{}, err
@@ -163,11 +164,10 @@ func (a *asked) removeLast(key platform.Key, withBindings bool) (platform.Entry,
 // lastTry is the key of the last try of the order of a row.
 func (a *asked) lastTry(key platform.Key) (platform.Key, error) {
 	e, err := a.store.Read(a.Context(), key)
-	if err != nil || key.IsBinding || e.Tries <= 1 {
+	if err != nil || e.Tries <= 1 {
 		return key, err
 	}
-	isBinding := false
-	tries, err := a.store.List(a.Context(), platform.Filter{First: &e.First, Bindings: &isBinding})
+	tries, err := a.store.List(a.Context(), e.Chain())
 	for _, it := range tries {
 		if it.Try > e.Try {
 			e = it

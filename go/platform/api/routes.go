@@ -44,7 +44,7 @@ var routes = []route{
 	{"POST", instances + "/{id}/retry", Write, nil, false, (*asked).retry},
 	{"POST", instances + "/{id}/abandon", Write, nil, true, (*asked).abandon},
 	{"GET", allBindings, Read, listing("state", "broker", "prefix"), false, (*asked).listAllBindings},
-	{"GET", bindings, Read, listing("state"), false, (*asked).listBindings},
+	{"GET", bindings, Read, listing("state", "first"), false, (*asked).listBindings},
 	{"POST", bindings, Write, nil, true, (*asked).bind},
 	{"GET", bindings + "/{bid}", Read, nil, false, (*asked).show},
 	{"DELETE", bindings + "/{bid}", Write, nil, false, (*asked).remove},

@@ -30,15 +30,15 @@ func (l look) one(path string, query url.Values, f frame) (*one, error) {
 	o.Title = o.State + ": " + o.ID
 	o.Todo = todo(r)
 	l.whole(o, r)
-	if r.IsBinding() {
-		o.Heading, o.Known = "Binding", l.known(r, apiclient.Reason{})
-		return o, nil
-	}
 	tries, err := l.tries(r)
 	if err != nil {
 		return nil, err
 	}
 	o.Known, o.Tries = l.known(r, l.whyBefore(r, tries)), l.chain(tries)
+	if r.IsBinding() {
+		o.Heading = "Binding"
+		return o, nil
+	}
 	o.Bindings, err = l.bindings(r)
 	return o, err
 }
@@ -88,9 +88,11 @@ func (l look) tries(r apiclient.Record) ([]apiclient.Record, error) {
 	if r.Try <= 1 && !r.FailureMayPass {
 		return nil, nil
 	}
-	found, err := l.api.List(l.ctx, apiclient.Query{
-		Kind: apiclient.Instances, First: r.First, Life: spans + 1, Limit: mostBound,
-	})
+	query := apiclient.Query{Kind: apiclient.Instances, First: r.First, Life: spans + 1, Limit: mostBound}
+	if r.IsBinding() {
+		query.Kind, query.Of = apiclient.Bindings, r.InstanceNumber
+	}
+	found, err := l.api.List(l.ctx, query)
 	return found.Items, err
 }
 
@@ -116,6 +118,7 @@ func (l look) chain(tries []apiclient.Record) *rows {
 		Caption: thousands(len(tries)) + " tries of one order, each under another id", Rows: l.rowsOf(tries, "try"),
 	}
 	for at, it := range tries {
+		shown.Rows[at].Of = "" // that of this page
 		shown.Rows[at].Notes = append([]string{"try " + strconv.Itoa(it.Try)}, shown.Rows[at].Notes...)
 	}
 	return shown

@@ -179,6 +179,50 @@ func TestChainOfTries(t *testing.T) {
 	}
 }
 
+// The tries of a binding are those of its instance, though another instance may have a binding of the same id.
+func TestChainOfBindings(t *testing.T) {
+	of := entryOf(platform.InstanceKey(idOf(7)), platform.Ready)
+	other := entryOf(platform.InstanceKey(idOf(8)), platform.Ready)
+	store := &fake{now: now, rows: []platform.Entry{of, other}}
+	for n := 1; n <= 2; n++ {
+		e := entryOf(platform.BindingKey(of.Key.Instance, idOf(n)), platform.Gone)
+		e.Try, e.First, e.Passing, e.Since = n, idOf(1), true, began.Add(time.Duration(n)*time.Minute)
+		e.Failure = platform.Reason{At: began, Kind: "bind", Status: 422, Error: "ConcurrencyError"}
+		e.Failure.Description = fmt.Sprint("busy ", n)
+		store.rows = append(store.rows, e)
+	}
+	alone := entryOf(platform.BindingKey(other.Key.Instance, idOf(1)), platform.Gone)
+	alone.Passing = true
+	store.rows = append(store.rows, alone)
+	h := pageOf(t, store, Options{})
+	for _, e := range store.rows[2:4] {
+		text := got(t, h, pageOn(e.Key))
+		has(t, part(t, text, "tries"), "2 tries of one order", "try 1</span><span>bind, status 422, ConcurrencyError, busy 1",
+			"try 2</span><span>bind, status 422, ConcurrencyError, busy 2", `href="`+pageOn(store.rows[2].Key)+`"`)
+		has(t, text, "<h1>Binding <code>"+e.Key.Binding.String(), fmt.Sprint(e.Try, " of 3"))
+	}
+	for _, e := range []platform.Entry{alone, of} {
+		if text := got(t, h, pageOn(e.Key)); strings.Contains(text, `id="tries"`) {
+			t.Errorf("%v has a chain: %s", e.Key, mainOf(text))
+		}
+	}
+}
+
+// A further try of a binding that isn't due yet says until when it waits, and on its own page why.
+func TestWaitingTryOfBinding(t *testing.T) {
+	of := entryOf(platform.InstanceKey(idOf(7)), platform.Ready)
+	before := entryOf(platform.BindingKey(of.Key.Instance, idOf(1)), platform.Gone)
+	before.Passing, before.Failure = true, platform.Reason{At: began, Kind: "bind", Status: 503, Description: "no room"}
+	e := entryOf(platform.BindingKey(of.Key.Instance, idOf(2)), platform.Ordered)
+	e.Try, e.First, e.Due = 2, idOf(1), now.Add(10*time.Minute)
+	h := pageOf(t, &fake{now: now, rows: []platform.Entry{of, before, e}}, Options{})
+	for _, target := range []string{"/?kind=bindings&state=ordered", pageOn(of.Key), pageOn(before.Key)} {
+		has(t, got(t, h, target), "<span>waits until 2026-01-03 03:14:05</span>")
+	}
+	has(t, got(t, h, pageOn(e.Key)), "<dt>Why the try before failed</dt>"+
+		`<dd>bind, status 503, no room <span class="ago">(1 day ago)</span></dd>`)
+}
+
 // A further try that isn't due yet says until when it waits, and on its own page why. Any other order says neither.
 func TestWaitingTry(t *testing.T) {
 	const until, why = "<span>waits until 2026-01-03 03:14:05</span>", "<dt>Why the try before failed</dt>" +

@@ -44,6 +44,9 @@ func TestNoCircle(t *testing.T) {
 		}(caller{rand.New(rand.NewSource(int64(n))), stores[n%len(stores)], instances, bindings})
 	}
 	all.Wait()
+	if rows, err := stores[0].List(background, platform.Filter{}); err != nil || len(rows) <= instances*(1+bindings) {
+		t.Errorf("%d rows, so no binding was ordered again: %v", len(rows), err)
+	}
 	for _, it := range stores {
 		if err := it.Close(); err != nil {
 			t.Error(err)
@@ -97,6 +100,11 @@ func (c caller) step(now time.Time, held platform.Held) (*platform.Change, error
 		Entry: held.Entry, RemoveBindings: c.random.Intn(2) == 0, WakeInstance: c.random.Intn(2) == 0,
 	}
 	change.Entry.Due, change.Entry.Removal, change.Entry.Lease = now, platform.Removed, platform.Lease{}
+	if held.Key.IsBinding && c.random.Intn(20) == 0 { // a further order of the binding
+		next := order(binding(c.bindings+1+c.random.Intn(1<<40), 0))
+		next.Key.Instance, next.Names.Instance = held.Key.Instance, held.Names.Instance
+		change.Next = &next
+	}
 	if c.random.Intn(2) == 0 {
 		change.Entry.Lease = platform.Lease{
 			Worker: fmt.Sprint("worker ", c.random.Intn(2)), Until: now.Add(5 * time.Millisecond),

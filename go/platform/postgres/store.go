@@ -9,7 +9,8 @@
 //     binding FOR UPDATE. So no step of an instance runs beside one of its bindings, or beside the insertion of one,
 //     and many bindings of an instance are stepped at once. FOR KEY SHARE lets another binding wake the instance
 //     (Change), which FOR SHARE doesn't: two of them would wait for each other. A Claim, which waits for no row, locks
-//     the instance FOR NO KEY UPDATE.
+//     the instance FOR NO KEY UPDATE. A further order of a binding is inserted under the same locks as the step of the
+//     binding before it, which has read the row of the instance.
 //
 // The exceptions change nothing that a step decides by: waking an instance, and Free.
 //
@@ -22,7 +23,6 @@ import (
 	"database/sql"
 	"errors"
 	"fmt"
-	"net"
 	"sync"
 	"time"
 
@@ -141,11 +141,7 @@ func (s *Store) Close() error {
 	s.isClosed = true
 	s.turn.Unlock()
 	s.running.Wait()
-	err := session.Close(s.db)
-	if errors.Is(err, net.ErrClosed) { // of a connection that a cancelled call has closed
-		return nil
-	}
-	return err
+	return session.Close(s.db)
 }
 
 // enter begins a call that Close waits for, unless the store is closed. The caller calls s.running.Done at the end.

@@ -81,19 +81,21 @@ func testNext(t *testing.T, open opener) {
 	first, second := opened(t, open), opened(t, open)
 	insert(t, first, order(instance(1)), order(binding(2, 1)), order(binding(3, 1)))
 	for n, key := range []platform.Key{instance(1), binding(2, 1)} {
-		next := full(t, instance(n+10))
-		change(t, first, key, func(it *platform.Change) { it.Entry.Unchanged, it.Next = 7, &next })
-		wantRead(t, second, next)
-		if got := read(t, second, key); got.Unchanged != 7 {
-			t.Errorf("%v: %+v", key, got)
+		for _, of := range []platform.Key{instance(n + 10), binding(n+20, 1)} {
+			next := full(t, of)
+			change(t, first, key, func(it *platform.Change) { it.Entry.Unchanged, it.Next = 7, &next })
+			wantRead(t, second, next)
+			if got := read(t, second, key); got.Unchanged != 7 {
+				t.Errorf("%v: %+v", key, got)
+			}
 		}
 	}
 	before := []platform.Entry{
 		read(t, first, instance(1)), read(t, first, binding(2, 1)), read(t, first, binding(3, 1)),
-		full(t, instance(10)), full(t, instance(11)),
+		full(t, instance(10)), full(t, instance(11)), full(t, binding(20, 1)), full(t, binding(21, 1)),
 	}
 	for _, key := range []platform.Key{instance(1), binding(2, 1)} {
-		for _, used := range []platform.Key{instance(10), instance(1)} {
+		for _, used := range []platform.Key{instance(10), instance(1), binding(20, 1), binding(3, 1)} {
 			all := all(t, key)
 			next := order(used)
 			all.Next = &next

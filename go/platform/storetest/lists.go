@@ -47,6 +47,7 @@ func testList(t *testing.T, open opener) {
 	store := opened(t, open)
 	rows := listed(t, opened(t, open))
 	yes, no, of, none, third := true, false, instance(0x20002).Instance, instance(0x777).Instance, id(3)
+	last := instance(0x10000*19 + 19).Instance
 	for _, it := range []struct {
 		filter platform.Filter
 		has    func(platform.Entry) bool
@@ -72,6 +73,10 @@ func testList(t *testing.T, open opener) {
 		{platform.Filter{Instance: &none}, func(platform.Entry) bool { return false }},
 		{platform.Filter{Instance: &of, Bindings: &no}, func(platform.Entry) bool { return false }},
 		{platform.Filter{First: &third}, func(e platform.Entry) bool { return e.First == third }},
+		{
+			platform.Filter{First: &third, Instance: &last},
+			func(e platform.Entry) bool { return e.First == third && e.Key.IsBinding && e.Key.Instance == last },
+		},
 		{
 			platform.Filter{
 				First: &third, Broker: "one", Bindings: &no, States: []platform.State{platform.Ordered, platform.Ready},

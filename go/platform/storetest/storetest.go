@@ -26,6 +26,8 @@ func Test(t *testing.T, open func(t *testing.T) platform.Store) {
 		{"a change of nothing", testNoChange},
 		{"a change that fails", testFailingChange},
 		{"a further order", testNext},
+		{"a further binding and the removal of its instance", testNextBesideRemoval},
+		{"a binding that is tried again", testBindAgain},
 		{"no change is lost", testCounter},
 		{"changes that exclude each other", testExclusion},
 		{"a binding and its instance", testInstanceOfBinding},

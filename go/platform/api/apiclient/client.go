@@ -134,7 +134,7 @@ type Query struct {
 	Of     string   // with Bindings: only those of the instance with this id or number
 	States []string // empty for all
 	Prefix string   // only those whose number begins so; hyphens don't count. Not with Of
-	First  string   // with Instances: only the tries of this order
+	First  string   // with Instances, or with Bindings and Of: only the tries of the order with this first id
 	// Unreadable is whether only those are wanted that can't be read. A page may have fewer then, or none: go on while
 	// it has a Next.
 	Unreadable bool
