@@ -1,7 +1,8 @@
 """How many requests a broker answers in a second, and how much memory it takes: `bench/run`.
 
-wrk (Debian: apt-get install wrk) lets some processes of osb-broker, over SQLite and folders, create instances, in runs
-of some seconds until there are enough. Then it asks for their last operations.
+wrk (Debian: apt-get install wrk) lets some processes of osb-broker create instances, in runs of some seconds until
+there are enough. Then it asks for their last operations. The broker sells folders, and its store is a file of SQLite,
+or with --store a database of PostgreSQL.
 """
 from __future__ import annotations
 
@@ -93,6 +94,7 @@ def brokers(asked: argparse.Namespace) -> Iterator[Brokers]:
         program = f"{_TOP}/osb-broker"
         subprocess.run([program, "--help"], check=True, stdout=subprocess.DEVNULL)  # builds it, if it must be built
         line = [program, "serve", "--state", folder, "--share-port", "--listen", f"127.0.0.1:{port}"]
+        line += ["--store", asked.store] if asked.store else []
         log = stack.enter_context(open(Path(folder) / "log", "ab"))
         running = []
         for _ in range(asked.brokers):
@@ -161,6 +163,7 @@ def main() -> None:
     parser.add_argument("--connections", type=int, default=64, help="at once (64)")
     parser.add_argument("--seconds", type=int, default=10, help="of a run (10)")
     parser.add_argument("--creations", type=int, default=100000, help="how many instances are created (100000)")
+    parser.add_argument("--store", metavar="URL", help="an empty database of PostgreSQL (a file of SQLite)")
     _load(parser.parse_args())
 
 

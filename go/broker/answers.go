@@ -119,10 +119,12 @@ var bindingRoutes = map[osb.Kind]string{
 
 // creation adds what is stored of a creation.
 func (h *Handler) creation(x *exchange, asked Asked, body []byte, request Request) (Asked, error) {
+	request.Key = asked.Key
 	request.InstanceID, request.BindingID = asked.Names.Instance, asked.Names.Binding
 	request.Body, request.Origin = body, h.origin(x)
 	var err error
 	asked.Request, err = json.Marshal(request)
+	asked.Creation = &request
 	return asked, err
 }
 

@@ -29,6 +29,7 @@ type Config struct {
 	// Touch is called with a key that somebody has to go on with: Sweeper.Touch.
 	Touch    func(Key)
 	Observer Observer
+	Journal  Journal // or nil for none
 }
 
 // A Handler answers over HTTP. Requests are carried out with the context that it was made with: a platform that goes
@@ -53,6 +54,9 @@ func NewHandler(ctx context.Context, service *Service, config Config) (*Handler,
 	}
 	if config.LongestBody < 1 || config.AtOnce < 1 {
 		return nil, errors.New("broker: LongestBody and AtOnce are 1 or more")
+	}
+	if config.Journal == nil {
+		config.Journal = noJournal{}
 	}
 	return &Handler{
 		Config: config, ctx: ctx, service: service,
@@ -209,16 +213,26 @@ func (h *Handler) carriedOut(x *exchange, asked Asked) reply {
 	}
 	h.slots <- struct{}{}
 	defer func() { <-h.slots }()
-	var answered Answered
+	ctx := h.Journal.Arrived(h.ctx, x.request, x.RequestID, asked)
+	answered, given := h.handled(ctx, x, asked)
+	if given.status != int(answered.Status) { // it has failed
+		answered = Answered{Answer: osb.Answer{Status: uint16(given.status), Body: osb.BodyOtherError}}
+	}
+	h.Journal.Answered(ctx, x.header, answered)
+	return given
+}
+
+// handled has the service handle a request.
+func (h *Handler) handled(ctx context.Context, x *exchange, asked Asked) (answered Answered, given reply) {
 	err := safely(func() (err error) {
-		answered, err = h.service.Handle(h.ctx, asked)
+		answered, err = h.service.Handle(ctx, asked)
 		return err
 	})
 	if err != nil {
-		return h.failed(x, fmt.Errorf("%v: %w", asked.Key, err))
+		return Answered{}, h.failed(x, fmt.Errorf("%v: %w", asked.Key, err))
 	}
-	h.follow(x, asked, answered)
-	return h.told(x, answered, h.sentence(asked, answered))
+	h.follow(ctx, x, asked, answered)
+	return answered, h.told(x, answered, h.sentence(asked, answered))
 }
 
 // mayWork is whether a request may do work before it is answered: the creations and deletions of synchronous plans.
@@ -250,7 +264,7 @@ func (h *Handler) takeTurn() bool {
 
 // follow has somebody go on with a key: an operation has begun, or work is pending whose worker may be dead. After the
 // deletion of an instance was put off, it deletes the bindings whose creation has failed.
-func (h *Handler) follow(x *exchange, asked Asked, answered Answered) {
+func (h *Handler) follow(ctx context.Context, x *exchange, asked Asked, answered Answered) {
 	kind, status := asked.Asked.Kind, answered.Status
 	isConcurrent := answered.Body == osb.BodyConcurrencyError
 	switch {
@@ -264,7 +278,7 @@ func (h *Handler) follow(x *exchange, asked Asked, answered Answered) {
 	}
 	var begun []Key
 	err := safely(func() (err error) {
-		begun, err = h.service.UnbindFailed(h.ctx, asked.Key.Instance)
+		begun, err = h.service.UnbindFailed(ctx, asked.Key.Instance)
 		return err
 	})
 	for _, key := range begun {

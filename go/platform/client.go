@@ -17,6 +17,8 @@ type Outgoing struct {
 	IsFetch   bool        // the Fetch of a binding in place of Request
 	RequestID string      // the value of X-Broker-API-Request-Identity
 	Until     time.Time   // on the clock of Clock: nothing is sent and no answer is taken afterwards
+	// JournalTime is the value of the header X-Osb-Journal-Time (docs/journal.md), or empty for none.
+	JournalTime string
 }
 
 // An Incoming is what came back.
@@ -30,6 +32,8 @@ type Incoming struct {
 	RetryAfter time.Duration   // how long the broker asks to wait; 0 if it doesn't say
 	Duration   time.Duration
 	Lost       error // why no answer is taken, so that a timeout is recorded; or nil
+	// JournalTime is the value of the header X-Osb-Journal-Time of the answer, or empty.
+	JournalTime string
 }
 
 // ErrUnreachable reports that there is no connection to a broker, so nothing was sent. The next request would fail, too.

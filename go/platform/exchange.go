@@ -174,7 +174,7 @@ func (e *Engine) sealed(s sending, heard hearing) hearing {
 		sealed, err = e.vault.Seal(heard.Binding, s.out.Entry.Key.String())
 	}
 	if err != nil {
-		heard.Lost = fmt.Errorf("the credentials can't be sealed: %w", err)
+		heard.Lost, heard.isUnsealed = fmt.Errorf("the credentials can't be sealed: %w", err), true
 		e.fail("credentials_lost", s, err)
 		return heard
 	}

@@ -12,7 +12,7 @@ var background = context.Background()
 // Two workers order instances and bindings over a network that loses, delays and repeats, are killed and paused, and
 // the database is away now and then. Whatever is recorded is true at any time, and in the end all rests.
 func TestAnyNetwork(t *testing.T) {
-	seeds, counts, ended := 300, map[string]int{}, map[State]int{}
+	seeds, counts, ended, again := 300, map[string]int{}, map[State]int{}, map[State]int{}
 	if n, err := strconv.Atoi(os.Getenv("SEEDS")); err == nil {
 		seeds = n
 	}
@@ -25,13 +25,23 @@ func TestAnyNetwork(t *testing.T) {
 		if !w.settle() {
 			t.Fatalf("seed %d: it doesn't come to rest: %v", seed, w.store.rows)
 		}
+		for key, e := range w.store.rows {
+			if key.IsBinding && e.Try > 1 {
+				again[e.State]++
+			}
+		}
 		w.end(ended)
 	}
 	t.Logf("%v", counts)
-	t.Logf("%v", ended)
+	t.Logf("%v, of the further bindings %v", ended, again)
 	for _, state := range []State{Ready, Gone, Withdrawn, Unsettled} {
 		if ended[state] == 0 {
 			t.Errorf("nothing has ended %s", state)
+		}
+	}
+	for _, state := range []State{Ready, Gone} {
+		if again[state] == 0 {
+			t.Errorf("no further binding has ended %s", state)
 		}
 	}
 	for _, it := range Points {

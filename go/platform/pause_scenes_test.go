@@ -111,6 +111,15 @@ var scenes = []scene{
 		s.dial.forward(time.Hour)
 		return key
 	}},
+	{name: "an Unbind that the next try follows", come: func(t *testing.T, s *stage) Key {
+		instance := s.made(t, "now")
+		s.seller.mood = func() int { return 1 }
+		key := s.bound(t, instance)
+		s.step(s.workers[1])
+		s.seller.mood = func() int { return 9 }
+		s.dial.forward(time.Hour)
+		return key
+	}},
 	{name: "a Bind", come: func(t *testing.T, s *stage) Key { return s.bound(t, s.made(t, "now")) }},
 	{name: "a Fetch", fetches: true, come: func(t *testing.T, s *stage) Key {
 		key := s.bound(t, s.made(t, "bind-later"))

@@ -23,8 +23,13 @@ func (w *world) agree() {
 		if e.State != Ready && e.Credentials != nil {
 			w.t.Fatalf("seed %d: %v is %s, and has credentials", w.seed, key, e.State)
 		}
-		if of := w.store.rows[InstanceKey(key.Instance)]; key.IsBinding && !w.seller.isNone(key) && of.State != Ready {
+		of := w.store.rows[InstanceKey(key.Instance)]
+		if key.IsBinding && !w.seller.isNone(key) && of.State != Ready {
 			w.t.Fatalf("seed %d: the binding %v is there, and its instance is %s", w.seed, key, of.State)
+		}
+		if key.IsBinding && e.State == Ordered && e.Removal == NotRemoved && checkReady(of) != nil {
+			w.t.Fatalf("seed %d: try %d of the binding %v is ordered, and its instance is %s, removal %d", w.seed, e.Try, key,
+				of.State, of.Removal)
 		}
 	}
 }

@@ -152,3 +152,12 @@ func isPort(text string) bool {
 	_, err := strconv.ParseUint(text, 10, 16)
 	return err == nil
 }
+
+// JournalFlags adds the options of a journal (docs/journal.md): where it is, and after how many MiB it goes on in another
+// file.
+func JournalFlags(flags *pflag.FlagSet, path *string, size *int) {
+	flags.StringVar(path, "journal", "",
+		"write a journal of all changes, requests and answers, which osb-audit reads: to a `file`, or to new files of a "+
+			"folder (docs/journal.md)")
+	flags.Var(Count(size, 64, 1, 1<<20), "journal-size", "the MiB after which the journal goes on in another file")
+}

@@ -9,3 +9,6 @@ var places = []string{
 	"operation-next", "operation-done", "finish-next", "finish-written",
 	"wait-next", "wait-written",
 }
+
+// Places returns the names of all places. A process comes to none of them unless it was built with the tag crashpoints.
+func Places() []string { return append([]string{}, places...) }

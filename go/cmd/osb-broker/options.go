@@ -30,6 +30,8 @@ type settings struct {
 	requestTime, sweepTime        time.Duration
 	stopTime, commandTime         time.Duration
 	customers                     string
+	journal                       string
+	journalSize                   int // in MiB
 }
 
 const most = 1 << 30 // of any number
@@ -95,6 +97,7 @@ func (s *settings) addPlaces(flags *pflag.FlagSet) {
 		"what to sell: a `folder` for folders, postgresql://.. for databases, or command:PROGRAM")
 	flags.StringVar(&s.customers, "customer-address", "",
 		"the `host:port` at which applications reach the databases, if it isn't that of --backend")
+	program.JournalFlags(flags, &s.journal, &s.journalSize)
 }
 
 func (s *settings) addAccess(flags *pflag.FlagSet) {

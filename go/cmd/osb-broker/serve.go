@@ -16,6 +16,7 @@ import (
 	"pippinterm/broker/crash"
 	"pippinterm/program"
 	"pippinterm/program/health"
+	"pippinterm/program/journal"
 	"pippinterm/program/limiter"
 	"pippinterm/program/logs"
 	"pippinterm/program/metrics"
@@ -35,6 +36,8 @@ type running struct {
 	health   *health.Handler
 	sweeper  *broker.Sweeper
 	access   *access
+	journal  *journal.Writer // or nil
+	isCut    bool            // whether work goes on once serve has returned
 	work     context.Context // of the work, which endWork breaks off
 	endWork  context.CancelFunc
 }
@@ -44,7 +47,7 @@ func serve(ctx context.Context, s *settings, stderr io.Writer) error {
 	if err := crash.Check(); err != nil {
 		return program.Unusable(err)
 	}
-	debug.SetGCPercent(400) // it has little in memory, and makes much that is short-lived
+	debug.SetGCPercent(250) // it has little in memory, and makes much that is short-lived
 	syscall.Umask(0o077)
 	queue := logs.NewQueue(stderr)
 	defer func() {
@@ -66,6 +69,7 @@ func serve(ctx context.Context, s *settings, stderr io.Writer) error {
 		return err
 	}
 	defer r.parts.closeAll()
+	defer r.closeJournal()
 	reloading, end := context.WithCancel(ctx)
 	ended := make(chan struct{})
 	go func() {
@@ -82,7 +86,9 @@ func serve(ctx context.Context, s *settings, stderr io.Writer) error {
 // open opens everything but access, and what serve begins.
 func (r *running) open(ctx, stop context.Context, queue *logs.Queue) (err error) {
 	s := r.settings
-	r.metrics = metrics.New(metrics.Options{DroppedLines: queue.Dropped, Connections: r.connections})
+	r.metrics = metrics.New(metrics.Options{
+		DroppedLines: queue.Dropped, LostJournalLines: r.lostLines, Connections: r.connections,
+	})
 	r.observer = returns{program.Observers(logs.Observer(r.log), r.metrics), r.log}
 	if r.parts, err = partsOf(stop, s, r.log, r.observer); err != nil {
 		return err
@@ -104,12 +110,22 @@ func (r *running) open(ctx, stop context.Context, queue *logs.Queue) (err error)
 	if s.idsReturnAfter != 0 {
 		r.log.Warning("ids_return").Int("after_seconds", s.idsReturnAfter).Send()
 	}
-	service := broker.NewService(catalogue, r.parts.store, r.parts.backend, r.parts.locks, s.rules(), r.observer)
+	return r.openService(ctx, catalogue)
+}
+
+// openService makes the service, and what calls it.
+func (r *running) openService(ctx context.Context, catalogue *broker.Catalogue) error {
+	s := r.settings
+	with, err := r.journaled(catalogue)
+	if err != nil {
+		return err
+	}
+	service := broker.NewService(catalogue, with.store, with.backend, r.parts.locks, s.rules(), r.observer)
 	r.sweeper = broker.NewSweeper(service, r.observer)
 	r.work, r.endWork = context.WithCancel(ctx)
 	r.handler, err = broker.NewHandler(r.work, service, broker.Config{
 		Users: r.access.users, LongestBody: s.longestBody, AtOnce: s.threads, Limiter: limiter.New(), Touch: r.sweeper.Touch,
-		Observer: r.observer,
+		Observer: r.observer, Journal: with.journal,
 	})
 	return program.Unusable(err)
 }
@@ -159,7 +175,7 @@ func (r *running) serve(ctx, stop context.Context) error {
 	isCut := errors.Is(failed, server.ErrCut)
 	r.log.Info("stopped").Bool("all_work_ended", hasEnded && !isCut).Send()
 	if isCut || !hasEnded { // the work uses them still. It is taken up at the next start, as after a crash
-		r.parts.close = nil
+		r.parts.close, r.isCut = nil, true
 		r.endWork() // which kills what a command backend runs
 		_ = r.handler.Wait(lastWait)
 		_ = r.wait(swept, lastWait)

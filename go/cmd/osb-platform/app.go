@@ -4,6 +4,7 @@ import (
 	"context"
 	"errors"
 	"fmt"
+	"os"
 	"strings"
 
 	"github.com/spf13/cobra"
@@ -24,8 +25,9 @@ const (
 
 // An app is one run of the program.
 type app struct {
-	places places
-	status int // that of the error of the command, or 0 for that of program.Run
+	places  places
+	journal journalSettings // of a command that changes records
+	status  int             // that of the error of the command, or 0 for that of program.Run
 }
 
 // exit is the exit status, by that of program.Run.
@@ -107,8 +109,15 @@ func (a *app) within(ctx context.Context, store platform.Store, keys *vault.Vaul
 			return a.judged(err)
 		}
 	}
-	sealing := asVault(keys)
-	return a.judged(do(session{store: store, vault: sealing, orders: platform.NewOrders(store, sealing)}))
+	sealing, journal := asVault(keys), &platformJournal{failed: func(of platform.Failure) {
+		warner(os.Stderr)(of.Err.Error())
+	}}
+	if err := journal.open(a.journal, "", sealing); err != nil {
+		return err
+	}
+	defer journal.close()
+	orders := platform.NewOrders(journal.ordersStore(store), sealing)
+	return a.judged(do(session{store: store, vault: sealing, orders: orders}))
 }
 
 // closed closes a store, and returns the error of what was done with it, or else that of Close.

@@ -28,6 +28,7 @@ const prefix = "osb_platform_"
 //	osb_platform_leases_lost_total                    leases that another worker has taken over
 //	osb_platform_orphans_total{result}                answers to last deletions: found or unknown
 //	osb_platform_log_lines_dropped_total              dropped lines of the log
+//	osb_platform_journal_lines_lost_total             lines of the journal that couldn't be written
 //
 // and those of a storeCollector, of the process (process_*) and of Go's runtime (go_*).
 type metrics struct {
@@ -42,7 +43,7 @@ type metrics struct {
 	names      names
 }
 
-func newMetrics(dropped func() uint64) *metrics {
+func newMetrics(dropped, lost func() uint64) *metrics {
 	vector := func(name, help string, labels ...string) *prometheus.CounterVec {
 		return prometheus.NewCounterVec(prometheus.CounterOpts{Name: prefix + name, Help: help}, labels)
 	}
@@ -68,6 +69,9 @@ func newMetrics(dropped func() uint64) *metrics {
 		prometheus.NewCounterFunc(prometheus.CounterOpts{
 			Name: prefix + "log_lines_dropped_total", Help: "Dropped lines of the log.",
 		}, func() float64 { return float64(dropped()) }),
+		prometheus.NewCounterFunc(prometheus.CounterOpts{
+			Name: prefix + "journal_lines_lost_total", Help: "Lines of the journal that couldn't be written.",
+		}, func() float64 { return float64(lost()) }),
 		collectors.NewGoCollector(), collectors.NewProcessCollector(collectors.ProcessCollectorOpts{}))
 	return m
 }

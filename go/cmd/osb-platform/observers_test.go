@@ -81,7 +81,7 @@ func (s *countStore) OldestDue(context.Context) (due, now time.Time, err error) 
 }
 
 func TestMetrics(t *testing.T) {
-	m, store := newMetrics(func() uint64 { return 5 }), &countStore{due: time.Unix(93, 0)}
+	m, store := newMetrics(func() uint64 { return 5 }, func() uint64 { return 5 }), &countStore{due: time.Unix(93, 0)}
 	m.addStore(context.Background(), store)
 	happened(m)
 	for n := 0; n < mostNames+10; n++ {
@@ -118,7 +118,7 @@ func TestMetrics(t *testing.T) {
 
 // If the store fails, only that is reported of it.
 func TestMetricsWithoutStore(t *testing.T) {
-	m := newMetrics(func() uint64 { return 0 })
+	m := newMetrics(func() uint64 { return 0 }, func() uint64 { return 0 })
 	m.addStore(context.Background(), &countStore{err: platform.ErrAway})
 	text := textOfMetrics(t, m)
 	if !strings.Contains(text, "\n"+prefix+"store_up 0\n") || strings.Contains(text, prefix+"records") ||
@@ -132,7 +132,7 @@ func TestOldestDue(t *testing.T) {
 	clock, store := time.Unix(1_000_000, 0), &countStore{due: time.Unix(103, 0)}
 	collector := newStoreCollector(context.Background(), store)
 	collector.now = func() time.Time { return clock }
-	m := newMetrics(func() uint64 { return 0 })
+	m := newMetrics(func() uint64 { return 0 }, func() uint64 { return 0 })
 	m.registry.MustRegister(collector)
 	want := func(what, seconds string) {
 		t.Helper()

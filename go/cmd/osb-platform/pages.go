@@ -2,26 +2,16 @@
 
 package main
 
-import (
-	"os"
-	"strconv"
-	"time"
-
-	"pippinterm/program/pages"
-)
+import "pippinterm/program/pages"
 
 // With the build tag pages this isn't the program, but what writes its manual pages (release/). SOURCE_DATE_EPOCH is
 // their date.
 func init() {
-	seconds, err := strconv.ParseInt(os.Getenv("SOURCE_DATE_EPOCH"), 10, 64)
-	if err != nil {
-		panic(err)
-	}
 	root := rootCommand(&app{})
 	for _, command := range root.Commands() {
 		if name := command.Flags().Lookup("worker"); name != nil {
 			name.DefValue = "the machine's name" // and not that of the machine that writes the page
 		}
 	}
-	pages.Main(root, time.Unix(seconds, 0).UTC())
+	pages.AtEpoch(root)
 }

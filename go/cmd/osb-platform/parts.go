@@ -153,7 +153,7 @@ func (r *running) pageUsers() (map[string][]string, error) {
 
 // api makes the API.
 func (r *running) api() (http.Handler, error) {
-	orders := platform.NewOrders(r.store, r.vault)
+	orders := platform.NewOrders(r.journal.ordersStore(r.store), r.vault)
 	orders.AllowHTTP(r.settings.allowHTTP)
 	return r.reloadable("tokens_reloaded", "tokens_not_reloaded", func() (http.Handler, error) {
 		tokens, warning, err := api.ReadTokens(r.settings.sites.apiTokens)

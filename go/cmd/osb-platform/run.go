@@ -35,6 +35,7 @@ type running struct {
 	vault    platform.Vault // the keys, or nil
 	engine   *platform.Engine
 	names    *orderedIDs
+	journal  platformJournal
 	opened   chan struct{} // is closed once the store is open
 	reload   []reloading   // what SIGHUP does
 	// apiTLS are the certificates of the API, or nil for HTTP.
@@ -57,7 +58,8 @@ func runWorker(ctx context.Context, s *runSettings, p places, stdout, stderr io.
 	defer closeQueue(told)
 	r := &running{settings: s, places: p, log: eventLog{logger: logs.New(lines), least: s.level}}
 	r.opened, r.notServed, r.names = make(chan struct{}), make(chan error, 1), newOrderedIDs()
-	r.metrics = newMetrics(lines.Dropped)
+	r.journal.failed = func(of platform.Failure) { r.observer.Failed(of) }
+	r.metrics = newMetrics(lines.Dropped, r.journal.lost)
 	r.observer = observers{logObserver{r.log, r.names}, r.metrics}
 	showsCounts := isTerminal(stdout) && !s.servesOnly
 	if !showsCounts {
@@ -124,6 +126,7 @@ func (r *running) serve(work, stop context.Context) (err error) {
 			err = failed
 		}
 	}()
+	defer r.journal.close()
 	if err := r.open(stop); err != nil {
 		return err
 	}
@@ -196,6 +199,9 @@ func (r *running) open(ctx context.Context) (err error) {
 		}
 		r.reload = append(r.reload, certificatesOf(r.apiTLS.Reload))
 	}
+	if err := r.journal.open(r.settings.journal, string(r.settings.worker), r.vault); err != nil {
+		return err
+	}
 	if !r.settings.servesOnly {
 		if err := r.openEngine(ctx, own); err != nil {
 			return err
@@ -234,7 +240,7 @@ func (r *running) openEngine(ctx context.Context, own string) (err error) {
 	if err != nil {
 		return err
 	}
-	r.engine = platform.NewEngine(store, with, r.vault, options, r.observer)
+	r.engine = platform.NewEngine(r.journal.engineStore(store), r.journal.client(with), r.vault, options, r.observer)
 	return nil
 }
 

@@ -31,6 +31,7 @@ type runSettings struct {
 	level      level
 	sites      siteSettings
 	servesOnly bool // whether it is the command serve, and sends nothing
+	journal    journalSettings
 }
 
 func runCommand(a *app) *cobra.Command {
@@ -69,6 +70,7 @@ The page and the API are served too, if --page and --api name where. GET /health
 	flags.SortFlags = false
 	s.addWork(flags)
 	s.sites.add(flags)
+	s.journal.add(flags)
 	s.addBroker(flags)
 	addOld(flags, s)
 	return made

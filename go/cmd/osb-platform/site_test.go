@@ -93,7 +93,8 @@ func newSiteFor(t *testing.T, observer broker.Observer) *site {
 	return s
 }
 
-// answer has the next requests about instances and bindings answered with these statuses, and not by the broker.
+// answer has the next requests about instances and bindings answered with these statuses, and not by the broker. A 422
+// has the error ConcurrencyError.
 func (s *site) answer(statuses ...int) {
 	s.mutex.Lock()
 	defer s.mutex.Unlock()
@@ -202,6 +203,10 @@ func (s *site) before(next http.Handler) http.Handler {
 		w.Header().Set("Content-Type", "application/json")
 		w.Header().Set(osb.RequestIdentityHeader, r.Header.Get(osb.RequestIdentityHeader))
 		w.WriteHeader(status)
+		if status == http.StatusUnprocessableEntity {
+			_, _ = w.Write([]byte(`{"error": "ConcurrencyError", "description": "busy"}`))
+			return
+		}
 		_, _ = w.Write([]byte(`{"error": "Odd", "description": "no \u001b[2J place"}`))
 	})
 }

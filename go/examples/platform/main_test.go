@@ -178,7 +178,7 @@ func TestProgram(t *testing.T) {
 }
 
 // It is killed while it waits for the answer to a Bind. The next one takes that binding up, and deletes it, because
-// nobody knows its credentials. The instance stays.
+// nobody knows its credentials. If there is time, it creates another one. The instance stays.
 func TestKilled(t *testing.T) {
 	sold := &shelf{names: map[broker.Key]bool{}, begun: make(chan struct{}), release: make(chan struct{})}
 	state, port := withKey(t), served(t, sold)
@@ -201,17 +201,22 @@ func TestKilled(t *testing.T) {
 	rows, err := store.List(context.Background(), platform.Filter{})
 	need(t, err)
 	states := map[platform.State]int{}
+	further := 0
 	for _, it := range rows {
-		states[it.State]++
 		if it.IsSent && it.Record.InFlight() != osb.KindNone {
 			t.Errorf("a request of %v is still in flight", it.Key)
 		}
+		if it.Key.IsBinding && it.Try == 2 {
+			further++
+			continue
+		}
+		states[it.State]++
 	}
 	deleted := states[platform.Gone] + states[platform.Cleaning] // perhaps there was no time for the last of them
-	if len(rows) != 4 || states[platform.Ready] != 1 || states[platform.Gone] < 2 || deleted != 3 {
-		t.Error(states)
+	if len(rows) != 4+further || states[platform.Ready] != 1 || states[platform.Gone] < 2 || deleted != 3 || further > 1 {
+		t.Error(states, further)
 	}
-	if ever, _ := sold.counts(); ever != 4 {
+	if ever, _ := sold.counts(); ever < 4 || ever > 4+further {
 		t.Errorf("%d were created", ever)
 	}
 }

@@ -13,6 +13,7 @@ import (
 
 	"pippinterm/osb"
 	"pippinterm/platform"
+	"pippinterm/program/journal"
 )
 
 // A sending is a request as HTTP has it, and what its exchange may take.
@@ -21,6 +22,7 @@ type sending struct {
 	body           []byte
 	id             string // the value of X-Broker-API-Request-Identity
 	identity       string // the value of X-Broker-API-Originating-Identity, or empty
+	journalTime    string // the value of X-Osb-Journal-Time, or empty
 	until          time.Time
 	longest        int  // of the answer's body
 	isAlone        bool // whether it has a connection of its own in any case
@@ -63,7 +65,9 @@ func (c *Client) exchange(ctx context.Context, out platform.Outgoing) platform.I
 	sent.until, sent.longest = out.Until, c.options.LongestAnswer
 	got, err := c.ask(ctx, to, out.Broker, sent)
 	if err != nil {
-		return platform.Incoming{Status: got.status, RetryAfter: retryAfter(got.header), Lost: err}
+		return platform.Incoming{
+			Status: got.status, RetryAfter: retryAfter(got.header), Lost: err, JournalTime: got.header.Get(journal.Header),
+		}
 	}
 	return read(out, got)
 }
@@ -74,7 +78,7 @@ func write(prefix string, out platform.Outgoing) (sent sending, err error) {
 	if out.IsFetch {
 		kind = osb.KindPoll // the method is the same, and neither has a body
 	}
-	sent = sending{id: out.RequestID, identity: out.Entry.Identity}
+	sent = sending{id: out.RequestID, identity: out.Entry.Identity, journalTime: out.JournalTime}
 	if sent.method, err = osb.WriteMethod(kind); err != nil {
 		return sending{}, err
 	}
@@ -175,6 +179,7 @@ func (c *Client) request(to *broker, of platform.Broker, sent sending) (*http.Re
 	}
 	for name, value := range map[string]string{
 		osb.RequestIdentityHeader: sent.id, osb.OriginatingIdentityHeader: sent.identity,
+		journal.Header: sent.journalTime,
 	} {
 		if value == "" {
 			continue
@@ -272,7 +277,9 @@ func (c *Client) giveBack(ctx context.Context, to *broker, conn *connection, sen
 
 // read reads an answer as package osb does.
 func read(out platform.Outgoing, got received) (in platform.Incoming) {
-	in = platform.Incoming{Status: got.status, RetryAfter: retryAfter(got.header)}
+	in = platform.Incoming{
+		Status: got.status, RetryAfter: retryAfter(got.header), JournalTime: got.header.Get(journal.Header),
+	}
 	status := uint16(got.status) // it has three digits
 	if in.Details, in.Lost = osb.ReadDetails(got.body); in.Lost != nil {
 		return in

@@ -18,6 +18,8 @@ import (
 type Options struct {
 	// DroppedLines returns how many lines of the log were dropped, as logs.Queue.Dropped does.
 	DroppedLines func() uint64
+	// LostJournalLines returns how many lines of the journal couldn't be written, as journal.Writer.Lost does.
+	LostJournalLines func() uint64
 	// Connections returns how many connections are open, as server.Listener.Connections does.
 	Connections func() int
 }
@@ -42,6 +44,7 @@ type Options struct {
 //	osb_broker_oldest_unfinished_seconds      age of the oldest of pending, operating and waiting, or 0
 //	osb_broker_store_up                       1, or 0 if the store fails: then the five before it are left out
 //	osb_broker_log_lines_dropped_total        dropped lines of the log
+//	osb_broker_journal_lines_lost_total       lines of the journal that couldn't be written
 //	osb_broker_connections                    open connections
 type Metrics struct {
 	registry   *prometheus.Registry
@@ -94,6 +97,11 @@ func (m *Metrics) addOptions(options Options) {
 		m.registry.MustRegister(prometheus.NewCounterFunc(prometheus.CounterOpts{
 			Name: prefix + "log_lines_dropped_total", Help: "Dropped lines of the log.",
 		}, func() float64 { return float64(dropped()) }))
+	}
+	if lost := options.LostJournalLines; lost != nil {
+		m.registry.MustRegister(prometheus.NewCounterFunc(prometheus.CounterOpts{
+			Name: prefix + "journal_lines_lost_total", Help: "Lines of the journal that couldn't be written.",
+		}, func() float64 { return float64(lost()) }))
 	}
 	if connections := options.Connections; connections != nil {
 		m.registry.MustRegister(prometheus.NewGaugeFunc(prometheus.GaugeOpts{

@@ -6,6 +6,7 @@ import (
 	"fmt"
 	"os"
 	"path/filepath"
+	"strconv"
 	"strings"
 	"time"
 
@@ -25,6 +26,16 @@ func Main(root *cobra.Command, date time.Time) {
 		os.Exit(1)
 	}
 	os.Exit(0)
+}
+
+// AtEpoch is Main with the date of the environment variable SOURCE_DATE_EPOCH, in seconds since 1970. It panics if the
+// variable is no number.
+func AtEpoch(root *cobra.Command) {
+	seconds, err := strconv.ParseInt(os.Getenv("SOURCE_DATE_EPOCH"), 10, 64)
+	if err != nil {
+		panic(err)
+	}
+	Main(root, time.Unix(seconds, 0).UTC())
 }
 
 // Write writes these files into an existing folder. ROOT is the name of the root command:

@@ -63,6 +63,21 @@ func connect(ctx context.Context, path string) (*Conn, error) {
 	return c, nil
 }
 
+// Look opens a file that exists for reading only, calls with the connection, and closes it. What a killed process has
+// left stays as it is for the next one that opens the file.
+func Look(ctx context.Context, path string, call func(*Conn) error) error {
+	name := (&url.URL{Scheme: "file", Opaque: escaped(path)}).String() + "?mode=ro&_mutex=no&_busy_timeout=0"
+	return Patiently(ctx, func() error {
+		made, err := (&sqlite3.SQLiteDriver{}).Open(name)
+		if err != nil {
+			return err
+		}
+		conn := &Conn{sqlite: made.(*sqlite3.SQLiteConn)}
+		defer conn.close()
+		return call(conn)
+	})
+}
+
 // escaped is a path as it stands in a URI of SQLite.
 func escaped(path string) string { return (&url.URL{Path: path}).EscapedPath() }
 

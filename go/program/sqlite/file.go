@@ -12,6 +12,7 @@ import (
 	"fmt"
 	"os"
 	"path/filepath"
+	"runtime"
 	"sync"
 	"sync/atomic"
 	"time"
@@ -81,6 +82,16 @@ func (j *job[C]) giveUp() bool { return j.state.CompareAndSwap(waiting, givenUp)
 
 // ErrClosed reports that the file is closed. Nothing was written.
 var ErrClosed = errors.New("the file is closed")
+
+// ErrUnknownCommit reports that a commit has failed, and that nobody knows whether its jobs are written.
+var ErrUnknownCommit = errors.New("nobody knows whether the transaction was committed")
+
+// unknownCommit is the error of a commit.
+type unknownCommit struct{ error }
+
+func (u unknownCommit) Unwrap() error { return u.error }
+
+func (unknownCommit) Is(target error) bool { return target == ErrUnknownCommit }
 
 // Open opens a file, and creates it with mode 0600 if there is none. What a killed process had written, and not synced,
 // is on disk before anything is read: it would be taken for committed. Nothing is written to a file that needs no
@@ -244,8 +255,8 @@ func (f *File[C]) Read(ctx context.Context, call func(C) error) error {
 // Write has a job done in a transaction, together with others that wait, and returns once it is on disk. A job that
 // fails or panics is undone, and the others are written. A job must not call Write.
 //
-// Errors: those of do; that of ctx, if it is done before the job has begun; ErrBusy; ErrClosed. In these cases nothing
-// is written. If the transaction fails otherwise, nobody knows whether it is.
+// Errors: those of do; that of ctx, if it is done before the job has begun; ErrBusy; ErrClosed; ErrUnknownCommit (by
+// errors.Is), which is SQLite's error of the commit. After any other error nothing is written.
 func (f *File[C]) Write(ctx context.Context, do func(C) error) error {
 	it := &job[C]{ctx: ctx, do: do, done: make(chan struct{})}
 	select {
@@ -287,16 +298,23 @@ func (f *File[C]) write() {
 		case <-f.open.Done():
 			return
 		}
-		for more := true; more && len(batch) < f.options.Together; {
-			select {
-			case it := <-f.asked:
-				batch = append(batch, it)
-			default:
-				more = false
-			}
-		}
-		f.commit(batch)
+		f.commit(f.gathered(batch))
 	}
+}
+
+// gathered adds all jobs that wait to a batch, as far as there is room. Before, it lets the goroutines run that can: those
+// that are about to ask for a job are in the batch then. If none can run, that takes no time.
+func (f *File[C]) gathered(batch []*job[C]) []*job[C] {
+	runtime.Gosched()
+	for len(batch) < f.options.Together {
+		select {
+		case it := <-f.asked:
+			batch = append(batch, it)
+		default:
+			return batch
+		}
+	}
+	return batch
 }
 
 // commit writes jobs in one transaction, and tells their callers what came of it. If the transaction itself fails, none
@@ -321,7 +339,9 @@ func (f *File[C]) commit(batch []*job[C]) {
 		}
 	}
 	if err == nil {
-		err = conn.end.run()
+		if err = conn.end.run(); err != nil {
+			err = unknownCommit{err}
+		}
 	}
 	if err != nil && conn.InTransaction() {
 		_ = conn.Exec("ROLLBACK")

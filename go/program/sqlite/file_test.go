@@ -480,3 +480,34 @@ func TestSnapshot(t *testing.T) {
 	}
 	wantNotes(t, file, "0 in turn 0", "0 in turn 1", "a")
 }
+
+// The error of a commit is ErrUnknownCommit, for all jobs of the transaction, and SQLite's. That of a job isn't.
+func TestUnknownCommit(t *testing.T) {
+	with := options()
+	migrate := with.Migrate
+	with.Migrate = func(ctx context.Context, conn *Conn, path string) error {
+		err := migrate(ctx, conn, path)
+		for _, it := range []string{
+			"PRAGMA foreign_keys = ON",
+			"CREATE TABLE of (note TEXT REFERENCES notes (text) DEFERRABLE INITIALLY DEFERRED)",
+		} {
+			if err == nil {
+				err = conn.Exec(it)
+			}
+		}
+		return err
+	}
+	file := open(t, filepath.Join(t.TempDir(), "file"), with)
+	errOwn := errors.New("its own")
+	if err := file.Write(background, func(*notes) error { return errOwn }); err != errOwn {
+		t.Errorf("of a job: %v", err)
+	}
+	err := file.Write(background, func(n *notes) error { return n.Exec("INSERT INTO of VALUES ('missing')") })
+	var failed sqlite3.Error
+	if !errors.Is(err, ErrUnknownCommit) || !errors.As(err, &failed) || failed.Code != sqlite3.ErrConstraint {
+		t.Errorf("of a commit: %v", err)
+	}
+	if err := file.Write(background, func(n *notes) error { return n.Exec("INSERT INTO notes VALUES ('next')") }); err != nil {
+		t.Errorf("after it: %v", err)
+	}
+}

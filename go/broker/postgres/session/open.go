@@ -116,8 +116,9 @@ func replace(parsed *url.URL, asked url.Values, options Options) url.Values {
 const goodbye = 2 * time.Second
 
 // Close closes connections that nobody uses any more, and returns the error of the last one that has failed. Each
-// connection asks the server to close its prepared statements, one connection after another. If the server doesn't
-// answer, Close returns 2 seconds later without an error, and the connections are closed once their limits are over.
+// connection asks the server to close its prepared statements, one connection after another. That a connection or its
+// session has ended before is no error. If the server doesn't answer, Close returns 2 seconds later without an error, and
+// the connections are closed once their limits are over.
 func Close(db *sql.DB) error {
 	closed := make(chan error, 1)
 	go func() { closed <- db.Close() }()
@@ -125,6 +126,9 @@ func Close(db *sql.DB) error {
 	defer timer.Stop()
 	select {
 	case err := <-closed:
+		if IsAway(err) {
+			return nil
+		}
 		return err
 	case <-timer.C:
 		return nil

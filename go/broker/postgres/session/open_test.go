@@ -3,6 +3,7 @@ package session_test
 import (
 	"context"
 	"errors"
+	"fmt"
 	"strings"
 	"testing"
 	"time"
@@ -45,6 +46,30 @@ func TestSettings(t *testing.T) {
 		var got string
 		if err := db.QueryRow("SHOW " + name).Scan(&got); err != nil || got != want {
 			t.Errorf("%s: %s, %v, want %s", name, got, err, want)
+		}
+	}
+}
+
+// A session that has ended needs no goodbye: whoever closes it has lost nothing.
+func TestCloseAfterTheSessionHasEnded(t *testing.T) {
+	url := pgtest.URL(t)
+	for statements := 0; statements < 4; statements++ {
+		db, err := session.Open(url, session.Options{Most: 1, Lock: time.Second, Statement: 5 * time.Second})
+		if err != nil {
+			t.Fatal(err)
+		}
+		var number int
+		if err := db.QueryRow("SELECT pg_backend_pid()").Scan(&number); err != nil {
+			t.Fatal(err)
+		}
+		for n := 0; n < statements; n++ {
+			if _, err := db.Prepare(fmt.Sprint("SELECT ", n)); err != nil {
+				t.Fatal(err)
+			}
+		}
+		pgtest.Exec(t, pgtest.DB(t, url), fmt.Sprintf("SELECT pg_terminate_backend(%d, 10000)", number))
+		if err := session.Close(db); err != nil {
+			t.Errorf("with %d prepared statements: %v", statements, err)
 		}
 	}
 }

@@ -79,7 +79,7 @@ func (c *connection) PrepareContext(ctx context.Context, query string) (driver.S
 // QueryContext runs a query.
 func (c *connection) QueryContext(ctx context.Context, query string, values []driver.NamedValue) (driver.Rows, error) {
 	defer c.network.until(ctx)()
-	return c.pqConn.QueryContext(ctx, query, values)
+	return keep(c.pqConn.QueryContext(ctx, query, values))
 }
 
 // ExecContext runs a statement.
@@ -105,7 +105,7 @@ type statement struct {
 // QueryContext runs a query.
 func (s *statement) QueryContext(ctx context.Context, values []driver.NamedValue) (driver.Rows, error) {
 	defer s.network.until(ctx)()
-	return s.pqStatement.QueryContext(bare(ctx), values)
+	return keep(s.pqStatement.QueryContext(bare(ctx), values))
 }
 
 // ExecContext runs a statement.

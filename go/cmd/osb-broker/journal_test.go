@@ -1,0 +1,183 @@
+package main
+
+import (
+	"encoding/json"
+	"fmt"
+	"net/http"
+	"os"
+	"path/filepath"
+	"strings"
+	"testing"
+
+	"golang.org/x/sys/unix"
+
+	"pippinterm/broker"
+	"pippinterm/broker/postgres/session"
+	"pippinterm/program/journal"
+	"pippinterm/program/sqlite"
+)
+
+// eventsIn are the events of all files of a folder with journals, one text for each file, by name.
+func eventsIn(t *testing.T, folder string) (all []string) {
+	t.Helper()
+	paths, err := filepath.Glob(filepath.Join(folder, "*"))
+	if err != nil {
+		t.Fatal(err)
+	}
+	for _, path := range paths {
+		text, err := os.ReadFile(path)
+		if err != nil {
+			t.Fatal(err)
+		}
+		var events []string
+		for _, it := range strings.Split(strings.TrimSuffix(string(text), "\n"), "\n") {
+			var read struct {
+				Event, Call, Stage string
+				Doubtful           bool
+			}
+			if err := json.Unmarshal([]byte(it), &read); err != nil {
+				t.Fatalf("%s: %q: %v", path, it, err)
+			}
+			switch {
+			case read.Event == "work":
+				read.Event = read.Call + " " + read.Stage
+			case read.Doubtful:
+				read.Event += " doubtful"
+			}
+			events = append(events, read.Event)
+		}
+		all = append(all, strings.Join(events, ", "))
+	}
+	return all
+}
+
+// The lines of a creation and of the deletion that follows.
+const (
+	looked   = ", look begun, look ended"
+	creating = "arrived, changed" + looked + ", create begun, create ended" + looked + ", changed, answered"
+	deleting = "arrived, changed" + looked + ", delete begun, delete ended" + looked + ", changed, answered"
+)
+
+// A folder gets a file for each run. With SIGTERM the journal ends with stopped.
+func TestJournal(t *testing.T) {
+	state, folder := t.TempDir(), t.TempDir()
+	for _, it := range []struct{ method, path, body, want string }{
+		{"PUT", one, order, creating}, {"DELETE", one + names, "", deleting},
+	} {
+		s := start(t, []string{password}, "--state", state, "--journal", folder)
+		if status, body := s.ask(it.method, it.path, it.body); status > 201 {
+			t.Fatal(status, body)
+		}
+		s.stop()
+		files := eventsIn(t, folder)
+		if want := "started, " + it.want + ", stopped"; files[len(files)-1] != want {
+			t.Errorf("%s; want %s", files[len(files)-1], want)
+		}
+	}
+	if files := eventsIn(t, folder); len(files) != 2 {
+		t.Errorf("%q", files)
+	}
+}
+
+// A broker that is killed has written what it has done, and the next one goes on in the same file.
+func TestJournalAfterAKill(t *testing.T) {
+	state, file := t.TempDir(), filepath.Join(t.TempDir(), "journal")
+	for n := 0; n < 2; n++ {
+		s := start(t, []string{password}, "--state", state, "--journal", file)
+		if status, body := s.ask("PUT", one, order); status > 201 {
+			t.Fatal(status, body)
+		}
+		if err := s.command.Process.Kill(); err != nil {
+			t.Fatal(err)
+		}
+		_ = s.command.Wait()
+	}
+	got := eventsIn(t, filepath.Dir(file))
+	if want := "started, " + creating + ", started, arrived, answered"; len(got) != 1 || got[0] != want {
+		t.Errorf("%q; want %q", got, want)
+	}
+}
+
+// Two brokers can't write to one file, and a journal needs a place that can be written.
+func TestJournalTaken(t *testing.T) {
+	file := filepath.Join(t.TempDir(), "journal")
+	start(t, []string{password}, "--state", t.TempDir(), "--journal", file)
+	for place, says := range map[string]string{
+		file: "--journal: " + file + ": another process writes this journal", "/nowhere/journal": "--journal: open /nowhere",
+	} {
+		ended(t, 2, says, osbBroker([]string{password}, "serve", "--state", t.TempDir(), "--listen", "127.0.0.1:0",
+			"--journal", place))
+	}
+}
+
+// Without --journal nothing is wrapped, and no time is sent.
+func TestNoJournal(t *testing.T) {
+	parts := &parts{store: &ownStore{}, backend: &ownBackend{}}
+	with, err := (&running{settings: &settings{}, parts: parts}).journaled(nil)
+	if err != nil || with.store != broker.Store(parts.store) || with.backend != parts.backend || with.journal != nil {
+		t.Errorf("%+v, %v", with, err)
+	}
+	for _, arguments := range [][]string{nil, {"--journal", t.TempDir()}} {
+		s := start(t, []string{password}, append([]string{"--state", t.TempDir()}, arguments...)...)
+		request, err := newOrder(s.url)
+		if err != nil {
+			t.Fatal(err)
+		}
+		given, err := s.client.Do(request)
+		if err != nil {
+			t.Fatal(err)
+		}
+		_ = given.Body.Close()
+		if got := given.Header.Get(journal.Header); given.StatusCode != 201 || (got == "") != (arguments == nil) {
+			t.Errorf("%v: %d, %q", arguments, given.StatusCode, got)
+		}
+	}
+}
+
+// newOrder is the creation of an instance.
+func newOrder(url string) (*http.Request, error) {
+	request, err := http.NewRequest("PUT", url+one, strings.NewReader(order))
+	if err != nil {
+		return nil, err
+	}
+	request.SetBasicAuth("platform", "secret")
+	request.Header.Set("X-Broker-API-Version", "2.17")
+	return request, nil
+}
+
+type (
+	ownStore   struct{ broker.NamedStore }
+	ownBackend struct{ broker.Backend }
+)
+
+// If the store's disk is full and the journal's isn't, the change that wasn't committed is undone, doubtfully.
+func TestJournalOfAFullStore(t *testing.T) {
+	folder := t.TempDir()
+	s := start(t, []string{password}, "--state", t.TempDir(), "--journal", folder)
+	s.longest(200_000)
+	status := 201
+	for n := 0; n < 200 && status == 201; n++ {
+		status, _ = s.ask("PUT", fmt.Sprint(one, n), order)
+	}
+	s.longest(unix.RLIM_INFINITY)
+	s.untilReady(200)
+	s.expect(201, "PUT", one, order)
+	s.stop()
+	events := eventsIn(t, folder)[0]
+	failed := strings.Index(events, "changed, undone doubtful, answered, ")
+	if status != 500 || failed < 0 || !strings.HasSuffix(events, creating+", stopped") || strings.Contains(events, "lost") {
+		t.Errorf("status %d: %s", status, events)
+	}
+}
+
+// Which failed changes may have been committed.
+func TestDoubtful(t *testing.T) {
+	for err, want := range map[error]bool{
+		session.ErrUnknownCommit: true, sqlitefile.ErrUnknownCommit: true,
+		broker.ErrLostLock: false, broker.ErrLostWork: false, sqlitefile.ErrBusy: false, session.ErrNotBegun: false,
+	} {
+		if got := isDoubtful(broker.Away(fmt.Errorf("it has failed: %w", err))); got != want {
+			t.Errorf("%v: %v", err, got)
+		}
+	}
+}

@@ -1,0 +1,132 @@
+package shell
+
+import (
+	"bufio"
+	"bytes"
+	"context"
+	"fmt"
+	"io"
+	"os"
+	"os/exec"
+	"strings"
+	"syscall"
+	"time"
+)
+
+// limit is how long a command may take. Tests shorten it.
+var limit = time.Minute
+
+// Run runs a command of the shell. Processes that it has started may go on once it has ended. A terminal's signals
+// don't reach them.
+//
+// If ctx is done, or after a minute, the command is killed with all processes of its group. Then Run returns an error.
+func Run(ctx context.Context, command string) error {
+	_, _, err := run(ctx, command, false)
+	return err
+}
+
+// Rows runs a command as Run does, and returns the words of each line that it prints. Empty lines are left out. It
+// waits until no process has the command's standard output open.
+//
+// Errors: the command fails, or is killed; a line doesn't have as many ids as it should.
+func Rows(ctx context.Context, command string, ids int) (rows [][]string, err error) {
+	printed, said, err := run(ctx, command, true)
+	if err != nil {
+		return nil, fmt.Errorf("%w%s", err, lastLineOf(said))
+	}
+	lines := bufio.NewScanner(bytes.NewReader(printed))
+	for lines.Scan() {
+		words := strings.Fields(lines.Text())
+		switch {
+		case len(words) == 0:
+		case len(words) != ids:
+			return nil, fmt.Errorf("the line %.100q doesn't have %d ids", lines.Text(), ids)
+		default:
+			rows = append(rows, words)
+		}
+	}
+	return rows, lines.Err()
+}
+
+// run runs a command. If it is read, run returns what it prints on its standard output and on its standard error.
+func run(ctx context.Context, command string, isRead bool) (printed, said []byte, err error) {
+	within, cancel := context.WithTimeout(ctx, limit)
+	defer cancel()
+	process := exec.Command("/bin/sh", "-c", command)
+	process.SysProcAttr = &syscall.SysProcAttr{Setpgid: true}
+	var out, errors *reader
+	if isRead {
+		if out, err = newReader(); err != nil {
+			return nil, nil, err
+		}
+		defer out.end()
+		if errors, err = newReader(); err != nil {
+			return nil, nil, err
+		}
+		defer errors.end()
+		process.Stdout, process.Stderr = out.write, errors.write
+	}
+	if err := process.Start(); err != nil {
+		return nil, nil, err
+	}
+	ended := make(chan error, 1)
+	go func() {
+		// The shell keeps its process id, and so that of its group, until everything is read.
+		fromErrors := make(chan []byte, 1)
+		go func() { fromErrors <- errors.all() }()
+		printed = out.all()
+		said = <-fromErrors
+		ended <- process.Wait()
+	}()
+	select {
+	case err = <-ended:
+		return printed, said, err
+	case <-within.Done():
+	}
+	_ = syscall.Kill(-process.Process.Pid, syscall.SIGKILL)
+	out.end() // a process that has left the group may keep the pipe open
+	errors.end()
+	<-ended
+	if ctx.Err() != nil {
+		return nil, said, ctx.Err()
+	}
+	return nil, said, fmt.Errorf("it didn't end within %v", limit)
+}
+
+// A reader reads a pipe. A nil reader reads nothing.
+type reader struct {
+	read, write *os.File
+}
+
+func newReader() (r *reader, err error) {
+	r = &reader{}
+	r.read, r.write, err = os.Pipe()
+	return r, err
+}
+
+// all returns what is written until nobody has the pipe open, or until end is called.
+func (r *reader) all() []byte {
+	if r == nil {
+		return nil
+	}
+	_ = r.write.Close() // the command has it
+	all, _ := io.ReadAll(r.read)
+	return all
+}
+
+// end ends the reading, and frees the pipe.
+func (r *reader) end() {
+	if r != nil {
+		_ = r.read.Close()
+		_ = r.write.Close()
+	}
+}
+
+// lastLineOf returns the last line that a command has printed on its standard error, in brackets.
+func lastLineOf(said []byte) string {
+	if len(bytes.TrimSpace(said)) == 0 {
+		return ""
+	}
+	lines := strings.Split(strings.TrimSpace(string(said)), "\n")
+	return fmt.Sprintf(" (%.200s)", lines[len(lines)-1])
+}
