@@ -55,27 +55,27 @@ def stretches(log: Log, begin: int, chunk: int) -> list[Stretch]:
     return [Stretch(log, at, end, at == begin) for at, end in zip(begins, [*begins[1:], log.size])]
 
 
-def pieces(stretch: Stretch, chunk: int) -> Iterator[bytes]:
+def pieces(stretch: Stretch, chunk: int, margin: int = _MARGIN) -> Iterator[bytes]:
     """The lines that begin in the stretch, in pieces of about so many bytes. Of a line that is too long not all need
-    be there, but so much that it is too long still.
+    be there, but so much that it is too long still: so many bytes are read behind a piece.
     """
     log = stretch.log
     try:
         if log.is_gzip:
             with gzip.open(log.path, "rb") as file:
                 file.seek(stretch.begin)
-                yield from _streamed(cast(BinaryIO, file), chunk)
+                yield from _streamed(cast(BinaryIO, file), chunk, margin)
         else:
             with open(log.path, "rb") as plain:
-                yield _cut(plain, stretch)
+                yield _cut(plain, stretch, margin)
     except _FAILURES as error:
         raise unread(log.path, error) from error
 
 
-def _cut(file: BinaryIO, stretch: Stretch) -> bytes:
+def _cut(file: BinaryIO, stretch: Stretch, margin: int) -> bytes:
     """The bytes of the lines that begin in a stretch of a plain file."""
     first = stretch.begin if stretch.is_whole else stretch.begin - 1
-    data = _read(file, first, min(stretch.end + _MARGIN, stretch.log.size))
+    data = _read(file, first, min(stretch.end + margin, stretch.log.size))
     start = 0 if stretch.is_whole else data.find(b"\n") + 1
     until = stretch.end - first
     if start >= until or (start == 0 and not stretch.is_whole):
@@ -97,7 +97,7 @@ def lines_of(stretch: Stretch, chunk: int) -> Iterator[list[bytes]]:
     return (lines for piece in pieces(stretch, chunk) for lines in blocks(piece))
 
 
-def _streamed(file: BinaryIO, chunk: int) -> Iterator[bytes]:
+def _streamed(file: BinaryIO, chunk: int, margin: int) -> Iterator[bytes]:
     """The lines of what is read, piece by piece. What is carried on from one to the next is short."""
     carried = b""
     while True:
@@ -108,7 +108,7 @@ def _streamed(file: BinaryIO, chunk: int) -> Iterator[bytes]:
         if end:
             yield carried + data[:end]
             carried = b""
-        carried = (carried + data[end:])[:_MARGIN]
+        carried = (carried + data[end:])[:margin]
     if carried:
         yield carried
 

@@ -27,10 +27,11 @@ class Fault(NamedTuple):
 
 
 class Program(NamedTuple):
-    """Where the program is, and the words that stand behind `replay`."""
+    """Where the program is, and the words that stand behind its command."""
 
     path: str
     words: tuple[str, ...]
+    command: str = "replay"
 
     def run(self, given: Iterable[bytes], report: Path) -> Fault | None:
         """Has the schedule replayed once, and its report written. `given` is gone through from its beginning each time
@@ -61,7 +62,7 @@ class Program(NamedTuple):
         return ran.returncode, said
 
     def _begun(self, out: IO[bytes]) -> subprocess.Popen[bytes]:
-        words = [*_with_its_caller(), self.path, "replay", *self.words]
+        words = [*_with_its_caller(), self.path, self.command, *self.words]
         _can_be_run(self.path)
         try:
             return subprocess.Popen(words, stdin=subprocess.PIPE, stdout=out, stderr=subprocess.PIPE)

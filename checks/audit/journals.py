@@ -1,0 +1,275 @@
+"""Journals that are written by hand: a story is a list of short lines, each of which is a line of a journal.
+
+The words of a line are split by spaces. B is the broker, P the platform. A second process of a side is B2 or P2. The
+life is the instance, unless the line ends with `of binding`. `HELD` and `RECORD` are the short forms of held_text and
+record_text.
+
+    P claim RECORD               changed, cause claim       B arrive VISIT REQUEST KIND    arrived
+    P take ATTEMPT RECORD        changed, cause take        B change VISIT HELD            changed; VISIT 0 of none
+    P command RECORD             changed, cause command     B look FOUND                   work, begun and ended
+    P send REQUEST KIND ATTEMPT  sent                       B create, B delete             work, begun and ended
+    P hear REQUEST STATUS BODY   answered                   B begin create|delete          work, begun alone
+    P lose REQUEST               answered, lost             B end CALL RESULT              work, ended alone
+    P abandon RECORD             changed, state abandoned   B credentials                  work, begun and ended
+                                                            B answer VISIT STATUS BODY     answered
+
+Each change has as `before` what the last change of its row has left, unless `from HELD` or `from RECORD` follows. A
+word `!undone` or `!doubtful` behind a change has the line `undone` follow. Each word `@DIGEST` names credentials, and
+`saw=HELD` what an answer was decided on. A change with `!returned` is one with which the id returns. The text `~`, and
+nothing else, is a line of no journal.
+
+What a line names is that of the story, unless one of these words follows: `plan=sync|async`, `service=other`,
+`attributes=DIGIT` (the digest that consists of this digit; `attributes=-` of an arrival is none), `accepts=no`. Of a
+change at the broker, `work-plan=sync|async` and `work-id=other` are of the pending work alone.
+"""
+
+from __future__ import annotations
+
+import json
+from collections.abc import Callable, Mapping
+from dataclasses import dataclass, field
+from pathlib import Path
+from typing import Any, Optional
+
+INSTANCE = "00000000-0000-0000-0000-000000000001"
+BINDING = "00000000-0000-0000-0000-00000000000b"
+SERVICE = "00000000-0000-0000-0000-0000000000a0"
+OTHER = "00000000-0000-0000-0000-0000000000ff"
+PLANS = {"sync": "00000000-0000-0000-0000-0000000000b1", "async": "00000000-0000-0000-0000-0000000000b2"}
+NAMED = "plan", "service", "attributes", "accepts", "work-plan", "work-id"
+"""What a line may name in another way than its story does."""
+EMPTY: Mapping[str, str] = {}
+
+
+def compact(members: dict[str, Any]) -> str:
+    return json.dumps(members, separators=(",", ":"), sort_keys=True)
+
+
+def ids_of(plan: str, named: Mapping[str, str]) -> dict[str, str]:
+    """The service and the plan that a line names."""
+    return {"service": OTHER if "service" in named else SERVICE, "plan": PLANS[named.get("plan", plan)]}
+
+
+def held_text(form: str, plan: str, of: str, named: Mapping[str, str] = EMPTY) -> str:
+    """The text of a holding (docs/instance.md). The form is `-` for none, `tombstone`, PHASE, `pending-KIND`, or
+    PHASE+KIND for a row with pending work.
+    """
+    if form == "-":
+        return ""
+    ids = ids_of(plan, named)
+    phase, _, kind = form.partition("+") if not form.startswith("pending-") else ("", "", form[len("pending-") :])
+    is_row = phase not in ("", "tombstone")
+    work = {"accepts_incomplete": "accepts" not in named, "id": OTHER if "work-id" in named else of, "kind": kind}
+    work_ids = ids_of(plan, {**named, **({"plan": named["work-plan"]} if "work-plan" in named else {})})
+    return compact(
+        {
+            "attributes": named.get("attributes", "0") * 64,
+            "row": {"phase": phase, **ids} if is_row else None,
+            "tombstone": phase == "tombstone",
+            "version": 2,
+            "work": {**work, **work_ids} if kind else None,
+        }
+    )
+
+
+def record_text(form: str, plan: str, named: Mapping[str, str] = EMPTY) -> str:
+    """The text of a record. The form is `-` for none, or STATE/ATTEMPT, or STATE/ATTEMPT/OUT."""
+    if form == "-":
+        return ""
+    state, attempt, *out = form.split("/")
+    ids = ids_of(plan, named)
+    return compact({"attempt": int(attempt), "out": out[0] if out else None, **ids, "state": state, "version": 1})
+
+
+def started(first_poll: bool = False, binding: str = "sync", retrievable: bool = True) -> dict[str, Any]:
+    """The members of the line `started` of a broker that sells a synchronous and an asynchronous plan."""
+    plans = [
+        {
+            "service": SERVICE,
+            "plan": plan,
+            "service_number": SERVICE,
+            "plan_number": plan,
+            "mode": mode,
+            "binding": binding,
+            "retrievable": retrievable,
+        }
+        for mode, plan in PLANS.items()
+    ]
+    return {"version": "test", "first_poll": first_poll, "wait_for_poll": 600, "ids_return_after": 0, "plans": plans}
+
+
+@dataclass
+class Journal:
+    """The lines of a story, by the process. Times count the lines."""
+
+    plan: str = "sync"
+    instance: str = INSTANCE
+    of_broker: dict[str, Any] = field(default_factory=started)
+    time: int = 1_700_000_000_000_000
+    lines: dict[str, list[str]] = field(default_factory=dict)
+    texts: dict[tuple[str, str], str] = field(default_factory=dict)
+    changes: dict[str, int] = field(default_factory=dict)
+    requests: dict[tuple[str, str], str] = field(default_factory=dict)
+    named: dict[str, str] = field(default_factory=dict)
+    """What the line that is being told names in another way."""
+
+    def tell(self, story: str) -> Journal:
+        """Adds the lines of a story, one in each line of the text, or parted by semicolons."""
+        for line in story.replace("\n", ";").split(";"):
+            if line.strip() == "~":
+                self.lines["B"].append("no line of a journal")
+            elif line.strip():
+                self._tell(line.split())
+        return self
+
+    def _tell(self, words: list[str]) -> None:
+        binding = BINDING if words[-2:] == ["of", "binding"] else ""
+        words = words[:-2] if binding else words
+        self.named = dict(it.split("=", 1) for it in words if it.partition("=")[0] in NAMED)
+        words = [it for it in words if it.partition("=")[0] not in NAMED]
+        flags = [it for it in words if it.startswith(("!", "@", "saw="))]
+        who, verb, *rest = [it for it in words if it not in flags]
+        verbs: dict[str, Callable[[str, str, list[str], dict[str, Any]], None]]
+        verbs = {"claim": self._record, "take": self._take, "command": self._record, "abandon": self._record}
+        verbs |= {
+            "change": self._change,
+            "send": self._send,
+            "hear": self._hear,
+            "lose": self._lose,
+            "arrive": self._arrive,
+        }
+        verbs |= {
+            "answer": self._answer,
+            "look": self._look,
+            "credentials": self._known,
+            "begin": self._begin,
+            "end": self._end,
+        }
+        more: dict[str, Any] = {"instance": self.instance, **({"binding": binding} if binding else {})}
+        digest = next((it[1:] for it in flags if it.startswith("@")), "")
+        more |= {"credentials": digest} if digest else {}
+        more |= {"life": 1, "life_before": 0} if "!returned" in flags else {}
+        if verb in ("create", "delete"):
+            self._begin(who, verb, [verb], {it: more[it] for it in more if it != "credentials"})
+            self._end(who, verb, [verb, "done"], more)
+            return
+        saw = next((it[4:] for it in flags if it.startswith("saw=")), None)
+        of = binding or self.instance
+        more |= {"saw": held_text(saw, self.plan, of, self.named)} if saw is not None else {}
+        verbs[verb](who, verb, rest, more)
+        if "!undone" in flags or "!doubtful" in flags:
+            doubtful = {"doubtful": True} if "!doubtful" in flags else {}
+            self.write(who, "undone", {"change": self.changes[who], **self._key(more), **doubtful})
+
+    def write(self, who: str, event: str, members: dict[str, Any]) -> None:
+        """Adds a line of a process, after its line `started`."""
+        side = {"B": "broker", "P": "platform"}[who[0]]
+        head = {"process": f"{(ord(who[0]) << 8) + int(who[1:] or 1):016x}", "side": side}
+        lines = self.lines.setdefault(who, [])
+        if not lines and event != "started":
+            self.write(who, "started", self.of_broker if side == "broker" else {"version": "test", "worker": "one"})
+        self.time += 1000
+        lines.append(json.dumps({"time": self.time, **head, "event": event, **members}, separators=(",", ":")))
+
+    @staticmethod
+    def _key(more: dict[str, Any]) -> dict[str, Any]:
+        return {it: more[it] for it in ("instance", "binding") if it in more}
+
+    def _changed(self, who: str, more: dict[str, Any], after: str, before: Optional[str]) -> None:
+        row = (who[0], more.get("binding", ""))
+        self.changes[who] = self.changes.get(who, 0) + 1
+        found = self.texts.get(row, "") if before is None else before
+        self.write(who, "changed", {"change": self.changes[who], **more, "before": found, "after": after})
+        self.texts[row] = after
+
+    # ---- the platform
+
+    def _record(self, who: str, verb: str, rest: list[str], more: dict[str, Any]) -> None:
+        before = record_text(rest[2], self.plan, self.named) if rest[1:2] == ["from"] else None
+        is_abandoned = verb == "abandon"
+        state = "abandoned" if is_abandoned else rest[0].partition("/")[0]
+        more = {**more, "cause": "command" if is_abandoned else verb, "broker": "default", "state": state}
+        more |= ids_of(self.plan, {})
+        self._changed(who, more, record_text(rest[0], self.plan, self.named), before)
+
+    def _take(self, who: str, verb: str, rest: list[str], more: dict[str, Any]) -> None:
+        self._record(who, verb, rest[1:], {**more, "attempt": int(rest[0])})
+
+    def _send(self, who: str, _: str, rest: list[str], more: dict[str, Any]) -> None:
+        attempt = {"attempt": int(rest[2])} if rest[2:] and rest[2] != "0" else {}
+        ids = ids_of(self.plan, self.named)
+        self.write(who, "sent", {"request": rest[0], **more, "kind": rest[1], **attempt, "accepts": True, **ids})
+
+    def _hear(self, who: str, _: str, rest: list[str], more: dict[str, Any]) -> None:
+        said = {"status": int(rest[1]), "body": rest[2] if rest[2:] else "empty"}
+        self.write(who, "answered", {"request": rest[0], **more, "kind": "provision", **said})
+
+    def _lose(self, who: str, _: str, rest: list[str], more: dict[str, Any]) -> None:
+        self.write(who, "answered", {"request": rest[0], **more, "kind": "provision", "lost": "it timed out"})
+
+    # ---- the broker
+
+    def _arrive(self, who: str, _: str, rest: list[str], more: dict[str, Any]) -> None:
+        visit, request, kind = rest
+        self.requests[who, visit] = request
+        asks = {"kind": kind, "accepts": "accepts" not in self.named, **ids_of(self.plan, self.named)}
+        attributes = self.named.get("attributes", "0")
+        if kind == "provision" and attributes != "-":
+            asks["attributes"] = attributes * 64
+        self.write(who, "arrived", {"visit": int(visit), "request": request, **more, **asks})
+
+    def _change(self, who: str, _: str, rest: list[str], more: dict[str, Any]) -> None:
+        of = more.get("binding", self.instance)
+        before = held_text(rest[3], self.plan, of, self.named) if rest[2:3] == ["from"] else None
+        visit = {"visit": int(rest[0])} if rest[0] != "0" else {}
+        self._changed(who, {**visit, **more}, held_text(rest[1], self.plan, of, self.named), before)
+
+    def _answer(self, who: str, _: str, rest: list[str], more: dict[str, Any]) -> None:
+        said = {"status": int(rest[1]), "body": rest[2] if rest[2:] else "empty"}
+        request = {"request": self.requests.get((who, rest[0]), "")}
+        self.write(who, "answered", {"visit": int(rest[0]), **request, **more, **said})
+
+    def _look(self, who: str, _: str, rest: list[str], more: dict[str, Any]) -> None:
+        self.write(who, "work", {**more, "call": "look", "stage": "begun"})
+        self.write(who, "work", {**more, "call": "look", "stage": "ended", "found": rest[0], "result": "done"})
+
+    def _known(self, who: str, _: str, __: list[str], more: dict[str, Any]) -> None:
+        self.write(who, "work", {**self._key(more), "call": "credentials", "stage": "begun"})
+        self.write(who, "work", {**more, "call": "credentials", "stage": "ended", "result": "done"})
+
+    def _begin(self, who: str, _: str, rest: list[str], more: dict[str, Any]) -> None:
+        self.write(who, "work", {**more, "call": rest[0], "stage": "begun"})
+
+    def _end(self, who: str, _: str, rest: list[str], more: dict[str, Any]) -> None:
+        self.write(who, "work", {**more, "call": rest[0], "stage": "ended", "result": rest[1]})
+
+    # ---- files
+
+    def files(self, folder: Path) -> list[Path]:
+        """Writes each process' lines to a file of its own."""
+        made = []
+        for who, lines in self.lines.items():
+            path = folder / f"{ {'B': 'broker', 'P': 'platform'}[who[0]] }-{who}.jsonl"
+            path.write_text("".join(f"{line}\n" for line in lines))
+            made.append(path)
+        return made
+
+
+# ---- what most stories begin with
+
+CREATED = """
+P claim wanted/1/provision; P send r1 provision 1
+B arrive 1 r1 provision; B change 1 pending-provision; B look absent; B create; B look whole; B change 1 ready
+B answer 1 201; P hear r1 201; P take 1 ready/1
+"""
+BOUND = f"""{CREATED}
+P claim wanted/1/provision of binding; P send b1 provision 1 of binding
+B arrive 2 b1 provision of binding; B change 2 pending-provision of binding; B look absent of binding
+B create @c1 of binding; B look whole of binding; B change 2 ready @c1 of binding; B answer 2 201 of binding
+P hear b1 201 @c1 of binding; P take 1 ready/1 @c1 of binding
+"""
+REMOVED = f"""{CREATED}
+P claim cleaning/2/deprovision; P send r2 deprovision 2
+B arrive 2 r2 deprovision; B change 2 ready+deprovision; B look whole; B delete; B look absent; B change 2 tombstone
+B answer 2 200; P hear r2 200; P take 2 gone/2
+"""

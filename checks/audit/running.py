@@ -1,0 +1,72 @@
+"""osb-broker and osb-platform, which write journals to the folder `journals`."""
+
+from __future__ import annotations
+
+import os
+import socket
+import subprocess
+from collections.abc import Iterator
+from contextlib import contextmanager
+from pathlib import Path
+
+from waiting import until
+
+ENVIRONMENT = {**os.environ, "OSB_BROKER_PASSWORD": "secret", "OSB_PLATFORM_PASSWORD": "secret"}
+
+
+def address() -> str:
+    """An address at which nothing listens."""
+    with socket.create_server(("127.0.0.1", 0)) as free:
+        return f"127.0.0.1:{free.getsockname()[1]}"
+
+
+@contextmanager
+def serving(broker: Path, folder: Path, at: str, *more: str, log: str = "log") -> Iterator[None]:
+    """A broker that listens at an address."""
+    words = "serve", "--state", str(folder / "state"), "--listen", at, "--journal", f"{folder}/journals/", *more
+    with open(folder / log, "wb") as file:
+        process = subprocess.Popen([broker, *words], env=ENVIRONMENT, stdin=subprocess.DEVNULL, stderr=file)
+    try:
+        until(lambda: '"event":"serving"' in (folder / log).read_text(), 20)
+        yield
+    finally:
+        process.terminate()
+        assert process.wait(20) == 0
+
+
+class Platform:
+    """A platform with one broker."""
+
+    def __init__(self, program: Path, folder: Path, at: str, name: str = "platform") -> None:
+        self._program, self._log, self._broker = program, folder / f"{name}.log", ["--broker", f"http://{at}"]
+        key = folder / f"{name}.key"
+        key.touch(0o600)
+        key.write_bytes(subprocess.run([program, "key"], stdin=subprocess.DEVNULL, capture_output=True).stdout)
+        self._store = ["--store", str(folder / f"{name}.sqlite"), "--key-file", str(key)]
+        self._journal = ["--journal", f"{folder}/journals/"]
+
+    def once(self) -> None:
+        """Sends what is due."""
+        ran = self._run("run", "--once", *self._broker)
+        assert ran.returncode == 0, ran.stderr
+
+    def create(self, *words: str) -> int:
+        """Orders an instance. Returns the exit status."""
+        return self._run("create", "--service", "folder", "--plan", "at-once", *words).returncode
+
+    @contextmanager
+    def working(self) -> Iterator[None]:
+        """A worker runs."""
+        paces = "--first-pace", "0.1", "--longest-pace", "0.3", "--look-seconds", "0.1", "--seconds", "5"
+        line = [str(self._program), "run", *self._store, *self._broker, *paces, *self._journal]
+        with open(self._log, "wb") as log:
+            process = subprocess.Popen(line, env=ENVIRONMENT, stdin=subprocess.DEVNULL, stdout=log, stderr=log)
+        try:
+            yield
+        finally:
+            process.terminate()
+            assert process.wait(20) == 0
+
+    def _run(self, *words: str) -> subprocess.CompletedProcess[str]:
+        line = [str(self._program), *words, *self._store, *self._journal]
+        return subprocess.run(line, env=ENVIRONMENT, stdin=subprocess.DEVNULL, capture_output=True, text=True)

@@ -1,0 +1,436 @@
+"""Which events of the model the lines of a journal are: each rule of docs/audit.md, by a story written by hand.
+
+In the events, I stands for the instance and B for its binding.
+"""
+
+from __future__ import annotations
+
+import json
+from typing import NamedTuple, Optional
+
+import pytest
+from audit.journals import BINDING, BOUND, CREATED, INSTANCE, PLANS, REMOVED, SERVICE, Journal, started
+from osb_audit.broker_side import ALTERED, FOREIGN, UNCOMPARED, UNRECORDED
+from osb_audit.events import Story
+from osb_audit.lines import Place, read
+from osb_audit.settings import settings_in
+from osb_audit.story import story
+
+pytestmark = pytest.mark.usefixtures("library")
+
+
+def story_of(journal: Journal) -> Story:
+    lines, settings = [], {}
+    for at, texts in enumerate(journal.lines.values()):
+        for number, text in enumerate(texts):
+            members = json.loads(text)
+            if members["event"] != "started":
+                lines.append(read(Place(at, number), text.encode()))
+            elif members["side"] == "broker":
+                settings[members["process"]] = settings_in(text.encode())
+    return story(INSTANCE, lines, settings)
+
+
+def short(text: str) -> str:
+    return text.replace(f"{INSTANCE}/{BINDING}", "B").replace(INSTANCE, "I")
+
+
+def events_of(found: Story) -> list[str]:
+    """The events behind the orders."""
+    return [short(it.text) for it in found.events if not it.text.startswith(("instance ", "binding "))]
+
+
+ASKED = "P claim wanted/1/provision; P send r1 provision 1; B arrive 1 r1 provision; "
+PENDING = ASKED + "B change 1 pending-provision; "
+MADE = "create I; arrive I 1; work I part; work I whole; end I done; take I 0"
+BINDING_MADE = f"{MADE}; create B; arrive B 1; work B part; issue B 1; end B done; take B 0"
+# An asynchronous plan: the instance is being made, and a Poll is out.
+MAKING = (
+    PENDING
+    + """B change 1 making; B answer 1 202; P hear r1 202; P take 1 polling/1; P claim polling/2/poll
+         P send r2 poll 2; """
+)
+BEGUN = "create I; arrive I 1; end I done; take I 0; send I"
+POLLED = "create I; arrive I 1; take I 0; send I; "
+WAITING = ASKED + "B change 1 waiting; B answer 1 202; "
+BIND = CREATED + "P claim wanted/1/provision of binding; P send b1 provision 1 of binding; "
+ASYNC_BIND = (
+    BIND
+    + """B arrive 2 b1 provision of binding; B change 2 pending-provision of binding; B change 2 making of binding
+         B answer 2 202 of binding; P hear b1 202 of binding; P take 1 polling/1 of binding
+         P claim polling/2/poll of binding; P send b2 poll 2 of binding; B create @c1 of binding
+         B look whole of binding; B change 0 ready @c1 of binding; B arrive 3 b2 poll of binding
+         B answer 3 200 succeeded of binding
+         P hear b2 200 succeeded of binding; P send b3 fetch of binding; """
+)
+ASYNC_BOUND = (
+    f"{MADE}; create B; arrive B 1; end B done; take B 0; send B; work B part; issue B 1; finish B ok; arrive B 2"
+)
+
+
+class Rule(NamedTuple):
+    """A story, the events that it is, and how brokers work."""
+
+    story: str
+    events: str
+    plan: str = "sync"
+    first_poll: bool = False
+    stop: Optional[str] = None
+    binding: str = "sync"
+    retrievable: bool = True
+
+
+RULES = {
+    "creation": Rule(CREATED, MADE),
+    "removal": Rule(REMOVED, f"{MADE}; remove I; send I; arrive I 2; work I part; work I absent; end I done; take I 1"),
+    "binding": Rule(BOUND, BINDING_MADE),
+    "an operation": Rule(
+        MAKING + "B create; B look whole; B change 0 ready; B arrive 2 r2 poll; B answer 2 200 succeeded",
+        f"{BEGUN}; work I part; work I whole; finish I ok; arrive I 2",
+        "async",
+    ),
+    "an operation that fails": Rule(MAKING + "B change 0 failed", f"{BEGUN}; finish I fail", "async"),
+    "the first Poll": Rule(
+        WAITING + "P hear r1 202; P take 1 polling/1; P claim polling/2/poll; P send r2 poll 2; B arrive 2 r2 poll; "
+        "B change 2 making; B answer 2 200 in-progress",
+        POLLED + "arrive I 2",
+        "async",
+        True,
+    ),
+    "no first Poll": Rule(WAITING + "B change 0 failed", "create I; arrive I 1; give-up-waiting I", "async", True),
+    "a deletion that overtakes": Rule(
+        "P claim wanted/1/provision; P send r1 provision 1; P lose r1; P take 1 cleaning/1; "
+        "P claim cleaning/2/deprovision; P send r2 deprovision 2; B arrive 1 r2 deprovision; B change 1 tombstone; "
+        "B answer 1 410 other-error; P hear r2 410 other-error; P take 2 gone/2; "
+        "B arrive 2 r1 provision; B answer 2 409 other-error",
+        "create I; timeout I; send I; arrive I 2; take I 0; arrive I 1",
+    ),
+    "a request while work is pending": Rule(
+        PENDING + "P lose r1; P take 1 cleaning/1; P claim cleaning/2/deprovision; P send r2 deprovision 2; "
+        "B arrive 2 r2 deprovision; B answer 2 422 concurrency-error",
+        "create I; arrive I 1; timeout I; send I; arrive I 2",
+    ),
+    "a request that repeats": Rule(CREATED + "B arrive 2 r1 provision; B answer 2 200", f"{MADE}; arrive I 1"),
+    "a broker that is killed": Rule(
+        PENDING + "B begin create; B2 look absent; B2 create; B2 change 0 ready",
+        "create I; arrive I 1; work I part; work I absent; work I part; work I whole; crash I broker; end I done",
+    ),
+    "work that another process does": Rule(
+        PENDING + "B2 create; B2 change 0 ready; B answer 1 200",
+        "create I; arrive I 1; work I part; work I whole; end I done; arrive I 1",
+    ),
+    "an unknown outcome": Rule(
+        PENDING + "B begin create; B answer 1 500 other-error; B create; B change 0 ready",
+        "create I; arrive I 1; work I part; end I unknown; work I part; work I whole; end I done",
+    ),
+    "an answer 503 while work is pending": Rule(
+        PENDING + "B answer 1 503 other-error", "create I; arrive I 1; crash I broker"
+    ),
+    "a refusal": Rule(
+        PENDING
+        + "B begin create; B end create rejected; B look absent; B change 1 tombstone; B answer 1 422 other-error",
+        "create I; arrive I 1; work I part; work I absent; end I refused-422",
+    ),
+    "a creation that fails": Rule(
+        PENDING + "B begin create; B end create failed; B look absent; B change 1 -; B answer 1 500 other-error",
+        "create I; arrive I 1; work I part; work I absent; end I before",
+    ),
+    "an answer 5xx without anything": Rule(
+        ASKED + "B answer 1 503 other-error; P hear r1 503 other-error; P take 1 cleaning/1",
+        "create I; gateway I 503",
+    ),
+    "a garbled answer": Rule(
+        CREATED.replace("P hear r1 201; P take 1 ready/1", "P hear r1 201 malformed; P take 1 cleaning/1"),
+        MADE.replace("take I 0", "garble I 0"),
+    ),
+    "a gateway's answer": Rule(
+        "P claim wanted/1/provision; P send r1 provision 1; P hear r1 502 malformed; P take 1 cleaning/1; "
+        "B arrive 1 r1 provision; B answer 1 500 other-error",
+        "create I; gateway I 502",
+    ),
+    "a gateway's answer that says nothing": Rule(
+        REMOVED.replace("P hear r2 200; P take 2 gone/2", "P hear r2 404 malformed; P take 2 cleaning/2"),
+        f"{MADE}; remove I; send I; arrive I 2; work I part; work I absent; end I done; timeout I",
+    ),
+    "a platform that is killed": Rule(
+        PENDING + "P2 claim cleaning/2/deprovision", "create I; arrive I 1; crash I platform; timeout I; send I"
+    ),
+    "polling that takes too long": Rule(
+        MAKING + "P lose r2; P take 2 polling/2; P claim cleaning/3/deprovision",
+        f"{BEGUN}; timeout I; expire I; send I",
+        "async",
+    ),
+    "a change that was undone": Rule(
+        PENDING + "B create; B change 1 ready !undone; B answer 1 500 other-error; "
+        "B change 0 ready from pending-provision",
+        "create I; arrive I 1; work I part; work I whole; end I unknown; end I done",
+    ),
+    "a doubtful change that the next one shows": Rule(
+        PENDING + "B create; B change 1 ready !doubtful; B answer 1 503 other-error; "
+        "P hear r1 503 other-error; P take 1 cleaning/1; P claim cleaning/2/deprovision; P send r2 deprovision 2; "
+        "B arrive 2 r2 deprovision; B change 2 ready+deprovision",
+        "create I; arrive I 1; work I part; work I whole; end I done; gateway I 503; send I; arrive I 2",
+    ),
+    "a doubtful change that the next one doesn't show": Rule(
+        PENDING + "B create; B change 1 ready !doubtful; B answer 1 503 other-error; "
+        "B2 look whole; B2 change 0 ready from pending-provision",
+        "create I; arrive I 1; work I part; work I whole; crash I broker; end I done",
+    ),
+    "a doubtful change after another process has gone on": Rule(
+        "P claim wanted/1/provision; P send r1 provision 1; P2 claim cleaning/2/deprovision; "
+        "P take 1 cleaning/1 from wanted/1/provision !doubtful; P2 lose r2; "
+        "P2 take 2 cleaning/2 from cleaning/2/deprovision; B arrive 9 x poll",
+        "create I; crash I platform; timeout I; send I; timeout I",
+    ),
+    "a doubtful change that is the last one": Rule(
+        PENDING + "B create; B change 1 ready !doubtful",
+        "create I; arrive I 1; work I part; work I whole",
+    ),
+    "a doubtful change that a request has seen": Rule(
+        PENDING + "B create; B change 1 ready !doubtful; B answer 1 503 other-error; "
+        "B arrive 2 r1 provision; B answer 2 200 saw=ready",
+        "create I; arrive I 1; work I part; work I whole; end I done; arrive I 1",
+    ),
+    "a kill before a commit": Rule(
+        PENDING + "B create; B change 1 ready; B2 look whole; B2 change 0 ready from pending-provision",
+        "create I; arrive I 1; work I part; work I whole; crash I broker; end I done",
+    ),
+    "a kill before a commit, once another request has arrived": Rule(
+        PENDING + "B create; B change 1 ready; P lose r1; P take 1 cleaning/1; P claim cleaning/2/deprovision; "
+        "P send r2 deprovision 2; B arrive 2 r2 deprovision; B2 look whole; B2 change 0 ready from pending-provision",
+        "create I; arrive I 1; work I part; work I whole; timeout I; send I; crash I broker; end I done",
+    ),
+    "a kill after a commit": Rule(
+        PENDING + "B create; B change 1 ready; P lose r1; P take 1 cleaning/1; P claim cleaning/2/deprovision; "
+        "P send r2 deprovision 2; B2 arrive 1 r2 deprovision; B2 change 1 ready+deprovision",
+        "create I; arrive I 1; work I part; work I whole; end I done; timeout I; send I; arrive I 2",
+    ),
+    "a change that a request hasn't seen": Rule(
+        MAKING + "B create; B look whole; B change 0 ready; B arrive 2 r2 poll; B answer 2 200 in-progress saw=making; "
+        "P hear r2 200 in-progress; P take 2 polling/2; P claim polling/3/poll; P send r3 poll 3; B arrive 3 r3 poll; "
+        "B answer 3 200 succeeded saw=ready",
+        f"{BEGUN}; work I part; work I whole; arrive I 2; finish I ok; take I 1; send I; arrive I 3",
+        "async",
+    ),
+    "a change while a request waits": Rule(
+        MAKING + "B arrive 2 r2 poll; B create; B look whole; B change 0 ready; B answer 2 200 succeeded saw=ready",
+        f"{BEGUN}; work I part; work I whole; finish I ok; arrive I 2",
+        "async",
+    ),
+    "a request between two changes": Rule(
+        MAKING + "B arrive 2 r2 poll; B create; B look whole; B change 0 ready; P lose r2; P take 2 polling/2; "
+        "P claim cleaning/3/deprovision; P send r3 deprovision 3; B arrive 3 r3 deprovision; "
+        "B change 3 ready+deprovision; B answer 2 200 succeeded saw=ready",
+        f"{BEGUN}; work I part; work I whole; finish I ok; arrive I 2; timeout I; expire I; send I; arrive I 3",
+        "async",
+    ),
+    "a Bind that is put off": Rule(
+        BIND + "P claim cleaning/2/deprovision; P send r2 deprovision 2; B arrive 2 r2 deprovision; "
+        "B change 2 ready+deprovision; B arrive 3 b1 provision of binding; B answer 3 503 other-error of binding",
+        f"{MADE}; create B; remove I; send I; arrive I 2; arrive B 1",
+    ),
+    "a deletion that is put off": Rule(
+        BOUND + "P command cleaning/1; P claim cleaning/2/deprovision; P send r2 deprovision 2; "
+        "B arrive 3 r2 deprovision; B answer 3 422 concurrency-error",
+        f"{MADE}; create B; arrive B 1; work B part; issue B 1; end B done; take B 0; remove I; send I; arrive I 2",
+    ),
+    "credentials that are fetched": Rule(
+        ASYNC_BIND + "B arrive 4 b3 fetch of binding; B answer 4 200 of binding; P hear b3 200 @c1 of binding; "
+        "P take 2 ready/2 @c1 of binding",
+        f"{ASYNC_BOUND}; fetch B; take-fetched B 1 0",
+        binding="async",
+    ),
+    "credentials that aren't fetched": Rule(
+        ASYNC_BIND + "P lose b3 of binding; P take 2 polling/2 of binding",
+        f"{ASYNC_BOUND}; timeout B",
+        binding="async",
+    ),
+    "credentials that are lost on the way": Rule(
+        ASYNC_BIND + "B arrive 4 b3 fetch of binding; B answer 4 200 of binding; P lose b3 of binding; "
+        "P take 2 polling/2 of binding",
+        f"{ASYNC_BOUND}; fetch B; timeout B",
+        binding="async",
+    ),
+    "credentials that another process reads": Rule(
+        BIND
+        + "B arrive 2 b1 provision of binding; B change 2 pending-provision of binding; B begin create of binding; "
+        "B2 look whole of binding; B2 credentials @c1 of binding; B2 change 0 ready @c1 of binding",
+        f"{MADE}; create B; arrive B 1; work B part; work B whole; issue B 1; crash B broker; end B done",
+    ),
+    "a Fetch that finds nothing": Rule(
+        CREATED + "B arrive 2 x fetch of binding; B answer 2 404 other-error of binding", MADE
+    ),
+    "a 201 without credentials": Rule(
+        BOUND.replace("P take 1 ready/1 @c1 of", "P take 1 cleaning/1 of"),
+        f"{MADE}; create B; arrive B 1; work B part; issue B 1; end B done; timeout B",
+    ),
+    "a binding whose deletion fails": Rule(
+        BOUND
+        + """P command cleaning/1 of binding; P claim cleaning/2/deprovision of binding
+                   P send b2 deprovision 2 of binding; B arrive 3 b2 deprovision of binding
+                   B change 3 ready+deprovision @c1 of binding; B look whole of binding; B begin delete of binding
+                   B end delete failed of binding; B look whole of binding; B change 3 ready @c1 of binding
+                   B answer 3 500 other-error of binding""",
+        f"{MADE}; create B; arrive B 1; work B part; issue B 1; end B done; take B 0; remove B; send B; arrive B 2; "
+        "work B part; issue B 1; end B before",
+    ),
+    "a command without a journal": Rule(
+        MAKING + "P2 command cleaning/2 from polling/2; P claim cleaning/3/deprovision",
+        f"{BEGUN}; crash I platform; timeout I; expire I; send I",
+        "async",
+    ),
+    "the last deletion": Rule(
+        REMOVED + "P send r3 deprovision 0; B arrive 3 r3 deprovision; B answer 3 410 other-error",
+        f"{MADE}; remove I; send I; arrive I 2; work I part; work I absent; end I done; take I 1",
+    ),
+    "another client's question": Rule(CREATED + "B arrive 2 x poll; B answer 2 200 succeeded", MADE),
+    "another client's creation with other parameters": Rule(
+        CREATED + "B arrive 2 x provision attributes=5; B answer 2 409 other-error", MADE
+    ),
+    "a Bind with other parameters": Rule(
+        BOUND + "B arrive 3 x provision attributes=5 of binding; B answer 3 409 other-error of binding", BINDING_MADE
+    ),
+    "a creation with other parameters while work is pending": Rule(
+        PENDING + "B arrive 2 x provision attributes=5; B answer 2 409 other-error; B arrive 3 x provision; "
+        "B answer 3 503 other-error",
+        "create I; arrive I 1",
+    ),
+    "a creation of another plan": Rule(CREATED + "B arrive 2 x provision plan=async; B answer 2 409 other-error", MADE),
+    "a creation that is late, with other parameters": Rule(
+        REMOVED + "B arrive 3 x provision attributes=5; B answer 3 409 other-error",
+        f"{MADE}; remove I; send I; arrive I 2; work I part; work I absent; end I done; take I 1",
+    ),
+    "a copy of a request with other parameters": Rule(
+        CREATED + "B arrive 2 r1 provision attributes=5; B answer 2 409 other-error", MADE
+    ),
+    "attributes": Rule(
+        ASKED.replace("arrive 1 r1 provision", "arrive 1 r1 provision attributes=5")
+        + "B change 1 pending-provision attributes=5; B create; B look whole; B change 1 ready attributes=5; "
+        "B answer 1 201; P hear r1 201; P take 1 ready/1; P claim cleaning/2/deprovision; P send r2 deprovision 2; "
+        "B arrive 2 r2 deprovision; B change 2 ready+deprovision attributes=5; B delete; B look absent; "
+        "B change 2 tombstone; B answer 2 200; P hear r2 200; P take 2 gone/2",
+        f"{MADE}; remove I; send I; arrive I 2; work I part; work I absent; end I done; take I 1",
+    ),
+    "an order with other attributes than before, after a creation that failed": Rule(
+        PENDING
+        + "B begin create; B end create failed; B look absent; B change 1 -; B answer 1 500 other-error; "
+        + "B arrive 2 x provision attributes=5; B answer 2 503 other-error",
+        "create I; arrive I 1; work I part; work I absent; end I before",
+    ),
+}
+
+
+@pytest.mark.parametrize("name", RULES)
+def test_rule(name: str) -> None:
+    rule = RULES[name]
+    of_broker = started(rule.first_poll, rule.binding, rule.retrievable)
+    found = story_of(Journal(rule.plan, of_broker=of_broker).tell(rule.story))
+    assert events_of(found) == rule.events.split("; ")
+    assert (found.stop, found.disagreements) == (None, [])
+
+
+def test_requests_without_a_record() -> None:
+    """A request that no record has isn't one of another client, if a journal has it."""
+    asks = "B arrive 2 x poll; B answer 2 200 succeeded; P send r3 poll 0; B arrive 3 r3 poll; B answer 3 200 succeeded"
+    found = story_of(Journal().tell(CREATED + asks))
+    assert (found.stop, found.notes) == (None, {FOREIGN: 1, UNRECORDED: 1})
+
+
+def test_creations_with_other_attributes() -> None:
+    """A copy of a request with other attributes isn't the platform's request."""
+    asks = "B arrive 2 x provision attributes=5; B answer 2 409 other-error; B arrive 3 r1 provision attributes=6; "
+    found = story_of(Journal().tell(f"{CREATED}; {asks}; B answer 3 409 other-error"))
+    assert (found.stop, found.notes) == (None, {FOREIGN: 1, ALTERED: 1})
+
+
+def test_another_plan_after_the_first_poll() -> None:
+    asks = "P hear r1 202; P take 1 polling/1; P claim polling/2/poll; P send r2 poll 2; B arrive 2 r2 poll; "
+    journal = Journal("async", of_broker=started(True)).tell(f"{WAITING}; {asks}; B change 2 making plan=sync")
+    stop = story_of(journal).stop
+    assert stop is not None and stop.is_difference and stop.journal == f"plan {PLANS['sync']}", stop
+
+
+@pytest.mark.parametrize("request_id", ["x", "r1"])
+def test_an_older_journal(request_id: str) -> None:
+    """Without attributes in the arrivals, a conflict isn't judged, and all else is."""
+    story = CREATED.replace("arrive 1 r1 provision", "arrive 1 r1 provision attributes=-")
+    asks = f"B arrive 2 {request_id} provision attributes=-; "
+    found = story_of(Journal().tell(f"{story}; {asks}; B answer 2 409 other-error"))
+    assert (found.stop, found.notes, events_of(found)) == (None, {UNCOMPARED: 1}, MADE.split("; "))
+    found = story_of(Journal().tell(f"{story}; {asks}; B answer 2 200"))
+    assert found.stop is None and UNCOMPARED not in found.notes
+    found = story_of(Journal().tell(f"{story}; B arrive 2 x provision attributes=-; B answer 2 410 other-error"))
+    assert found.stop is not None and (found.stop.is_difference, found.stop.model) == (True, "200")
+
+
+@pytest.mark.parametrize(
+    ("first_poll", "binding", "retrievable", "wanted"),
+    [
+        (True, "async", True, ("async yes first-poll both", "async yes first-poll fetch")),
+        (False, "none", False, ("async yes at-once both", "none yes at-once no-fetch")),
+    ],
+)
+def test_orders(first_poll: bool, binding: str, retrievable: bool, wanted: tuple[str, str]) -> None:
+    """An instance and a binding are taken in as the broker's plans and rules have them."""
+    telling = "P claim wanted/1/provision; P send r1 provision 1; P claim wanted/1/provision of binding"
+    found = story_of(
+        Journal("async", of_broker=started(first_poll, binding, retrievable)).tell(f"{telling}; B arrive 9 x poll")
+    )
+    orders = [short(it.text) for it in found.events if it.text.startswith(("instance", "binding"))]
+    assert orders == [f"instance I {SERVICE} {PLANS['async']} {wanted[0]}", f"binding B {wanted[1]}"]
+
+
+# What can't be judged, and how many events come before it.
+UNJUDGED = {
+    "of another client": (
+        CREATED + "B arrive 2 x deprovision; B change 2 ready+deprovision",
+        "no journal of a platform",
+        7,
+    ),
+    "of a last deletion": (
+        CREATED + "P send r3 deprovision 0; B arrive 3 r3 deprovision; B change 3 ready+deprovision",
+        "no record has",
+        7,
+    ),
+    "begun before, at the broker": ("B arrive 1 r1 poll; B change 1 making from waiting", "begins in the middle", 0),
+    "begun before, at the platform": (
+        "B arrive 1 x poll; P claim cleaning/2 from cleaning/1",
+        "begins in the middle",
+        0,
+    ),
+    "an answer of nobody": (
+        "B arrive 9 x poll; P claim wanted/1/provision; P send r1 provision 1; P hear r1 400 other-error; "
+        "P take 1 gone/1",
+        "no journal of a broker has",
+        2,
+    ),
+    "an id that returns": (REMOVED + "B arrive 3 r9 provision; B change 3 pending-provision !returned", "returned", 14),
+    "a failed binding that the broker deletes": (
+        BIND + "B arrive 2 b1 provision of binding; B change 2 waiting of binding; B answer 2 202 of binding; "
+        "B change 0 failed of binding; B arrive 3 x deprovision; B change 3 failed+deprovision of binding",
+        "has deleted a binding by itself",
+        11,
+    ),
+    "an abandoned binding": (
+        BOUND + "P abandon ready/1 of binding; P claim cleaning/2/deprovision",
+        "an operator has abandoned",
+        14,
+    ),
+    "a conflict of an older journal that the platform takes": (
+        PENDING.replace("arrive 1 r1 provision", "arrive 1 r1 provision attributes=-")
+        + "B create; B look whole; B change 1 ready; B arrive 2 r1 provision attributes=-; B answer 2 409 other-error; "
+        "P hear r1 409 other-error; P take 1 unsettled/1",
+        "took a 409 that isn't judged",
+        6,
+    ),
+    "no broker": ("P claim wanted/1/provision", "no journal of a broker was given", 0),
+    "no arrival": (ASKED + "B answer 7 201", "whose line `arrived` isn't there", 2),
+}
+
+
+@pytest.mark.parametrize("name", UNJUDGED)
+def test_unjudged(name: str) -> None:
+    telling, why, events = UNJUDGED[name]
+    found = story_of(Journal().tell(telling))
+    assert found.stop is not None and not found.stop.is_difference
+    assert why in found.stop.why and len(found.events) == events

@@ -1,0 +1,147 @@
+"""osb-audit finds a slip in the real osb-broker: each is planted into a copy of its source, and a platform has one
+instance created. The audit has to name the first line of the journal that is wrong.
+"""
+
+from __future__ import annotations
+
+import json
+import subprocess
+from pathlib import Path
+from typing import Any, NamedTuple, Optional
+
+import pytest
+from audit.conftest import TOP, Audit
+from audit.running import ENVIRONMENT, Platform, address, serving
+from building import SHIPPED, building
+
+pytestmark = pytest.mark.slow
+
+SOURCE = TOP / "go" / "broker" / "service.go"
+"""It has the order of writes."""
+BUILT = TOP / "out" / "gopath" / "src" / "pippinterm" / "broker" / "service.go"
+"""The same file, under the name by which scripts/go builds it."""
+
+
+class Slip(NamedTuple):
+    """What stands in the source, what is planted in its place, and the difference that has to be found: the members of
+    the wrong line, and parts of the report.
+    """
+
+    right: str
+    wrong: str
+    line: dict[str, Any]
+    event: str
+    why: str
+    model: str
+    journal: str
+
+
+END = "\treturn s.end(ctx, key, fence, work, done)\n"
+BEGIN = "\t\tnext, given, err = s.begin(held, asked)\n"
+SLIPS = {
+    "an answer before the commit": Slip(
+        END,
+        """
+        time.AfterFunc(time.Hour, func() { _, _ = s.end(ctx, key, fence, work, done) })
+        _, answer, err := due.entry.Holding.End(mode, done.outcome)
+        return Answered{Answer: answer}, err
+        """,
+        {"event": "answered", "status": 201},
+        "",
+        "it is answered while its work is pending",
+        "no answer yet",
+        "201",
+    ),
+    "work before the commit": Slip(
+        BEGIN,
+        BEGIN
+        + """
+        if err == nil && given.work != osb.WorkNone {
+            early, _ := given.pending.requestOf(asked.Key)
+            _, err = s.worker.do(ctx, given.work, early)
+        }
+        """,
+        {"event": "work", "call": "create", "stage": "begun"},
+        "work I part",
+        "the event can't happen here: the model skips it",
+        "step skipped",
+        "step applied",
+    ),
+    "other attributes than the request's": Slip(
+        BEGIN,
+        "\t\tasked.Attributes[0] = 5\n" + BEGIN,
+        {"event": "changed", "before": ""},
+        "",
+        "what is held has another service, plan or attributes than the request that began it",
+        f"attributes {'0' * 64}",
+        f"attributes 05{'0' * 62}",
+    ),
+    "end twice": Slip(
+        END,
+        """
+        if answered, err = s.end(ctx, key, fence, work, done); err != nil {
+            return answered, err
+        }
+        return answered, s.change(ctx, key, fence, func(Held) (*Entry, error) {
+            due.entry.Holding, _, err = due.entry.Holding.End(mode, osb.OutcomeBefore)
+            return &due.entry, err
+        })
+        """,
+        {"event": "changed", "after": ""},
+        "arrive I 1",
+        "after the event, the model has something else than the journal",
+        "phase ready, answer 200",
+        "phase none, answer 201",
+    ),
+}
+
+
+def built(slip: Slip, folder: Path) -> Path:
+    """osb-broker with this slip."""
+    source = SOURCE.read_text()
+    assert source.count(slip.right) == 1, f"{SOURCE} has changed: plant the slip at another place"
+    (folder / "service.go").write_text(source.replace(slip.right, slip.wrong))
+    (folder / "overlay").write_text(json.dumps({"Replace": {str(BUILT): str(folder / "service.go")}}))
+    words = "-trimpath", "-ldflags=-w", "-tags", SHIPPED, "-overlay", str(folder / "overlay")
+    line = [str(TOP / "scripts" / "go"), "build", *words, "-o", str(folder / "osb-broker"), "./cmd/osb-broker"]
+    with building():
+        ran = subprocess.run(line, stdin=subprocess.DEVNULL, capture_output=True, text=True)
+    assert ran.returncode == 0, ran.stderr
+    return folder / "osb-broker"
+
+
+@pytest.mark.long(20)
+def test_planted_in_storm(audit: Audit, storm: Path, tmp_path: Path) -> None:
+    """The journals of `osb-storm broker` show a slip by which nothing is lost unless the broker is killed."""
+    at, slip = address(), SLIPS["work before the commit"]
+    with serving(built(slip, tmp_path), tmp_path, at):
+        words = "--url", f"http://{at}", "--journal", str(tmp_path / "journals"), "--instances", "6", "--seconds", "2"
+        line = [str(storm), "broker", *words, "--request-seconds", "0.4", "--late-seconds", "0.8", "--seed", "1"]
+        done = subprocess.run(line, env=ENVIRONMENT, stdin=subprocess.DEVNULL, capture_output=True, text=True)
+    assert done.returncode == 0, done.stdout + done.stderr
+    ran = audit(tmp_path / "journals", tmp_path / "journals" / "platform")
+    assert ran.status == 1, ran
+    found = [(it["event"].replace(it["instance"], "I"), it["why"]) for it in ran.report["differences"]]
+    assert len(found) > 1 and set(found) == {(slip.event, slip.why)}, ran
+
+
+@pytest.mark.long(10)
+@pytest.mark.parametrize("name", [None, *SLIPS])
+def test_planted(audit: Audit, broker: Path, platform: Path, tmp_path: Path, name: Optional[str]) -> None:
+    slip = SLIPS[name] if name else None
+    at = address()
+    with serving(built(slip, tmp_path) if slip else broker, tmp_path, at):
+        it = Platform(platform, tmp_path, at)
+        it.once()  # it asks for the catalogue
+        assert it.create() == 0
+        it.once()
+    ran = audit(tmp_path / "journals")
+    if slip is None:
+        assert (ran.status, ran.report["instances"], ran.report["unjudged"], ran.err) == (0, 1, [], ""), ran
+        return
+    assert (ran.status, len(ran.report["differences"]), ran.err) == (1, 1, ""), ran
+    found = ran.report["differences"][0]
+    line = json.loads(Path(found["file"]).read_text().splitlines()[found["line"] - 1])
+    assert line["side"] == "broker" and {it: line[it] for it in slip.line} == slip.line, line
+    event = found["event"].replace(found["instance"], "I")
+    assert (event, found["why"], found["model"], found["journal"]) == slip[3:], found

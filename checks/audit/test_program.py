@@ -1,0 +1,357 @@
+"""osb-audit as a program: its reports, files of all kinds, what can't be used or judged, and large journals."""
+
+from __future__ import annotations
+
+import gzip
+import json
+import os
+import re
+import subprocess
+import time
+from collections.abc import Callable
+from pathlib import Path
+
+import pytest
+from audit.conftest import TOP, Audit, Ran
+from audit.journals import BOUND, CREATED, INSTANCE, REMOVED, Journal
+
+from bench.journals import write
+
+pytestmark = pytest.mark.slow
+
+OTHER = "00000000-0000-0000-0000-000000000002"
+TEXT = ("--jobs", "1")
+STRETCH = 1 << 16
+"""The least that a worker reads at once."""
+
+
+def journals_in(folder: Path, story: str, instance: str = INSTANCE) -> list[Path]:
+    folder.mkdir(exist_ok=True)
+    return Journal(instance=instance).tell(story).files(folder)
+
+
+# ---- reports
+
+
+def test_no_difference(audit: Audit) -> None:
+    assert audit(Journal().tell(BOUND), options=TEXT) == Ran(0, "1 instance, 14 events, 0 differences\n", "")
+
+
+def test_report(audit: Audit, tmp_path: Path) -> None:
+    broker, platform = journals_in(tmp_path, CREATED.replace("B answer 1 201", "B answer 1 200"))[::-1]
+    ran = audit(broker, platform, options=TEXT)
+    head = "line event step state out attempt phase work tombstone resource recorded credentials given answer"
+    trace = [
+        "1	instance I S P sync yes at-once both	applied	none	-	-	none	-	-	absent	-	-	0	-",
+        "2	create I	applied	wanted	provision	1	none	-	-	absent	-	-	0	-",
+        "3	arrive I 1	applied	wanted	provision	1	none	provision	-	absent	-	-	0	-",
+        "4	work I part	applied	wanted	provision	1	none	provision	-	part	-	-	0	-",
+        "5	work I whole	applied	wanted	provision	1	none	provision	-	whole	-	-	0	-",
+        "6	end I done	applied	wanted	provision	1	ready	-	-	whole	-	-	1	201",
+    ]
+    ids = {"I": INSTANCE, "S": INSTANCE[:-2] + "a0", "P": INSTANCE[:-2] + "b1"}
+    wanted = [
+        f"Difference: instance {INSTANCE}",
+        f"  {broker}, line 10",
+        "  after the event, the model has something else than the journal",
+        f"  event    end {INSTANCE} done",
+        "  model    answer 201",
+        "  journal  answer 200",
+        "  The trace up to there:",
+        head.replace(" ", "\t"),
+        *(
+            "\t".join(" ".join(ids.get(it, it) for it in part.split(" ")) for part in line.split("\t"))
+            for line in trace
+        ),
+        "",
+        "1 instance, 7 events, 1 difference",
+    ]
+    assert ran == Ran(1, "".join(f"{line}\n" for line in wanted), "")
+
+
+def test_launcher_and_help(replay: Path, tmp_path: Path) -> None:
+    journals_in(tmp_path / "journals", REMOVED)
+    ran = subprocess.run([TOP / "osb-audit", "journals"], cwd=tmp_path, capture_output=True, text=True)
+    assert (ran.returncode, ran.stdout, ran.stderr) == (0, "1 instance, 14 events, 0 differences\n", "")
+    ran = subprocess.run([TOP / "osb-audit", "--help"], capture_output=True, text=True)
+    assert (ran.returncode, ran.stderr) == (0, "") and ran.stdout.startswith("usage: osb-audit [-h] [--json]")
+
+
+# ---- files
+
+
+def test_folders_and_rotated_and_compressed_files(audit: Audit, tmp_path: Path) -> None:
+    """A file that a program went on with begins with the line `started`, too."""
+    broker, platform = sorted(journals_in(tmp_path / "journals", REMOVED))
+    lines = broker.read_text().splitlines(keepends=True)
+    broker.write_text("".join(lines[:9]))
+    Path(f"{broker}.1").write_text("".join([lines[0], *lines[9:]]))
+    with gzip.open(f"{platform}.gz", "wt") as file:
+        file.write(platform.read_text())
+    platform.unlink()
+    (tmp_path / "journals" / "notes.txt").write_text("no journal\n")
+    assert audit(tmp_path / "journals", options=TEXT) == Ran(0, "1 instance, 14 events, 0 differences\n", "")
+
+
+@pytest.mark.parametrize("jobs", ["1", "3"])
+def test_large_journals(audit: Audit, tmp_path: Path, jobs: str) -> None:
+    """Journals of many stretches and buckets; one answer in them is wrong."""
+    folder = tmp_path / "large"
+    lines = write(folder, 60_000)
+    broker = folder / "B.jsonl"
+    texts = broker.read_text().splitlines(keepends=True)
+    wrong = max(at for at, text in enumerate(texts[:30_000]) if '"status":409' in text)
+    texts[wrong] = texts[wrong].replace('"status":409', '"status":410')
+    broker.write_text("".join(texts))
+    ran = audit(folder, options=("--json", "--jobs", jobs))
+    assert ran.status == 1 and ran.err == ""
+    assert [(it["file"], it["line"]) for it in ran.report["differences"]] == [(str(broker), wrong + 1)]
+    assert ran.report["differences"][0]["instance"] == json.loads(texts[wrong])["instance"]
+    assert lines == 60_000 and ran.report["instances"] == 2400 and ran.report["events"] == 29_400
+
+
+def test_a_line_that_was_cut_off(audit: Audit, tmp_path: Path) -> None:
+    """The end of a file may be half a line, and the process that goes on with the file begins with `started`."""
+    broker, platform = sorted(journals_in(tmp_path, CREATED))
+    torn = b'{"time":1800000000000000,"process":"00000000'
+    whole = broker.read_bytes()
+    broker.write_bytes(whole + torn)
+    told = f"{broker}:12: the line was cut off\n1 instance, 7 events, 0 differences\n"
+    assert audit(broker, platform, options=TEXT) == Ran(0, told, "")
+    broker.write_bytes(whole + torn + b"\n" + whole.split(b"\n")[0] + b"\n")
+    assert audit(broker, platform, options=TEXT) == Ran(0, told, "")
+    broker.write_bytes(whole + torn + b"\n" + whole.split(b"\n")[1] + b"\n")
+    ran = audit(broker, platform, options=TEXT)
+    assert ran == Ran(2, "", f"osb-audit: {broker}: line 13: the line before it is no line of a journal\n")
+
+
+@pytest.mark.parametrize(("event", "status"), [("started", 0), ("lost", 0), ("stopped", 2)])
+def test_a_line_that_was_cut_off_between_stretches(audit: Audit, tmp_path: Path, event: str, status: int) -> None:
+    """Each stretch of a file is read by itself: one ends with half a line, and the next begins with this event."""
+    broker, platform = sorted(journals_in(tmp_path, CREATED))
+    whole = broker.read_bytes()
+    head = whole.split(b"\n")[0] + b"\n"
+    torn = b'{"time":' + b"1" * len(head)
+    front = whole + head * ((STRETCH - len(whole) - 1) // len(head))
+    assert len(front) < STRETCH < len(front) + len(torn)
+    following = re.sub(rb'"event":"started"', b'"event":"%s"' % event.encode(), head)
+    broker.write_bytes(front + torn + b"\n" + following + head)
+    ran = audit(broker, platform, options=TEXT)
+    line = front.count(b"\n") + 1
+    if status == 0:
+        assert ran.status == 0 and f"{broker}:{line}: the line was cut off\n" in ran.out
+    else:
+        assert ran == Ran(2, "", f"osb-audit: {broker}: line {line}: it is no line of a journal\n")
+
+
+def test_room(audit: Audit, tmp_path: Path) -> None:
+    """The work directory is created in the folder of --room, and removed at the end, also if it can't be written."""
+    room = tmp_path / "room"
+    options = "--room", str(room)
+    broker, platform = journals_in(tmp_path, CREATED)
+    ran = audit(broker, platform, options=options)
+    assert ran == Ran(4, "", f"osb-audit: {room}: write failed: No such file or directory\n")
+    room.mkdir()
+    assert audit(broker, platform, options=options).status == 0 and list(room.iterdir()) == []
+    line = ["prlimit", "--fsize=0", str(TOP / "osb-audit"), *options, str(broker), str(platform)]
+    done = subprocess.run(line, stdin=subprocess.DEVNULL, capture_output=True, text=True)
+    assert (done.returncode, done.stdout) == (4, ""), done
+    assert re.fullmatch(f"osb-audit: {room}/osb-audit-\\w+: write failed: File too large\n", done.stderr), done
+    assert list(room.iterdir()) == []
+
+
+# ---- the form of a line
+
+
+def reversed_line(text: str) -> str:
+    return json.dumps(dict(reversed(json.loads(text).items())))
+
+
+FORMS: dict[str, Callable[[str], str]] = {
+    "spaces": lambda it: json.dumps(json.loads(it)),
+    "spaces behind the event": lambda it: it.replace(',"instance":', ', "instance" : '),
+    "another order": reversed_line,
+    "sorted": lambda it: json.dumps(json.loads(it), sort_keys=True, separators=(",", ":")),
+    "spaces around": lambda it: f" \t{it} \r",
+    "escapes": lambda it: it.replace('"instance":"0', r'"instance":"\u0030').replace('"side"', r'"\u0073ide"'),
+    "further members": lambda it: it.replace('{"time"', '{"host":"\u00e9","of":{"instance":"nobody"},"time"'),
+}
+
+
+@pytest.mark.parametrize("name", FORMS)
+def test_form_of_lines(audit: Audit, tmp_path: Path, name: str) -> None:
+    """A line may be any object of JSON with the members. What is reported is the same."""
+    paths = journals_in(tmp_path, BOUND.replace("B answer 1 201", "B answer 1 200"))
+    wanted = audit(*paths)
+    for it in paths:
+        lines = it.read_text().splitlines()
+        it.write_text("".join(f"{FORMS[name](line)}\n" for line in lines), newline="")
+        assert it.read_text().splitlines() != lines
+    assert audit(*paths) == wanted and wanted.status == 1 and wanted.report["differences"][0]["line"] == 10
+
+
+def test_a_line_in_another_form_that_was_cut_off(audit: Audit, tmp_path: Path) -> None:
+    broker, platform = sorted(journals_in(tmp_path, CREATED))
+    lines = [json.dumps(json.loads(it), sort_keys=True) for it in broker.read_text().splitlines()]
+    broker.write_text("".join(f"{it}\n" for it in lines) + lines[1][:40])
+    told = f"{broker}:12: the line was cut off\n1 instance, 7 events, 0 differences\n"
+    assert audit(broker, platform, options=TEXT) == Ran(0, told, "")
+
+
+# ---- what can't be used
+
+
+def bad(broker: Path, line: str) -> None:
+    lines = broker.read_text().splitlines(keepends=True)
+    broker.write_text("".join([*lines[:4], f"{line}\n", *lines[4:]]))
+
+
+HEAD = '{"time":1700000000005500,"process":"0000000000004201","side":"broker","event":'
+KEY = f'"instance":"{INSTANCE}"'
+BAD = {
+    "no journal": ("hello", "it is no line of a journal"),
+    "a log": ('{"level":"info","event":"answered"}', "it is no line of a journal"),
+    "a list": ("[1]", "it is no line of a journal"),
+    "a time that is no number": (
+        f'{{ "time":"1", "process":"0000000000004201", "side":"broker", "event":"arrived", {KEY}, "visit":1 }}',
+        "it is no line of a journal",
+    ),
+    "no instance in another form": (
+        '{ "side":"broker", "time":1700000000005500, "process":"0000000000004201", "event":"arrived", "visit":1 }',
+        "arrived names no instance",
+    ),
+    "too deep": ("[" * 100_000, "it is no line of a journal"),
+    "an object that is too deep": ('{"a":' * 5_000, "the line before it is no line of a journal"),
+    "a newer event": (
+        f'{HEAD}"updated",{KEY}}}',
+        "a broker has no event 'updated' here: it is of a newer version than this osb-audit",
+    ),
+    "no instance": (f'{HEAD}"arrived","visit":1}}', "arrived names no instance"),
+    "no JSON": (f'{HEAD}"answered",{KEY},"status":}}', "it is no object of JSON with the members of a line: "),
+    "a missing member": (f'{HEAD}"answered",{KEY},"visit":1,"status":200}}', "answered of a broker has no body"),
+    "no plans": (f'{HEAD}"started","plans":[{{"mode":"sync"}}]}}', "it is no line `started` of a broker: "),
+    "no mode": (
+        f'{HEAD}"started","plans":[{{"service_number":"a","plan_number":"b","mode":"slow"}}]}}',
+        "'slow' is no mode of a plan",
+    ),
+}
+
+
+@pytest.mark.parametrize("name", BAD)
+def test_unusable_line(audit: Audit, tmp_path: Path, name: str) -> None:
+    broker, platform = sorted(journals_in(tmp_path, CREATED))
+    bad(broker, BAD[name][0])
+    ran = audit(platform, broker, options=TEXT)
+    assert (ran.status, ran.out) == (2, "")
+    line = 6 if BAD[name][1].startswith("the line before it") else 5
+    assert ran.err.startswith(f"osb-audit: {broker}: line {line}: {BAD[name][1]}"), ran.err
+
+
+def test_unusable_files(audit: Audit, tmp_path: Path) -> None:
+    ran = audit(tmp_path / "missing", options=TEXT)
+    assert ran == Ran(2, "", f"osb-audit: {tmp_path}/missing: read failed: No such file or directory\n")
+    (tmp_path / "empty").mkdir()
+    why = "no file in it ends with .jsonl: name the folder of --journal"
+    assert audit(tmp_path / "empty", options=TEXT) == Ran(2, "", f"osb-audit: {tmp_path}/empty: {why}\n")
+    ran = audit("/dev/null", options=TEXT)
+    assert ran == Ran(2, "", "osb-audit: /dev/null: read failed: it isn't a file\n")
+
+
+@pytest.mark.parametrize("options", [["--jobs", "0"], ["--jobs"], ["--fast"], [], ["--unjudged", "100.5", "journals"]])
+def test_rejected_arguments(options: list[str]) -> None:
+    ran = subprocess.run([TOP / "osb-audit", *options], capture_output=True, text=True)
+    assert (ran.returncode, ran.stdout) == (2, "") and "\nosb-audit: error: " in ran.stderr
+
+
+# ---- what can't be judged
+
+
+def test_one_side_only(audit: Audit, tmp_path: Path) -> None:
+    broker, platform = sorted(journals_in(tmp_path, CREATED))
+    ran = audit(platform, options=TEXT)
+    why = "no journal of a broker was given"
+    assert ran.status == 2 and ran.err == "" and ran.out.endswith("1 instance, 0 events, 0 differences\n")
+    assert f"  1 instance, nothing of 1: {why}. The first is {INSTANCE}, from {platform}, line 2 on.\n" in ran.out
+    assert "There is no journal of a broker among these" in ran.out and "Nothing could be judged.\n" in ran.out
+    ran = audit(broker, options=TEXT)
+    assert ran.status == 2 and "a request has changed it that no journal of a platform has" in ran.out
+    assert "There is no journal of a platform among these" in ran.out
+
+
+def test_lost_lines(audit: Audit, tmp_path: Path) -> None:
+    """An instance is judged up to the time in which its lines may be missing, and one of another time to its end."""
+    one, other = Journal().tell(REMOVED), Journal(instance=OTHER, time=1_700_000_009_000_000).tell(CREATED)
+    one.lines["B"] += other.lines["B"][1:]
+    one.lines["P"] += other.lines["P"][1:]
+    broker, platform = sorted(one.files(tmp_path))
+    lines = broker.read_text().splitlines(keepends=True)
+    lost = json.loads(lines[11]) | {"event": "lost", "count": 3}
+    broker.write_text("".join([*lines[:12], json.dumps(lost, separators=(",", ":")) + "\n", *lines[15:]]))
+    ran = audit(broker, platform)
+    assert (ran.status, ran.err) == (0, "") and ran.report["lost"] == 3
+    assert [(it["instances"], it["whole"], it["first"]["instance"]) for it in ran.report["unjudged"]] == [
+        (1, 0, INSTANCE)
+    ]
+    assert "lines were lost" in ran.report["unjudged"][0]["why"]
+    assert (ran.report["instances"], ran.report["differences"]) == (2, [])
+
+
+@pytest.mark.parametrize(("allowed", "status"), [("100", 0), ("50", 0), ("49.9", 3), ("0", 3)])
+def test_too_many_unjudged(audit: Audit, tmp_path: Path, allowed: str, status: int) -> None:
+    """One of two instances isn't judged to its end."""
+    whole = journals_in(tmp_path / "one", CREATED, OTHER)
+    rest = journals_in(tmp_path / "other", f"{CREATED}; B arrive 2 x deprovision; B change 2 ready+deprovision")
+    ran = audit(*whole, *rest, options=("--unjudged", allowed))
+    told = f"Not judged to their end: 50 percent of the instances. --unjudged allows {allowed} percent.\n"
+    assert (ran.status, told in ran.out, ran.err) == (status, status == 3, ""), ran
+    assert ran.out.endswith("2 instances, 14 events, 0 differences\n")
+
+
+MOST = 99_000
+"""The events of an instance that are judged."""
+
+
+def test_an_instance_of_many_events(audit: Audit) -> None:
+    """The first ones are judged. So an answer while work is pending isn't found behind them."""
+    journal = Journal().tell("P claim wanted/1/provision; P send r1 provision 1; B arrive 1 r1 provision")
+    journal.tell("B change 1 pending-provision")
+    look = {"instance": INSTANCE, "call": "look", "stage": "ended", "result": "done"}
+    for at in range(MOST - 2):  # behind `instance`, `create` and `arrive`
+        journal.write("B", "work", {**look, "found": ("part", "absent")[at % 2]})
+    ran = audit(journal.tell("B answer 1 201"))
+    assert (ran.status, ran.report["events"], ran.report["differences"], ran.err) == (0, MOST, [], "")
+    (reason,) = ran.report["unjudged"]
+    assert (reason["why"], reason["whole"], reason["first"]["line"]) == ("it has more than 99,000 events", 0, MOST + 1)
+
+
+def test_lines_of_programs_that_go_on(audit: Audit, tmp_path: Path) -> None:
+    """The files are read one after the other. What a program writes meanwhile isn't judged, since lines of the other
+    side may be missing. Journals that nobody writes any more are judged to their end, whatever their times are.
+    """
+    now = int(time.time()) * 1_000_000
+    journal = Journal(time=now - 60_000_000).tell(CREATED)
+    journal.time = now + 3_600_000_000
+    paths = journal.tell("P claim cleaning/2/deprovision; P send r2 deprovision 2").files(tmp_path)
+    ran = audit(*paths)
+    assert (ran.status, ran.report["events"], ran.report["differences"]) == (0, 7, [])
+    (reason,) = ran.report["unjudged"]
+    assert reason["why"] == "it went on after the audit had begun" and reason["first"]["line"] == 6
+    for it in paths:
+        os.utime(it, (now / 1e6 - 60, now / 1e6 - 60))
+    ran = audit(*paths)
+    assert (ran.status, ran.report["events"], ran.report["unjudged"]) == (0, 9, [])
+
+
+def test_other_settings(audit: Audit, tmp_path: Path) -> None:
+    """A broker that was restarted with another rule of the first Poll, or without a line `started`."""
+    story = CREATED + "B2 arrive 1 r1 provision; B2 answer 1 200"
+    paths = journals_in(tmp_path, story)
+    second = next(it for it in paths if it.name == "broker-B2.jsonl")
+    assert audit(*paths).status == 0
+    text = second.read_text()
+    second.write_text(text.replace('"first_poll":false', '"first_poll":true'))
+    ran = audit(*paths)
+    assert (ran.status, "another rule of the first Poll" in ran.report["unjudged"][0]["why"]) == (2, True)
+    second.write_text(text.partition("\n")[2])
+    ran = audit(*paths)
+    assert (ran.status, "no line `started`" in ran.report["unjudged"][0]["why"]) == (2, True)

@@ -1,0 +1,502 @@
+"""A program that breaks a rule is found: each story has one slip, and the audit names the line that shows it."""
+
+from __future__ import annotations
+
+from pathlib import Path
+from typing import Any, NamedTuple
+
+import pytest
+from audit.conftest import audited
+from audit.journals import BINDING, BOUND, CREATED, INSTANCE, OTHER, PLANS, REMOVED, SERVICE, Journal, held_text
+
+pytestmark = pytest.mark.slow
+
+
+class Slip(NamedTuple):
+    """A story, the line that shows its slip, as a part of a file's name and a number, and what is reported."""
+
+    story: str
+    place: tuple[str, int]
+    event: str
+    why: str
+    model: str
+    journal: str
+    plan: str = "sync"
+
+
+ASKED = "P claim wanted/1/provision; P send r1 provision 1; B arrive 1 r1 provision; "
+SKIPPED = "the event can't happen here"
+ELSE = "after the event, the model has something else"
+SLIPS = {
+    "an answer before the commit": Slip(
+        ASKED + "B change 1 pending-provision; B create; B answer 1 201; B change 1 ready",
+        ("broker", 6),
+        "",
+        "it is answered while its work is pending",
+        "no answer yet",
+        "201",
+    ),
+    "an answer before the first commit": Slip(
+        ASKED + "B answer 1 202; B change 1 pending-provision; B change 1 making",
+        ("broker", 3),
+        "",
+        "it is answered before its change is written",
+        "no such answer yet",
+        "202",
+        "async",
+    ),
+    "work before the commit": Slip(
+        ASKED + "B create; B change 1 pending-provision; B look whole; B change 1 ready; B answer 1 201",
+        ("broker", 3),
+        f"work {INSTANCE} part",
+        SKIPPED,
+        "step skipped",
+        "step applied",
+    ),
+    "an end without its work": Slip(
+        ASKED + "B change 1 pending-provision; B look absent; B change 1 ready; B answer 1 201",
+        ("broker", 6),
+        f"end {INSTANCE} done",
+        SKIPPED,
+        "step skipped",
+        "step applied",
+    ),
+    "end twice": Slip(
+        ASKED
+        + "B change 1 pending-provision; B create; B look whole; B change 1 ready; B answer 1 201; "
+        + "B change 0 ready from pending-provision",
+        ("broker", 10),
+        "",
+        "the row isn't as its last change has left it",
+        "",
+        "",
+    ),
+    "a change that is committed in spite of its error": Slip(
+        ASKED
+        + """B change 1 pending-provision; B create; B look whole; B change 1 ready !undone; B answer 1 500 other-error
+             P hear r1 500 other-error; P take 1 cleaning/1; P claim cleaning/2/deprovision; P send r2 deprovision 2
+             B arrive 2 r2 deprovision; B change 2 ready+deprovision""",
+        ("broker", 12),
+        "",
+        "the row isn't as its last change has left it",
+        "",
+        "",
+    ),
+    "an operation that ends well without its resource": Slip(
+        ASKED + "B change 1 pending-provision; B change 1 making; B answer 1 202; B look absent; B change 0 ready",
+        ("broker", 8),
+        f"finish {INSTANCE} ok",
+        SKIPPED,
+        "step skipped",
+        "step applied",
+        "async",
+    ),
+    "a record taken with an old attempt's answer": Slip(
+        CREATED
+        + """P command cleaning/1; P claim cleaning/2/deprovision; P send r2 deprovision 2; P lose r2
+             P take 2 cleaning/2; P claim cleaning/3/deprovision; P send r3 deprovision 3
+             B arrive 2 r2 deprovision; B change 2 ready+deprovision; B delete; B look absent; B change 2 tombstone
+             B answer 2 200; P take 3 gone/3""",
+        ("platform", 13),
+        f"take {INSTANCE} 1",
+        SKIPPED,
+        "step skipped",
+        "step applied",
+    ),
+    "a removed tombstone": Slip(
+        REMOVED + "B arrive 3 r1 provision; B change 3 pending-provision from -",
+        ("broker", 23),
+        "",
+        "the row isn't as its last change has left it",
+        "",
+        "",
+    ),
+    "a creation in spite of a tombstone": Slip(
+        REMOVED + "B arrive 3 r1 provision; B change 3 pending-provision",
+        ("broker", 23),
+        f"arrive {INSTANCE} 1",
+        ELSE,
+        "work -, tombstone tombstone, answer 409-Other",
+        "work provision, tombstone -, answer -",
+    ),
+    "ready after a garbled 201": Slip(
+        ASKED
+        + "B change 1 pending-provision; B create; B look whole; B change 1 ready; B answer 1 201; "
+        + "P hear r1 201 malformed; P take 1 ready/1",
+        ("platform", 5),
+        f"garble {INSTANCE} 0",
+        ELSE,
+        "state cleaning",
+        "state ready",
+    ),
+    "ready after a 500": Slip(
+        ASKED + "B answer 1 500 other-error; P hear r1 500 other-error; P take 1 ready/1",
+        ("platform", 5),
+        f"gateway {INSTANCE} 500",
+        ELSE,
+        "state cleaning",
+        "state ready",
+    ),
+    "another answer than the row's": Slip(
+        CREATED + "B arrive 2 r1 provision; B answer 2 202",
+        ("broker", 13),
+        f"arrive {INSTANCE} 1",
+        ELSE,
+        "answer 200",
+        "answer 202",
+    ),
+    "an answer decided on another row": Slip(
+        CREATED + "B arrive 2 r1 provision; B answer 2 200 saw=making",
+        ("broker", 13),
+        "",
+        "the request was decided on a row that there never was",
+        held_text("ready", "sync", INSTANCE),
+        held_text("making", "sync", INSTANCE),
+    ),
+    "an answer that no broker gave": Slip(
+        ASKED + "B change 1 pending-provision; B create; B look whole; P hear r1 400 other-error; P take 1 gone/1",
+        ("platform", 5),
+        "",
+        "the platform took an answer that no broker has given",
+        "-",
+        "400-Other",
+    ),
+    "a deletion that is put off without need": Slip(
+        CREATED + "P claim cleaning/2/deprovision; P send r2 deprovision 2; B arrive 2 r2 deprovision; "
+        "B answer 2 422 concurrency-error saw=ready",
+        ("broker", 13),
+        f"arrive {INSTANCE} 2",
+        ELSE,
+        "answer -",
+        "answer 422-ConcurrencyError",
+    ),
+    "a deletion that is put off for a binding that has ended": Slip(
+        BOUND
+        + """P claim cleaning/2/deprovision of binding; P send b2 deprovision 2 of binding
+             B arrive 3 b2 deprovision of binding; B change 3 ready+deprovision of binding; B delete of binding
+             B look absent of binding; B change 3 tombstone of binding; B answer 3 200 of binding
+             P hear b2 200 of binding; P take 2 gone/2 of binding; P claim cleaning/2/deprovision
+             P send r2 deprovision 2; B arrive 4 r2 deprovision; B answer 4 422 concurrency-error""",
+        ("broker", 31),
+        f"arrive {INSTANCE} 2",
+        ELSE,
+        "answer -",
+        "answer 422-ConcurrencyError",
+    ),
+    "a Poll that is put off without need": Slip(
+        """P claim wanted/1/provision; P send r1 provision 1; B arrive 1 r1 provision; B change 1 pending-provision
+           B change 1 making; B answer 1 202; P hear r1 202; P take 1 polling/1; B create; B look whole
+           B change 0 ready; P claim polling/2/poll; P send r2 poll 2; B arrive 2 r2 poll
+           B answer 2 200 in-progress saw=ready""",
+        ("broker", 12),
+        f"arrive {INSTANCE} 2",
+        ELSE,
+        "answer 200-succeeded",
+        "answer 200-in-progress",
+        "async",
+    ),
+    "a deletion that hides that it was carried out": Slip(
+        CREATED + "P claim cleaning/2/deprovision; P send r2 deprovision 2; B arrive 2 r2 deprovision; "
+        "B change 2 ready+deprovision; B delete; B look absent; B change 2 tombstone; B answer 2 422 concurrency-error",
+        ("broker", 18),
+        f"end {INSTANCE} done",
+        ELSE,
+        "answer 200",
+        "answer 422-ConcurrencyError",
+    ),
+    "the end of a creation over a deletion": Slip(
+        CREATED + "P claim cleaning/2/deprovision; P send r2 deprovision 2; B arrive 2 r2 deprovision; "
+        "B change 2 ready+deprovision; B change 1 ready",
+        ("broker", 14),
+        "",
+        "a request changes the row that was answered before",
+        "no change",
+        "",
+    ),
+    "a request that ends the work of another": Slip(
+        CREATED + "B arrive 2 r1 provision; P claim cleaning/2/deprovision; P send r2 deprovision 2; "
+        "B arrive 3 r2 deprovision; B change 3 ready+deprovision; B change 2 ready",
+        ("broker", 15),
+        "",
+        "a provision ends the pending work of a deprovision",
+        "no change",
+        "",
+    ),
+    "a Poll of another answer": Slip(
+        """P claim wanted/1/provision; P send r1 provision 1; B arrive 1 r1 provision; B change 1 pending-provision
+           B change 1 making; B answer 1 202; P hear r1 202; P take 1 polling/1; P claim polling/2/poll
+           P send r2 poll 2; B arrive 2 r2 poll; B answer 2 200 succeeded""",
+        ("broker", 7),
+        f"arrive {INSTANCE} 2",
+        ELSE,
+        "answer 200-in-progress",
+        "answer 200-succeeded",
+        "async",
+    ),
+    "other credentials in the row": Slip(
+        CREATED
+        + """P claim wanted/1/provision of binding; P send b1 provision 1 of binding; B arrive 2 b1 provision of binding
+             B change 2 pending-provision of binding; B create @c1 of binding; B look whole of binding
+             B change 2 ready @c2 of binding""",
+        ("broker", 18),
+        f"end {INSTANCE}/{BINDING} done",
+        ELSE,
+        "credentials 1",
+        "credentials 2",
+    ),
+    "other credentials in the record": Slip(
+        BOUND.replace("P take 1 ready/1 @c1", "P take 1 ready/1 @c3"),
+        ("platform", 9),
+        f"take {INSTANCE}/{BINDING} 0",
+        ELSE,
+        "recorded 1",
+        "recorded 2",
+    ),
+    "a deletion beside a binding": Slip(
+        BOUND + "P claim cleaning/2/deprovision",
+        ("platform", 10),
+        f"remove {INSTANCE}",
+        SKIPPED,
+        "step skipped",
+        "step applied",
+    ),
+    "a Bind without its instance": Slip(
+        """P claim wanted/1/provision; P send r1 provision 1; B arrive 1 r1 provision
+           P claim wanted/1/provision of binding; P send b1 provision 1 of binding""",
+        ("platform", 4),
+        f"create {INSTANCE}/{BINDING}",
+        SKIPPED,
+        "step skipped",
+        "step applied",
+    ),
+    "a record that goes back": Slip(
+        CREATED + "P claim wanted/1/provision from ready/1",
+        ("platform", 6),
+        "",
+        "no events of the platform lead to this record",
+        "ready - 1",
+        "wanted provision 1",
+    ),
+    "a change without a request": Slip(
+        CREATED + "B change 0 tombstone",
+        ("broker", 12),
+        "",
+        "no request and no end of work makes this change",
+        "no change",
+        "",
+    ),
+}
+
+
+# ---- what a row, pending work, a request or a record names
+
+
+def named(story: str, place: tuple[str, int], why: str, model: str, journal: str, plan: str = "sync") -> Slip:
+    """A slip that shows without the model."""
+    return Slip(story, place, "", why, model, journal, plan)
+
+
+NONE, FIVE = "attributes " + "0" * 64, "attributes " + "5" * 64
+ONE, TWO = f"plan {PLANS['sync']}", f"plan {PLANS['async']}"
+OURS, THEIRS = f"service {SERVICE}", f"service {OTHER}"
+BEGUN, KEPT = "than the request that began it", "what is held has another service, plan or attributes than before"
+WORK, RECORD = "the pending work isn't that of its request", "the record has another service or plan than the order"
+WORKED = "B look absent; B create; B look whole; "
+ALL_OTHER = ASKED + "B change 1 pending-provision plan=async; " + WORKED + "B change 1 ready plan=async; B answer 1 201"
+REMOVING = CREATED + "P claim cleaning/2/deprovision; P send r2 deprovision 2; B arrive 2 r2 deprovision; "
+BINDING_ASKED = (
+    CREATED
+    + "P claim wanted/1/provision of binding; P send b1 provision 1 of binding; B arrive 2 b1 provision of binding; "
+)
+SLIPS |= {
+    "another plan in all texts": named(ALL_OTHER, ("broker", 3), BEGUN, ONE, TWO),
+    "another service": named(ASKED + "B change 1 pending-provision service=other", ("broker", 3), BEGUN, OURS, THEIRS),
+    "other attributes": named(ASKED + "B change 1 pending-provision attributes=5", ("broker", 3), BEGUN, NONE, FIVE),
+    "another plan of a row that waits": named(
+        ASKED + "B change 1 waiting plan=sync", ("broker", 3), BEGUN, TWO, ONE, "async"
+    ),
+    "another plan of what another client creates": named(
+        "B arrive 1 x provision; B change 1 pending-provision plan=async", ("broker", 3), BEGUN, ONE, TWO
+    ),
+    "another plan at the end": named(
+        f"{ASKED}B change 1 pending-provision; {WORKED}B change 1 ready plan=async", ("broker", 10), KEPT, ONE, TWO
+    ),
+    "another service at the end": named(
+        f"{ASKED}B change 1 pending-provision; {WORKED}B change 1 ready service=other",
+        ("broker", 10),
+        KEPT,
+        OURS,
+        THEIRS,
+    ),
+    "other attributes at the end": named(
+        f"{ASKED}B change 1 pending-provision; {WORKED}B change 1 ready attributes=5", ("broker", 10), KEPT, NONE, FIVE
+    ),
+    "other attributes after an operation": named(
+        ASKED
+        + "B change 1 pending-provision; B change 1 making; B create; B look whole; B change 0 ready attributes=5",
+        ("broker", 9),
+        KEPT,
+        NONE,
+        FIVE,
+        "async",
+    ),
+    "another plan in a deletion": named(
+        REMOVING + "B change 2 ready+deprovision plan=async", ("broker", 13), KEPT, ONE, TWO
+    ),
+    "a deletion of another plan than the row's": named(
+        REMOVING + "B change 2 ready+deprovision work-plan=async", ("broker", 13), WORK, ONE, TWO
+    ),
+    "a deletion of another plan than it names": named(
+        REMOVING.replace("B arrive 2 r2 deprovision", "B arrive 2 r2 deprovision plan=async")
+        + "B change 2 ready+deprovision",
+        ("broker", 13),
+        WORK,
+        TWO,
+        ONE,
+    ),
+    "pending work of another instance": named(
+        ASKED + "B change 1 pending-provision work-id=other", ("broker", 3), WORK, "", f"id {OTHER}"
+    ),
+    "pending work that may go on": named(
+        ASKED.replace("arrive 1 r1 provision", "arrive 1 r1 provision accepts=no") + "B change 1 pending-provision",
+        ("broker", 3),
+        WORK,
+        "accepts_incomplete False",
+        "accepts_incomplete True",
+    ),
+    "attributes of nothing": named(
+        REMOVING + "B change 2 ready+deprovision; B delete; B look absent; B change 2 tombstone attributes=5",
+        ("broker", 18),
+        "there are attributes without a row and without pending work",
+        NONE,
+        FIVE,
+    ),
+    "another plan of a binding": named(
+        BINDING_ASKED + "B change 2 pending-provision plan=async of binding", ("broker", 13), BEGUN, ONE, TWO
+    ),
+    "other attributes of a binding": named(
+        BINDING_ASKED + "B change 2 pending-provision attributes=5 of binding", ("broker", 13), BEGUN, NONE, FIVE
+    ),
+    "a request that is read as of another plan": named(
+        ALL_OTHER.replace("arrive 1 r1 provision", "arrive 1 r1 provision plan=async"),
+        ("broker", 3),
+        "the request has another service or plan than the one that the platform has sent",
+        ONE,
+        TWO,
+    ),
+    "a request of another plan than the record's": named(
+        "P claim wanted/1/provision; P send r1 provision 1 plan=async; B arrive 1 x poll",
+        ("platform", 3),
+        "the request has another service or plan than the record",
+        ONE,
+        TWO,
+    ),
+    "a record of another plan": named(
+        "P claim wanted/1/provision plan=async; B arrive 1 x poll", ("platform", 2), RECORD, ONE, TWO
+    ),
+    "a record of another plan after the answer": named(
+        CREATED.replace("P take 1 ready/1", "P take 1 ready/1 plan=async"), ("platform", 5), RECORD, ONE, TWO
+    ),
+    "a record of another service after the answer": named(
+        CREATED.replace("P take 1 ready/1", "P take 1 ready/1 service=other"), ("platform", 5), RECORD, OURS, THEIRS
+    ),
+    "a record of another plan after a command": named(
+        CREATED + "P command cleaning/1 plan=async", ("platform", 6), RECORD, ONE, TWO
+    ),
+    "a creation with other parameters that is answered 200": named(
+        CREATED + "B arrive 2 x provision attributes=5; B answer 2 200 saw=ready",
+        ("broker", 13),
+        "the answer isn't the tables'",
+        "409-Other",
+        "200",
+    ),
+    "a conflict without other parameters": named(
+        CREATED + "B arrive 2 x provision; B answer 2 409 other-error",
+        ("broker", 13),
+        "the answer isn't the tables'",
+        "200",
+        "409-Other",
+    ),
+    "a conflict that the platform takes": named(
+        ASKED
+        + f"B change 1 pending-provision; {WORKED}B change 1 ready; B arrive 2 r1 provision attributes=5; "
+        + "B answer 2 409 other-error; P hear r1 409 other-error; P take 1 unsettled/1",
+        ("platform", 5),
+        "the platform took an answer that no broker has given",
+        "-",
+        "409-Other",
+    ),
+}
+
+
+# What both sides disagree about at the end, beside a first difference that says how it came about.
+DISAGREE = {
+    "ready without a resource": (
+        CREATED + "B look absent",
+        [f"{INSTANCE}: the platform records ready, and the resource is absent"],
+    ),
+    "ready without a row": (
+        CREATED + "B arrive 2 r1 provision; B change 2 tombstone",
+        [
+            f"{INSTANCE}: the platform records ready, and the broker has the row none, pending -",
+        ],
+    ),
+    "gone with a row and a resource": (
+        ASKED + "B change 1 pending-provision; B create; B change 1 ready; P lose r1; P take 1 gone/1",
+        [
+            f"{INSTANCE}: the platform records gone, and the broker has the row ready, pending -",
+            f"{INSTANCE}: the platform records gone, and the resource is whole",
+        ],
+    ),
+    "gone with pending work": (
+        ASKED + "B change 1 pending-provision; P lose r1; P take 1 gone/1",
+        [f"{INSTANCE}: the platform records gone, and the broker has the row none, pending provision"],
+    ),
+    "other credentials": (
+        BOUND.replace("P take 1 ready/1 @c1", "P take 1 ready/1 @c3"),
+        [f"{INSTANCE}/{BINDING}: the platform records other credentials than the resource has"],
+    ),
+}
+
+
+STORIES = {**{name: it.story for name, it in SLIPS.items()}, **{name: story for name, (story, _) in DISAGREE.items()}}
+INSTANCES = {name: f"{INSTANCE[:-3]}{number:03x}" for number, name in enumerate(STORIES, 0x100)}
+"""Each story is that of an instance of its own."""
+
+
+@pytest.fixture(scope="module")
+def report(replay: Path, library: Path, tmp_path_factory: pytest.TempPathFactory) -> dict[str, Any]:
+    """What osb-audit reports of all stories."""
+    top = tmp_path_factory.mktemp("stories")
+    for name, story in STORIES.items():
+        folder = top / INSTANCES[name]
+        folder.mkdir()
+        Journal(SLIPS[name].plan if name in SLIPS else "sync", INSTANCES[name]).tell(story).files(folder)
+    ran = audited("--json", "--jobs", "1", *map(str, sorted(top.iterdir())))
+    assert (ran.status, ran.err) == (1, ""), ran
+    return ran.report
+
+
+def difference(report: dict[str, Any], name: str) -> dict[str, Any]:
+    """The one difference of a story. It has INSTANCE in place of the instance."""
+    (found,) = (it for it in report["differences"] if it["instance"] == INSTANCES[name])
+    return {**found, "event": found["event"].replace(INSTANCES[name], INSTANCE)}
+
+
+@pytest.mark.parametrize("name", SLIPS)
+def test_slip(report: dict[str, Any], name: str) -> None:
+    slip, found = SLIPS[name], difference(report, name)
+    path, line = slip.place
+    assert (found["line"], found["event"]) == (line, slip.event), found
+    assert f"/{INSTANCES[name]}/{path}-" in found["file"] and slip.why in found["why"], found
+    assert not slip.model or found["model"] == slip.model, found
+    assert not slip.journal or found["journal"] == slip.journal, found
+    assert found["trace"][0].startswith("line\tevent\tstep\tstate")
+
+
+@pytest.mark.parametrize("name", DISAGREE)
+def test_disagreement(report: dict[str, Any], name: str) -> None:
+    """Beside it, a first difference says how it came about."""
+    assert difference(report, name)
+    found = [it["why"] for it in report["disagreements"] if it["instance"] == INSTANCES[name]]
+    assert [it.replace(INSTANCES[name], INSTANCE) for it in found] == DISAGREE[name][1]

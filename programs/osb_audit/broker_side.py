@@ -1,0 +1,308 @@
+"""Which events the lines of a broker are."""
+from __future__ import annotations
+
+from typing import Optional
+
+from osb_audit import naming, rules
+from osb_audit.events import ANSWER, CREDENTIALS, PHASE, RESOURCE, TOMBSTONE, WORK, Wanted, shown
+from osb_audit.lines import Line
+from osb_audit.lives import Life, Visit
+from osb_audit.rules import Asked, Held, Said
+from osb_audit.walk import Known, differs, unjudged
+
+FAILED = "requests that a broker answered 5xx and didn't carry out: judged as lost, and as answered by a gateway"
+FOREIGN = "requests that no journal of a platform has: judged by the tables alone"
+ALTERED = "requests that have the id of a platform's request, and aren't that one: judged by the tables alone"
+UNCOMPARED = "answers 409 to creations: not judged, because the journal is of a version that doesn't write attributes"
+UNRECORDED = "requests that no record has, such as last deletions and osb-storm's own: judged by the tables alone"
+
+
+class BrokerSide:
+    """Goes through the lines of brokers."""
+
+    def __init__(self, known: Known) -> None:
+        self.known = known
+        self.open: list[Visit] = []
+
+    def step(self, line: Line) -> None:
+        """Goes through a line."""
+        {"arrived": self._arrived, "changed": self._changed, "work": self._work, "answered": self._answered}[
+            line.event
+        ](line)
+
+    # ---- requests
+
+    def _arrived(self, line: Line) -> None:
+        visit = self._visit(line)
+        if visit is not None:
+            self.open.append(visit)
+            self._resolve(visit, line)
+
+    def _visit(self, line: Line) -> Optional[Visit]:
+        return self.known.visits.get(line.visit) if line.visit else None
+
+    def _asked(self, visit: Visit, life: Life) -> Asked:
+        plan = visit.plan or life.plan
+        is_same = life.plan is None or plan == life.plan
+        is_alike = life.plan is None or visit.attributes in (None, life.terms.attributes)
+        mode = self.known.mode(life, plan)
+        return Asked(visit.kind, visit.accepts, mode, self.known.settings.first_poll, is_same, is_alike)
+
+    def _begun(self, visit: Visit, life: Life) -> tuple[Held, Said | None]:
+        """What the tables make of the request now."""
+        return self._begun_as(self._asked(visit, life), life)
+
+    def _begun_as(self, asked: Asked, life: Life) -> tuple[Held, Said | None]:
+        instance = self.known.lives[""].held if life.is_binding else None
+        return rules.begun(life.held, asked, self.known.is_bound, instance)
+
+    def _may_conflict(self, visit: Visit, life: Life) -> bool:
+        """Whether a creation is answered now as one with other attributes would be, and its own aren't known."""
+        if visit.kind != "provision" or visit.attributes is not None or life.plan is None:
+            return False
+        return self._begun_as(self._asked(visit, life)._replace(is_alike=False), life) == (life.held, visit.said)
+
+    def _resolve(self, visit: Visit, line: Line) -> bool:
+        """Has a request arrive that changes nothing, if it is answered now as it was answered."""
+        life = self.known.life(visit.key)
+        if visit.is_resolved or visit.changes or visit.said is None or life.worker == visit.arrived.visit:
+            return visit.is_resolved
+        if not self._has_seen(visit, life):
+            return False
+        visit.has_found = True
+        if visit.kind == "fetch":
+            return self._resolve_fetch(visit, life, line)
+        after, said = self._begun(visit, life)
+        if after == life.held and said == visit.said:
+            self._close(visit)
+            self._arrive(visit, life, line, said)
+        elif self._may_conflict(visit, life):
+            visit.may_conflict = True
+        return visit.is_resolved
+
+    def _has_seen(self, visit: Visit, life: Life) -> bool:
+        """Whether a request was decided on what is held now, as far as its answer says."""
+        assert visit.answered is not None
+        seen = visit.answered.of
+        if seen.get("saw", life.held_text) != life.held_text:
+            return False
+        return not life.is_binding or bool(seen.get("saw_instance", "") in ("", self.known.lives[""].held_text))
+
+    def _resolve_fetch(self, visit: Visit, life: Life, line: Line) -> bool:
+        said = rules.fetched(life.held)
+        if said[0] == 200 and not self.known.sold(life.plan).is_retrievable:
+            said = 404, "other-error"
+        if said == visit.said:
+            self._close(visit)
+            if said[0] == 200:
+                self._fetch(visit, life, line)
+        return visit.is_resolved
+
+    def _fetch(self, visit: Visit, life: Life, line: Line) -> None:
+        if life.is_ordered and visit.arrived.visit:
+            self.known.emit(line, life, "fetch")
+            life.fetched.append(visit.arrived.visit)
+
+    def _arrive(self, visit: Visit, life: Life, line: Line, said: Said, *wanted: tuple[int, str]) -> None:
+        """A request arrives and is answered at once."""
+        attempt = self.known.attempt(visit)
+        if not attempt:
+            self._note_unknown(visit)
+            return
+        if visit.said is not None and (not visit.is_failed or visit.said == said):
+            wanted += ((ANSWER, shown(visit.said)),)
+        self.known.emit(line, life, f"arrive {attempt}", *wanted)
+        life.give(attempt, said)
+
+    def _note_unknown(self, visit: Visit) -> None:
+        """The model doesn't have the request."""
+        if self.known.is_altered(visit):
+            self.known.notes[ALTERED] += 1
+        else:
+            self.known.notes[UNRECORDED if visit.request in self.known.sent else FOREIGN] += 1
+
+    def _close(self, visit: Visit) -> None:
+        visit.is_resolved = True
+        self.open = [it for it in self.open if it is not visit]
+
+    def _answered(self, line: Line) -> None:
+        visit = self._visit(line)
+        if visit is None:
+            raise unjudged(line, "a broker's answer to a request whose line `arrived` isn't there")
+        life = self.known.life(visit.key)
+        if visit.is_resolved or self._resolve(visit, line):
+            return
+        if life.worker == visit.arrived.visit:
+            self._answer_pending(visit, life, line)
+        elif visit.is_failed and not visit.changes:
+            self.known.notes[FAILED] += 1
+        elif visit.may_conflict:
+            self.known.notes[UNCOMPARED] += 1
+        else:
+            self._answer_otherwise(visit, life, line)
+        self._close(visit)
+
+    def _answer_pending(self, visit: Visit, life: Life, line: Line) -> None:
+        """A request is answered whose work is pending."""
+        assert visit.said is not None
+        if not visit.is_failed:
+            raise differs(line, "it is answered while its work is pending", "no answer yet", shown(visit.said))
+        if visit.said[0] == 500:
+            self.known.emit(line, life, "end unknown", (ANSWER, shown((500, "other-error"))))
+            life.give(self.known.attempt(visit), (500, "other-error"))
+        else:
+            self.known.emit(line, life, "crash broker")
+            self.known.notes[FAILED] += 1
+        life.worker = None
+
+    def _answer_otherwise(self, visit: Visit, life: Life, line: Line) -> None:
+        """A request is answered in another way than the tables have it."""
+        assert visit.said is not None
+        if visit.changes:
+            raise differs(line, "it is answered before its change is written", "no such answer yet", shown(visit.said))
+        if not visit.has_found:
+            why = "the request was decided on a row that there never was while it was carried out"
+            raise differs(line, why, life.held_text or "-", line.of["saw"] or "-")
+        attempt, (_, said) = self.known.attempt(visit), self._begun(visit, life)
+        if not attempt or visit.kind == "fetch":
+            said = rules.fetched(life.held) if visit.kind == "fetch" else said
+            raise differs(line, "the answer isn't the tables'", shown(said) if said else "-", shown(visit.said))
+        self.known.emit(line, life, f"arrive {attempt}", (ANSWER, shown(visit.said)))
+        life.give(attempt, visit.said)
+
+    # ---- changes
+
+    def _changed(self, line: Line) -> None:
+        life, visit = self.known.life(line.key), self._visit(line)
+        self._check_chain(line, life)
+        if visit is not None and visit.key != line.key:
+            raise unjudged(line, "the broker has deleted a binding by itself whose creation had failed")
+        if "life_before" in line.of:
+            raise unjudged(line, "the id has returned (--ids-return-after)")
+        before, (after, terms) = life.held, rules.held_in(line.of["after"])
+        if visit is not None:
+            self._check_visit(line, life, visit)
+            visit.changes -= 1
+        naming.check_held(line, life, visit, after, terms)
+        self._note_crash(line, life)
+        if before.work != "-":
+            self._end(line, life, visit, after)
+        elif after.work != "-":
+            self._begin(line, life, visit, after, terms.plan)
+        else:
+            self._change_at_once(line, life, visit, after)
+        life.held, life.held_text, life.terms, life.held_line = after, line.of["after"], terms, line
+        for it in list(self.open):
+            self._resolve(it, line)
+
+    def _check_chain(self, line: Line, life: Life) -> None:
+        if line.of["before"] == life.held_text:
+            return
+        if life.held_line is None:
+            raise unjudged(line, "the journal of the broker begins in the middle of its life")
+        raise differs(
+            line, "the row isn't as its last change has left it", life.held_text or "-", line.of["before"] or "-"
+        )
+
+    def _check_visit(self, line: Line, life: Life, visit: Visit) -> None:
+        """A request changes a row before it is answered, and ends no work but that of its own kind."""
+        if visit.answered is not None and visit.answered.time < line.time:
+            raise differs(line, "a request changes the row that was answered before", "no change", self._words(line))
+        if life.held.work not in ("-", visit.kind):
+            why = f"a {visit.kind} ends the pending work of a {life.held.work}"
+            raise differs(line, why, "no change", self._words(line))
+
+    def _note_crash(self, line: Line, life: Life) -> None:
+        """The process of the request that waits has ended, if it never answers and another process goes on."""
+        if life.worker is None or line.visit == life.worker:
+            return
+        if self.known.visits[life.worker].answered is None:
+            self.known.emit(line, life, "crash broker")
+            life.worker = None
+
+    @staticmethod
+    def _after(after: Held) -> Wanted:
+        return (PHASE, after.phase), (WORK, after.work), (TOMBSTONE, "tombstone" if after.tombstone else "-")
+
+    def _number(self, line: Line, visit: Optional[Visit]) -> int:
+        """The number of the request that makes a change."""
+        if visit is None:
+            raise differs(line, "no request and no end of work makes this change", "no change", self._words(line))
+        naming.check_request(line, self.known, visit)
+        attempt = self.known.attempt(visit)
+        if not attempt:
+            whose = "record" if visit.request in self.known.sent else "journal of a platform"
+            raise unjudged(line, f"a request has changed it that no {whose} has")
+        return attempt
+
+    @staticmethod
+    def _words(line: Line) -> str:
+        return f"{line.of['before'] or '-'} -> {line.of['after'] or '-'}"
+
+    def _begin(self, line: Line, life: Life, visit: Optional[Visit], after: Held, plan: Optional[rules.Plan]) -> None:
+        attempt = self._number(line, visit)
+        self.known.order(line, life, plan)
+        self.known.emit(line, life, f"arrive {attempt}", *self._after(after), (ANSWER, "-"))
+        life.worker = line.visit
+
+    def _change_at_once(self, line: Line, life: Life, visit: Optional[Visit], after: Held) -> None:
+        before = life.held
+        if visit is None and (before.phase, after.phase) == ("waiting", "failed"):
+            self.known.emit(line, life, "give-up-waiting", *self._after(after))
+            return
+        how = rules.finished(before, after) if before.is_running else None
+        if how is not None and visit is None:
+            self.known.emit(line, life, f"finish {how}", *self._after(after), *self._credentials(line, life, after))
+            return
+        self._number(line, visit)
+        assert visit is not None
+        _, said = self._begun(visit, life)
+        self._close(visit)
+        self._arrive(visit, life, line, said or visit.said or (0, "malformed"), *self._after(after))
+
+    @staticmethod
+    def _credentials(line: Line, life: Life, after: Held) -> Wanted:
+        """The row that is ready has the credentials of the resource."""
+        if not life.is_binding or after.phase != "ready":
+            return ()
+        return ((CREDENTIALS, str(life.number_of(line.of.get("credentials", "")))),)
+
+    def _end(self, line: Line, life: Life, visit: Optional[Visit], after: Held) -> None:
+        found = rules.ends(life.held, self.known.mode(life, life.plan), after)
+        if not found:
+            raise differs(line, "no end of the pending work leaves this", "another row", self._words(line))
+        waits = self.known.visits[life.worker] if life.worker else None
+        said = visit.said if visit is not None and visit is waits and not visit.is_failed else None
+        outcome, answer = next((it for it in found if it[1] == said), found[0])
+        wanted = ((ANSWER, shown(said)),) if said is not None else ()
+        credentials = self._credentials(line, life, after)
+        self.known.emit(line, life, f"end {outcome}", *self._after(after), *wanted, *credentials)
+        life.worker = None
+        if waits is None:
+            return
+        life.give(self.known.attempt(waits), answer)
+        if waits is visit:
+            self._close(waits)
+        # Otherwise another process has done its work: it is as if the request arrived again.
+
+    # ---- the work
+
+    def _work(self, line: Line) -> None:
+        life, call, is_begun = self.known.life(line.key), line.of["call"], line.of["stage"] == "begun"
+        is_done, number = line.of.get("result") == "done", life.number_of(line.of.get("credentials", ""))
+        if call in ("create", "delete"):
+            if is_begun:
+                life.known = life.credentials if call == "delete" and life.resource == "whole" else 0
+                self._become(line, life, "part", 0)
+            elif is_done:
+                self._become(line, life, "whole" if call == "create" else "absent", number)
+        elif call == "look" and is_done and line.of["found"] != life.resource:
+            self._become(line, life, line.of["found"], life.known)
+        elif call == "credentials" and is_done and (life.resource, life.credentials) != ("whole", number):
+            self._become(line, life, "whole", number)
+
+    def _become(self, line: Line, life: Life, resource: str, credentials: int) -> None:
+        number = credentials if resource == "whole" else 0
+        words = f"issue {number}" if number else f"work {resource}"
+        self.known.emit(line, life, words, (RESOURCE, resource))
+        life.resource, life.credentials = resource, number

@@ -1,0 +1,239 @@
+"""Judging: a worker gathers a bucket, goes through the lines of each of its instances, has the proved program step the
+events, and compares what the program traces with the journal.
+"""
+from __future__ import annotations
+
+from collections import Counter
+from typing import Iterator, Mapping, NamedTuple, Optional, Sequence
+
+from osb_audit.events import COLUMNS, STEP, Event, Stop, Story
+from osb_audit.lines import INSTANCE, BadLine, Line, Place, read
+from osb_audit.settings import Settings
+from osb_audit.story import story
+from osb_replay_log.faults import UNABLE, Unreplayed, unread, unwritten
+from osb_replay_log.program import Program
+from osb_replay_log.spool import Room, shares
+
+TAB = "\t"
+MOST = 99_000
+"""How many lines one run of the program is given at most."""
+FULL = 40_000
+"""From how many lines on a run is begun."""
+LOST = "lines were lost, because the journal couldn't be written"
+RECENT = "it went on after the audit had begun"
+TOO_MANY = f"it has more than {MOST:,} events"
+
+
+class Gap(NamedTuple):
+    """A time of which lines are missing."""
+
+    begin: int
+    end: int
+    why: str
+
+
+class Bucket(NamedTuple):
+    """What a worker is given: a bucket's number, how many pieces each stretch has, and what all instances share."""
+
+    room: Room
+    number: int
+    pieces: tuple[int, ...]
+    program: Program
+    settings: Mapping[str, Settings]
+    gaps: tuple[Gap, ...]
+
+
+class Difference(NamedTuple):
+    """The first difference of an instance."""
+
+    instance: str
+    place: Place
+    event: str
+    """The event of the model, or empty if none is known."""
+    why: str
+    model: str
+    journal: str
+    trace: tuple[str, ...]
+    """The lines of the trace up to there."""
+
+
+class Judged(NamedTuple):
+    """What came of a bucket."""
+
+    instances: int
+    lines: int
+    events: int
+    differences: tuple[Difference, ...]
+    disagreements: tuple[tuple[str, str], ...]
+    """The instance, and what both sides disagree about at the end."""
+    unjudged: tuple[tuple[str, Place, str, bool], ...]
+    """The instance, from where on, why, and whether nothing of it was judged."""
+    notes: Mapping[str, int]
+    bad: Optional[tuple[Place, str]] = None
+
+
+class _Batch:
+    """Stories that are judged by one run of the program."""
+
+    def __init__(self, bucket: Bucket) -> None:
+        self.bucket = bucket
+        self.stories: list[Story] = []
+        self.size = 0
+
+    def add(self, story_: Story) -> None:
+        self.stories.append(story_)
+        self.size += len(story_.events)
+
+    def judged(self) -> Iterator[tuple[Story, Optional[Difference]]]:
+        """Each story with its first difference, if it has one."""
+        trace = self._trace() if self.size else iter(())
+        for it in self.stories:
+            lines = [next(trace) for _ in it.events]
+            yield it, _difference(it, lines)
+
+    def _trace(self) -> Iterator[str]:
+        """The lines of the trace, behind the header."""
+        schedule = "".join(f"{event.text}\n" for it in self.stories for event in it.events).encode()
+        report = self.bucket.room.begin()
+        fault = self.bucket.program.run([schedule], report)
+        if fault is not None:
+            line = schedule.split(b"\n")[fault.line - 1].decode(errors="replace")
+            raise Unreplayed(UNABLE, f"osb-replay rejects a line of the audit: {fault.name}: {line}")
+        lines = report.read_text().splitlines()
+        report.unlink()
+        if len(lines) != self.size + 1 or lines[0].split(TAB) != COLUMNS:
+            raise Unreplayed(UNABLE, "osb-replay has written no trace of each event: it is of another version")
+        return iter(lines[1:])
+
+
+def _difference(story_: Story, lines: Sequence[str]) -> Optional[Difference]:
+    for at, (event, line) in enumerate(zip(story_.events, lines)):
+        columns = line.split(TAB)
+        for column, wanted in event.wanted:
+            if columns[column] != wanted:
+                return _of_event(story_, event, columns, lines[: at + 1])
+    stop = story_.stop
+    if stop is None or not stop.is_difference:
+        return None
+    return Difference(story_.instance, stop.place, "", stop.why, stop.model, stop.journal, _numbered(lines))
+
+
+def _of_event(story_: Story, event: Event, columns: Sequence[str], lines: Sequence[str]) -> Difference:
+    wrong = [(column, wanted) for column, wanted in event.wanted if columns[column] != wanted]
+    if wrong[0][0] == STEP:
+        wrong = wrong[:1]
+        why = "the event can't happen here: the model skips it"
+    else:
+        why = "after the event, the model has something else than the journal"
+    model = ", ".join(f"{COLUMNS[column]} {columns[column]}" for column, _ in wrong)
+    journal = ", ".join(f"{COLUMNS[column]} {wanted}" for column, wanted in wrong)
+    return Difference(story_.instance, event.place, event.text, why, model, journal, _numbered(lines))
+
+
+def _numbered(lines: Sequence[str]) -> tuple[str, ...]:
+    """The lines of a trace, numbered from 1: the program has traced other instances before them."""
+    return tuple(f"{number}{TAB}{line.partition(TAB)[2]}" for number, line in enumerate(lines, 1))
+
+
+# ---- a bucket
+
+
+def judge(bucket: Bucket) -> Judged:
+    """Judges the instances of a bucket."""
+    try:
+        return _Judge(bucket).judged()
+    except OSError as error:
+        raise unwritten(bucket.room.folder, error) from error
+
+
+class _Judge:
+    """The instances of a bucket, and what has come of them."""
+
+    def __init__(self, bucket: Bucket) -> None:
+        self.bucket = bucket
+        self.instances = self.lines = self.events = 0
+        self.differences: list[Difference] = []
+        self.disagreements: list[tuple[str, str]] = []
+        self.unjudged: list[tuple[str, Place, str, bool]] = []
+        self.notes: Counter[str] = Counter()
+        self.bad: Optional[tuple[Place, str]] = None
+
+    def judged(self) -> Judged:
+        batch = _Batch(self.bucket)
+        for instance, texts in sorted(self._texts().items()):
+            found = self._story(instance, texts)
+            if found is None:
+                break
+            if batch.size + len(found.events) > MOST:
+                self._take(batch)
+                batch = _Batch(self.bucket)
+            batch.add(found)
+            if batch.size > FULL:
+                self._take(batch)
+                batch = _Batch(self.bucket)
+        self._take(batch)
+        return Judged(
+            self.instances,
+            self.lines,
+            self.events,
+            tuple(self.differences),
+            tuple(self.disagreements),
+            tuple(self.unjudged),
+            dict(self.notes),
+            self.bad,
+        )
+
+    def _texts(self) -> dict[str, list[bytes]]:
+        found: dict[str, list[bytes]] = {}
+        for share in shares(self.bucket.room, self.bucket.pieces, self.bucket.number):
+            try:
+                lines = share.read().split(b"\n")
+            except OSError as error:
+                raise unread(str(share.path), error) from error
+            for line in lines[:-1]:
+                instance = INSTANCE.search(line)
+                assert instance is not None  # so it was split
+                found.setdefault(instance[1].decode(), []).append(line)
+        return found
+
+    def _story(self, instance: str, texts: list[bytes]) -> Optional[Story]:
+        """What the lines of an instance have come to; None if one of them can't be read."""
+        lines = []
+        for text in texts:
+            stretch, number, rest = text.split(b":", 2)
+            place = Place(int(stretch), int(number))
+            try:
+                lines.append(read(place, rest))
+            except BadLine as error:
+                self.bad = place, str(error)
+                return None
+        kept, why = self._before_gaps(lines)
+        found = story(instance, kept, self.bucket.settings) if kept else Story(instance, [], None, [], {})
+        if len(kept) < len(lines) and (found.stop is None or not found.stop.is_difference):
+            first = min((it for it in lines if it not in set(kept)), key=lambda it: it.time)
+            found = found._replace(stop=Stop(first.place, False, why), disagreements=[])
+        if len(found.events) > MOST:
+            stop = Stop(found.events[MOST].place, False, TOO_MANY)
+            found = found._replace(events=found.events[:MOST], stop=stop, disagreements=[])
+        self.instances += 1
+        self.lines += len(lines)
+        return found
+
+    def _before_gaps(self, lines: list[Line]) -> tuple[list[Line], str]:
+        """The lines of an instance that come before the first gap in its life, and why there is one."""
+        first, last = min(it.time for it in lines), max(it.time for it in lines)
+        gaps = [it for it in self.bucket.gaps if first <= it.end and last > it.begin]
+        if not gaps:
+            return lines, ""
+        gap = min(gaps)
+        return [it for it in lines if it.time <= gap.begin], gap.why
+
+    def _take(self, batch: _Batch) -> None:
+        for found, difference in batch.judged():
+            self.events += len(found.events)
+            self.notes.update(found.notes)
+            if difference is not None:
+                self.differences.append(difference)
+            elif found.stop is not None:
+                self.unjudged.append((found.instance, found.stop.place, found.stop.why, not found.events))
+            self.disagreements += [(found.instance, it) for it in found.disagreements]

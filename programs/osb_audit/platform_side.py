@@ -1,0 +1,179 @@
+"""Which events the lines of a platform are."""
+from __future__ import annotations
+
+from typing import Optional
+
+from osb_audit import naming, rules
+from osb_audit.events import ATTEMPT, OUT, RECORDED, STATE, Wanted, shown
+from osb_audit.lines import Line
+from osb_audit.lives import Life, plan_of
+from osb_audit.rules import Recorded, Said
+from osb_audit.walk import Known, differs, unjudged
+
+DROPPED = "answers that came and that the platform took for none"
+BRIDGED = "changes of a record that no journal has, and that a platform may have made"
+NOT_GIVEN = "answers below 500 that no broker gave: judged as those of a gateway, by which nothing is known"
+
+
+class PlatformSide:
+    """Goes through the lines of platforms."""
+
+    def __init__(self, known: Known) -> None:
+        self.known = known
+
+    def step(self, line: Line) -> None:
+        """Goes through a line."""
+        {"changed": self._changed, "sent": self._sent, "answered": self._answered}[line.event](line)
+
+    def _sent(self, line: Line) -> None:
+        if line.of["kind"] == "fetch":
+            self.known.fetches.setdefault(line.key, []).append(line.of["request"])
+        elif line.of.get("attempt"):
+            naming.check_sent(line, self.known.sent[line.of["request"]], self.known.life(line.key))
+            self.known.requests.setdefault((line.key, line.of["attempt"]), []).append(line.of["request"])
+
+    def _answered(self, line: Line) -> None:
+        self.known.heard[line.of["request"]] = line
+
+    # ---- changes of the record
+
+    def _changed(self, line: Line) -> None:
+        life = self.known.life(line.key)
+        life.is_abandoned = life.is_abandoned or line.of.get("state") == "abandoned"
+        if line.of["before"] != life.record_text:
+            self._bridge(line, life)
+        if line.of["before"] != line.of["after"]:
+            before, (after, plan) = life.record, rules.recorded_in(line.of["after"])
+            naming.check_record(line, self.known, life, plan)
+            self.known.order(line, life, plan)
+            if line.of["cause"] == "take" and before.out != "-":
+                self._take(line, life, after)
+            else:
+                self._step(line, life, after, rules.steps(life.record, after))
+            life.record, life.recorded = after, line.of.get("credentials", life.recorded)
+        elif not life.is_ordered:
+            life.ordered = plan_of(line)
+        life.record_text, life.record_line = line.of["after"], line
+
+    def _bridge(self, line: Line, life: Life) -> None:
+        """The record isn't as its last change has left it. A process without a journal may have changed it."""
+        if life.record_line is None:
+            raise unjudged(line, "the journal of the platform begins in the middle of its life")
+        read, plan = rules.recorded_in(line.of["before"])
+        events = rules.steps(life.record, read)
+        if not events or plan != rules.recorded_in(life.record_text)[1]:
+            why = "the record isn't as its last change has left it"
+            raise differs(line, why, life.record_text or "-", line.of["before"] or "-")
+        self.known.notes[BRIDGED] += 1
+        self._step(line, life, read, events)
+        life.record = read
+
+    @staticmethod
+    def _after(line: Line, life: Life, after: Recorded) -> Wanted:
+        state, out, attempt = after.columns
+        wanted: Wanted = ((STATE, state), (OUT, out), (ATTEMPT, attempt))
+        if life.is_binding and after.state == "ready":
+            wanted += ((RECORDED, str(life.number_of(line.of.get("credentials", life.recorded)))),)
+        return wanted
+
+    def _step(self, line: Line, life: Life, after: Recorded, events: Optional[tuple[str, ...]]) -> None:
+        """The platform goes on by itself."""
+        if events is None:
+            raise differs(
+                line,
+                "no events of the platform lead to this record",
+                " ".join(life.record.columns),
+                " ".join(after.columns),
+            )
+        if "remove" in events and not life.is_binding and self._has_abandoned():
+            raise unjudged(line, "an instance is removed one of whose bindings an operator has abandoned")
+        if events and events[0] == "timeout" and life.sender not in ("", line.process):
+            self.known.emit(line, life, "crash platform")
+        for event in events[:-1]:
+            self.known.emit(line, life, event)
+        for event in events[-1:]:
+            self.known.emit(line, life, event, *self._after(line, life, after))
+        life.sender = line.process if after.out != "-" else ""
+
+    def _has_abandoned(self) -> bool:
+        return any(it.is_abandoned for it in self.known.lives.values() if it.is_binding)
+
+    # ---- answers
+
+    def _take(self, line: Line, life: Life, after: Recorded) -> None:
+        """The platform takes an answer, or none."""
+        attempt = line.of.get("attempt", life.record.attempt)
+        requests = self.known.requests.get((life.key, attempt), [])
+        heard = [self.known.heard[it] for it in requests if it in self.known.heard]
+        said = _said(heard[-1]) if heard else None
+        timed_out = rules.stepped(life.record, "timeout")
+        event = self._event(line, life, attempt, said, after)
+        if event != "timeout" and after == timed_out != self._effect(life, said):
+            self.known.notes[DROPPED] += 1
+            event = "timeout"
+        self.known.emit(line, life, event, *self._after(line, life, after))
+        life.sender = ""
+
+    def _effect(self, life: Life, said: Optional[Said]) -> Optional[Recorded]:
+        if said is None:
+            return None
+        return rules.taken(life.record, said, life.is_binding, self._is_retrievable(life))
+
+    def _is_retrievable(self, life: Life) -> bool:
+        plan = rules.recorded_in(life.record_text)[1]
+        return self.known.sold(plan).is_retrievable
+
+    def _event(self, line: Line, life: Life, attempt: int, said: Optional[Said], after: Recorded) -> str:
+        if said is None:
+            return self._unheard(life, after)
+        if life.is_binding and (life.record.state, life.record.out, said) == ("polling", "poll", (200, "succeeded")):
+            return self._fetched(life, attempt, said)
+        given = [it.place for it in life.given.get(attempt, ()) if it.said == said]
+        if given:
+            return f"take {given[-1]}"
+        status = [it.place for it in life.given.get(attempt, ()) if it.said[0] == said[0]]
+        if said[1] == "malformed" and status:
+            return f"garble {status[-1]}"
+        if 500 <= said[0] <= 599:
+            return f"gateway {said[0]}"
+        if after == rules.stepped(life.record, "timeout"):
+            self.known.notes[NOT_GIVEN] += 1
+            return "timeout"
+        return self._not_given(line, life, attempt, said)
+
+    @staticmethod
+    def _unheard(life: Life, after: Recorded) -> str:
+        """No answer to this request came. If the record shows that one was taken, it is that to another request."""
+        if after != rules.stepped(life.record, "timeout"):
+            for it in sorted(it for given in life.given.values() for it in given):
+                if rules.taken(life.record, it.said, life.is_binding, True) == after:
+                    return f"take {it.place}"
+        return "timeout"
+
+    def _fetched(self, life: Life, attempt: int, said: Said) -> str:
+        """The answer to a Poll counts together with that to the Fetch that followed it."""
+        fetches = self.known.fetches.get(life.key, [])
+        heard = self.known.heard.get(fetches[-1]) if fetches else None
+        polls = [it.place for it in life.given.get(attempt, ()) if it.said == said]
+        places = [at for at, it in enumerate(life.fetched) if self.known.visits[it].request in fetches[-1:]]
+        if heard is None or heard.of.get("status") != 200 or "lost" in heard.of or not polls or not places:
+            return "timeout"
+        return f"take-fetched {polls[-1]} {places[-1]}"
+
+    def _not_given(self, line: Line, life: Life, attempt: int, said: Said) -> str:
+        """No broker has given this answer to this request."""
+        requests = self.known.requests[life.key, attempt]
+        visits = [it for it in self.known.visits.values() if it.request in requests]
+        if not visits:
+            raise unjudged(line, "the platform took an answer to a request that no journal of a broker has")
+        if any(it.may_conflict and it.said == said for it in visits):
+            raise unjudged(line, "the platform took a 409 that isn't judged: the broker's journal has no attributes")
+        answers = ", ".join(shown(it.said) for it in visits if it.said and not self.known.is_altered(it)) or "-"
+        raise differs(line, "the platform took an answer that no broker has given", answers, shown(said))
+
+
+def _said(line: Line) -> Optional[Said]:
+    """What came back, or None if nothing that counts did."""
+    if "lost" in line.of:
+        return None
+    return line.of["status"], line.of["body"]

@@ -1,0 +1,156 @@
+"""The report of an audit, as text and as JSON."""
+from __future__ import annotations
+
+import json
+from collections import Counter
+from typing import Any, Iterator, NamedTuple
+
+from osb_audit.events import COLUMNS
+from osb_audit.judging import Difference
+from osb_audit.lines import Place
+from osb_audit.work import Audited
+from osb_replay_log.faults import REFUSED_WORDS, shown
+
+DIFFERENT = 1
+UNJUDGED = 3
+
+
+class Unjudged(NamedTuple):
+    """Why some instances weren't judged to their end."""
+
+    why: str
+    instances: int
+    whole: int
+    """Of how many nothing was judged."""
+    first: Place
+    """Where the first of them stops."""
+    instance: str
+
+
+class Report:
+    """What an audit has come to."""
+
+    def __init__(self, found: Audited, allowed: float = 100.0) -> None:
+        """`allowed`: the percent of the instances that may be left without being judged to their end."""
+        self._found, self._allowed = found, allowed
+        self.instances = sum(it.instances for it in found.judged)
+        self.events = sum(it.events for it in found.judged)
+        self.differences = found.differences
+        self.disagreements = sorted(it for judged in found.judged for it in judged.disagreements)
+        self.unjudged = list(_unjudged(found))
+        self.notes: Counter[str] = Counter()
+        for judged in found.judged:
+            self.notes.update(judged.notes)
+
+    def status(self) -> int:
+        """The exit status."""
+        if self.differences or self.disagreements:
+            return DIFFERENT
+        if self.instances == sum(it.whole for it in self.unjudged):
+            return REFUSED_WORDS
+        return UNJUDGED if self._left * 100 > self._allowed * self.instances else 0
+
+    @property
+    def _left(self) -> int:
+        """How many instances weren't judged to their end."""
+        return sum(it.instances for it in self.unjudged)
+
+    # ---- text
+
+    def text(self) -> str:
+        """As text."""
+        return "".join(f"{line}\n" for line in self._lines())
+
+    def _lines(self) -> Iterator[str]:
+        for it in self.differences:
+            yield from self._of(it)
+        if self.disagreements:
+            yield "At the end, the sides disagree:"
+            yield from (f"  {why}" for _, why in self.disagreements)
+        if self.unjudged:
+            yield "Not judged:"
+        for reason in self.unjudged:
+            path, line = self._found.places.told(reason.first)
+            yield (
+                f"  {_many(reason.instances, 'instance')}, nothing of {reason.whole}: {reason.why}. "
+                f"The first is {reason.instance}, from {shown(path)}, line {line} on."
+            )
+        if self.notes:
+            yield "Seen besides:"
+            yield from (f"  {count} {what}" for what, count in sorted(self.notes.items()))
+        yield from self._of_files()
+        yield (
+            f"{_many(self.instances, 'instance')}, {_many(self.events, 'event')}, "
+            f"{_many(len(self.differences), 'difference')}"
+        )
+
+    def _of(self, it: Difference) -> Iterator[str]:
+        path, line = self._found.places.told(it.place)
+        yield f"Difference: instance {it.instance}"
+        yield f"  {shown(path)}, line {line}"
+        yield f"  {it.why}"
+        if it.event:
+            yield f"  event    {it.event}"
+        yield f"  model    {it.model}"
+        yield f"  journal  {it.journal}"
+        yield "  The trace up to there:"
+        yield "\t".join(COLUMNS)
+        yield from it.trace
+        yield ""
+
+    def _of_files(self) -> Iterator[str]:
+        found = self._found
+        for place in found.torn:
+            yield f"{shown(place)}: the line was cut off"
+        if found.lost:
+            yield f"{_many(found.lost, 'line')} could not be written when they happened, and are missing"
+        for side in ("broker", "platform"):
+            if not found.processes[side]:
+                yield f"There is no journal of a {side} among these: what the other side did can't be judged without it"
+        if self.status() == REFUSED_WORDS:
+            yield "Nothing could be judged."
+        if self.status() == UNJUDGED:
+            share = f"{100 * self._left / self.instances:.3g} percent"
+            yield f"Not judged to their end: {share} of the instances. --unjudged allows {self._allowed:g} percent."
+
+    # ---- JSON
+
+    def json(self) -> str:
+        """As one object of JSON."""
+        found = self._found
+        report = {
+            "instances": self.instances,
+            "events": self.events,
+            "differences": [self._object(it) for it in self.differences],
+            "disagreements": [{"instance": instance, "why": why} for instance, why in self.disagreements],
+            "unjudged": [self._reason(it) for it in self.unjudged],
+            "notes": dict(sorted(self.notes.items())),
+            "torn": found.torn,
+            "lost": found.lost,
+            "processes": dict(sorted(found.processes.items())),
+        }
+        return json.dumps(report, indent=1) + "\n"
+
+    def _object(self, it: Difference) -> dict[str, Any]:
+        path, line = self._found.places.told(it.place)
+        told = {"instance": it.instance, "file": path, "line": line, "event": it.event, "why": it.why}
+        return {**told, "model": it.model, "journal": it.journal, "trace": ["\t".join(COLUMNS), *it.trace]}
+
+    def _reason(self, it: Unjudged) -> dict[str, Any]:
+        path, line = self._found.places.told(it.first)
+        place = {"instance": it.instance, "file": path, "line": line}
+        return {"why": it.why, "instances": it.instances, "whole": it.whole, "first": place}
+
+
+def _unjudged(found: Audited) -> Iterator[Unjudged]:
+    by_reason: dict[str, list[tuple[Place, str, bool]]] = {}
+    for judged in found.judged:
+        for instance, place, why, is_whole in judged.unjudged:
+            by_reason.setdefault(why, []).append((place, instance, is_whole))
+    for why, its in sorted(by_reason.items()):
+        place, instance, _ = min(its)
+        yield Unjudged(why, len(its), sum(it[2] for it in its), place, instance)
+
+
+def _many(count: int, what: str) -> str:
+    return f"{count:,} {what}" + ("" if count == 1 else "s")

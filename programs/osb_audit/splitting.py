@@ -1,0 +1,160 @@
+"""Splitting: a worker takes a stretch of a journal, and spools its lines by buckets, the lines of an instance to one.
+
+In a bucket, each line has the number of its stretch and its own number there before it: `STRETCH:LINE:`.
+"""
+from __future__ import annotations
+
+import json
+from typing import Iterator, NamedTuple, Optional
+from zlib import crc32
+
+from osb_audit.lines import HEAD, INSTANCE, OF_INSTANCES, is_torn, newer, plain
+from osb_replay_log import spool
+from osb_replay_log.faults import unwritten
+from osb_replay_log.lines import blocks
+from osb_replay_log.logs import Stretch, pieces
+from osb_replay_log.spool import Room
+
+LONGEST = 1 << 20
+"""The bytes that a line has at most."""
+
+
+class Splitting(NamedTuple):
+    """What a worker is given: the number of the stretch, of the buckets, and where their lines go."""
+
+    room: Room
+    number: int
+    stretch: Stretch
+    buckets: int
+    chunk: int
+
+
+class Heading(NamedTuple):
+    """A line of a process: `started`, `stopped` or `lost`, with the time of the line before it in its file."""
+
+    line: int
+    text: bytes
+    event: str
+    side: str
+    process: str
+    time: int
+    before: int
+
+    @property
+    def missing(self) -> int:
+        """Of `lost`: how many lines are missing."""
+        return int(json.loads(self.text).get("count", 1))
+
+
+class Split(NamedTuple):
+    """What came of a stretch: how many spool files there are, how many lines, and what isn't an instance's."""
+
+    number: int
+    pieces: int
+    lines: int
+    events: int
+    headings: tuple[Heading, ...]
+    torn: tuple[int, ...]
+    """The lines that were cut off: the last of a file, or one that a line `started` or `lost` follows."""
+    begins_anew: bool
+    """Whether its first line is `started` or `lost`."""
+    ends_torn: bool
+    """Whether its last line was cut off."""
+    bad: Optional[tuple[int, str]]
+    """The first line that is no line of a journal, and why."""
+
+
+class _Splitter:
+    """Goes through the lines of a stretch."""
+
+    def __init__(self, number: int, buckets: int) -> None:
+        self.number, self.many = number, buckets
+        self.buckets: list[list[bytes]] = []
+        self.lines = self.events = self.time = 0
+        self.headings: list[Heading] = []
+        self.odd: list[int] = []
+        self.torn: list[int] = []
+
+    def begin(self) -> None:
+        """Begins with another spool file."""
+        self.buckets = [[] for _ in range(self.many)]
+
+    def split(self, lines: Iterator[list[bytes]]) -> Optional[tuple[int, str]]:
+        """Adds each line to its bucket. Returns the first that is no line of a journal."""
+        for block in lines:
+            for text in block:
+                why = self._add(text)
+                self.lines += 1
+                if why is not None:
+                    return self.lines - 1, why
+        return None
+
+    def _add(self, text: bytes) -> Optional[str]:
+        head = HEAD.match(text)
+        if head is None or not text.endswith(b"}"):
+            line = plain(text)
+            head = HEAD.match(line) if line else None
+            if line is None or head is None:
+                return self._odd(text)
+            text = line
+        time, process, side, event = head.groups()
+        if self.odd:
+            if event not in (b"started", b"lost"):
+                return "the line before it is no line of a journal"
+            self.torn += self.odd
+            self.odd = []
+        if event in OF_INSTANCES[side]:
+            found = INSTANCE.search(text)
+            if found is None:
+                text = plain(text) or text
+                found = INSTANCE.search(text)
+            if found is None:
+                return f"{event.decode()} names no instance"
+            place = b"%d:%d:" % (self.number, self.lines)
+            self.buckets[crc32(found[1]) % self.many].append(place + text)
+            self.events += 1
+        elif newer(side, event):
+            known = "it is of a newer version than this osb-audit"
+            return f"a {side.decode()} has no event {event.decode()!r} here: {known}"
+        else:
+            self._head(text, event.decode(), side.decode(), process.decode(), int(time))
+        self.time = int(time)
+        return None
+
+    def _odd(self, text: bytes) -> Optional[str]:
+        """A line that was cut off may stand at the end, or before a line `started` or `lost`."""
+        if self.odd or not is_torn(text):
+            return "it is no line of a journal"
+        self.odd.append(self.lines)
+        return None
+
+    def _head(self, text: bytes, event: str, side: str, process: str, time: int) -> None:
+        self.headings.append(Heading(self.lines, text, event, side, process, time, self.time or time))
+
+
+def split(splitting: Splitting) -> Split:
+    """Splits a stretch."""
+    splitter, count, bad = _Splitter(splitting.number, splitting.buckets), 0, None
+    try:
+        for piece in pieces(splitting.stretch, splitting.chunk, LONGEST):
+            splitter.begin()
+            bad = splitter.split(blocks(piece))
+            spool.write(splitting.room, splitting.room.piece(splitting.number, count), splitter.buckets)
+            count += 1
+            if bad is not None:
+                break
+    except OSError as error:
+        raise unwritten(splitting.room.folder, error) from error
+    found, torn = splitter.headings, (*splitter.torn, *splitter.odd)
+    begins_anew = bool(found) and found[0].line == 0 and found[0].event in ("started", "lost")
+    return Split(
+        splitting.number,
+        count,
+        splitter.lines,
+        splitter.events,
+        tuple(found),
+        torn,
+        begins_anew,
+        bool(splitter.odd),
+        bad,
+    )

@@ -1,0 +1,34 @@
+"""What the lines of one instance have come to."""
+from __future__ import annotations
+
+from typing import Mapping, Sequence
+
+from osb_audit.broker_side import BrokerSide
+from osb_audit.events import Stop, Story
+from osb_audit.lines import Line
+from osb_audit.ordering import ordered
+from osb_audit.platform_side import PlatformSide
+from osb_audit.rules import NoText
+from osb_audit.settings import Settings
+from osb_audit.walk import Known, Stopped, settings_of
+
+
+def story(instance: str, lines: Sequence[Line], settings: Mapping[str, Settings]) -> Story:
+    """Goes through the lines of an instance. Settings are those of each process of a broker."""
+    found = ordered(lines)
+    of_broker = settings_of(found, settings)
+    if isinstance(of_broker, str):
+        return Story(instance, [], Stop(lines[0].place, False, of_broker), [], {})
+    known = Known(instance, found, of_broker)
+    broker, platform = BrokerSide(known), PlatformSide(known)
+    stop = None
+    for line in found:
+        try:
+            (broker.step if line.side == "broker" else platform.step)(line)
+        except Stopped as stopped:
+            stop = stopped.stop
+        except NoText as error:
+            stop = Stop(line.place, True, str(error), "a text of the library", "another one")
+        if stop is not None:
+            break
+    return known.story(stop)

@@ -1,0 +1,184 @@
+"""Goes through the lines of an instance, and finds the events of the proved model that they are.
+
+broker_side and platform_side have the tables: which line is which event. This module has what both need.
+"""
+from __future__ import annotations
+
+from collections import Counter
+from typing import Mapping, Optional, Sequence
+
+from osb_audit.events import STEP, Event, Stop, Story
+from osb_audit.lines import Line
+from osb_audit.lives import Life, Sent, Visit, VisitName, plan_of
+from osb_audit.rules import Plan
+from osb_audit.settings import Settings, Sold
+
+
+class Stopped(Exception):
+    """Nothing of the instance is gone through any further."""
+
+    def __init__(self, stop: Stop) -> None:
+        super().__init__(stop.why)
+        self.stop = stop
+
+
+def differs(line: Line, why: str, model: str, journal: str) -> Stopped:
+    """A difference that shows without the model."""
+    return Stopped(Stop(line.place, True, why, model, journal))
+
+
+def unjudged(line: Line, why: str) -> Stopped:
+    """What can't be judged from this line on."""
+    return Stopped(Stop(line.place, False, why))
+
+
+class Known:
+    """What there is of an instance: its lives, the requests, and the events so far."""
+
+    def __init__(self, instance: str, lines: Sequence[Line], settings: Settings) -> None:
+        self.instance, self.settings = instance, settings
+        self.lives: dict[str, Life] = {"": Life("", instance)}
+        self.events: list[Event] = []
+        self.notes: Counter[str] = Counter()
+        self.visits: dict[VisitName, Visit] = {}
+        self.sent: dict[str, Sent] = {}
+        self.accepts: dict[str, bool] = {}
+        self.requests: dict[tuple[str, int], list[str]] = {}
+        self.heard: dict[str, Line] = {}
+        self.fetches: dict[str, list[str]] = {}
+        self.attributes: dict[tuple[str, str], str] = {}
+        for line in lines:
+            self._note(line)
+
+    def _note(self, line: Line) -> None:
+        """What has to be known of later lines."""
+        if line.event == "arrived" and line.visit:
+            self.visits[line.visit] = Visit(line)
+            if "attributes" in line.of:
+                self.attributes.setdefault((line.of["request"], line.key), line.of["attributes"])
+        elif line.side == "broker" and line.event == "answered" and line.visit in self.visits:
+            self.visits[line.visit].answered = line
+        elif line.side == "broker" and line.event == "changed" and line.visit in self.visits:
+            self.visits[line.visit].changes += line.key == self.visits[line.visit].key
+        elif line.event == "sent":
+            sent = Sent(line.key, line.of.get("attempt", 0), line.of["kind"], plan_of(line))
+            self.sent[line.of["request"]] = sent
+            if sent.kind == "provision":
+                self.accepts.setdefault(line.key, bool(line.of.get("accepts")))
+
+    # ---- requests
+
+    def request_of(self, visit: Visit) -> Optional[Sent]:
+        """What a platform has sent, or None if no journal of a platform has the request."""
+        sent = self.sent.get(visit.request)
+        return sent if sent and sent.key == visit.key and sent.kind == visit.kind else None
+
+    def is_altered(self, visit: Visit) -> bool:
+        """Whether it isn't the request that a platform has sent, although it has its id: it names another plan, or has
+        other attributes than when it arrived first.
+        """
+        sent = self.request_of(visit)
+        if sent is None:
+            return False
+        is_other = None not in (sent.plan, visit.plan) and sent.plan != visit.plan
+        return is_other or visit.attributes not in (None, self.attributes.get((visit.request, visit.key)))
+
+    def attempt(self, visit: Visit) -> int:
+        """The number of the request, or 0 if the model doesn't have it."""
+        if visit.attempt is None:
+            sent = self.request_of(visit)
+            visit.attempt = sent.attempt if sent and not self.is_altered(visit) else 0
+        return visit.attempt
+
+    # ---- lives
+
+    def life(self, key: str) -> Life:
+        """The instance, or the binding with this id."""
+        if key not in self.lives:
+            self.lives[key] = Life(key, f"{self.instance}/{key}")
+        return self.lives[key]
+
+    @property
+    def is_bound(self) -> bool:
+        """Whether one of the bindings is held."""
+        return any(it.held.is_held for it in self.lives.values() if it.is_binding)
+
+    def sold(self, plan: Optional[Plan]) -> Sold:
+        """How a plan is sold."""
+        return self.settings.sold(plan)
+
+    def mode(self, life: Life, plan: Optional[Plan]) -> str:
+        """How the plan creates such a life."""
+        sold = self.sold(plan)
+        return sold.binding if life.is_binding else sold.mode
+
+    # ---- events
+
+    def emit(self, line: Line, life: Life, words: str, *wanted: tuple[int, str]) -> None:
+        """Has an event of a life happen. Its id comes behind the first word."""
+        verb, _, rest = words.partition(" ")
+        text = f"{verb} {life.name} {rest}" if rest else f"{verb} {life.name}"
+        self.events.append(Event(text, line.place, ((STEP, "applied"), *wanted)))
+
+    def order(self, line: Line, life: Life, plan: Optional[Plan]) -> None:
+        """Takes a life in, once."""
+        if life.is_ordered:
+            return
+        life.is_ordered, life.ordered = True, life.ordered or plan
+        sold, accepts = self.sold(plan), "yes" if self.accepts.get(life.key, True) else "no"
+        rule = "first-poll" if self.settings.first_poll else "at-once"
+        if life.is_binding:
+            self.order(line, self.lives[""], plan)
+            fetch = "fetch" if sold.is_retrievable else "no-fetch"
+            self.emit(line, life, f"binding {sold.binding} {accepts} {rule} {fetch}")
+        elif plan:
+            self.emit(line, life, f"instance {plan[0]} {plan[1]} {sold.mode} {accepts} {rule} both")
+
+    # ---- the end
+
+    def disagreements(self) -> list[str]:
+        """What both sides disagree about at the end, as far as it is known."""
+        found = []
+        for key, life in sorted(self.lives.items()):
+            if not (life.is_abandoned or self._is_foreign(key)):
+                found += [f"{life.name}: {it}" for it in _disagreements(life)]
+        return found
+
+    def _is_foreign(self, key: str) -> bool:
+        """Whether somebody has asked for it whose journal isn't there."""
+        return any(it.key == key and it.request not in self.sent for it in self.visits.values())
+
+    def story(self, stop: Optional[Stop]) -> Story:
+        """What the lines have come to."""
+        ends = self.disagreements() if stop is None or stop.is_difference else []
+        return Story(self.instance, self.events, stop, ends, dict(self.notes))
+
+
+def _disagreements(life: Life) -> list[str]:
+    state, held, found = life.record.state, life.held, []
+    if state == "ready":
+        if held.phase != "ready" or held.work != "-":
+            found.append(f"the platform records ready, and the broker has the row {held.phase}, pending {held.work}")
+        if life.resource != "whole":
+            found.append(f"the platform records ready, and the resource is {life.resource}")
+        if life.is_binding and life.resource == "whole" and life.number_of(life.recorded) != life.credentials:
+            found.append("the platform records other credentials than the resource has")
+    elif state in ("gone", "none"):
+        word = "gone" if state == "gone" else "nothing"
+        if held.is_held:
+            found.append(f"the platform records {word}, and the broker has the row {held.phase}, pending {held.work}")
+        if life.resource != "absent":
+            found.append(f"the platform records {word}, and the resource is {life.resource}")
+    return found
+
+
+def settings_of(lines: Sequence[Line], known: Mapping[str, Settings]) -> Settings | str:
+    """Those of the broker of an instance, or why they aren't known."""
+    processes = {it.process for it in lines if it.side == "broker"}
+    missing = sorted(it for it in processes if it not in known)
+    if missing:
+        return "the journal of a broker has no line `started`"
+    found = [known[it] for it in sorted(processes)] or list(known.values())[:1]
+    if any(it != found[0] for it in found):
+        return "the broker was restarted with other plans or another rule of the first Poll"
+    return found[0] if found else "no journal of a broker was given"

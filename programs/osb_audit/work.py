@@ -1,0 +1,185 @@
+"""The work: journals are split by instance, and each instance is judged, both by workers."""
+from __future__ import annotations
+
+import os
+from collections import Counter
+from itertools import accumulate
+from typing import Iterator, Mapping, NamedTuple, Optional, Sequence
+
+from osb_audit.judging import LOST, RECENT, Bucket, Difference, Gap, Judged, judge
+from osb_audit.lines import BadLine, Place
+from osb_audit.settings import Settings, settings_in
+from osb_audit.splitting import Heading, Split, Splitting, split
+from osb_replay_log.engines import Engine
+from osb_replay_log.faults import REFUSED_WORDS, Unreplayed, reason
+from osb_replay_log.logs import Log, Stretch, found, stretches
+from osb_replay_log.program import Program
+from osb_replay_log.progress import Progress
+from osb_replay_log.spool import Room
+
+_BUCKET = 16 << 20
+"""About how many bytes a bucket has."""
+_MOST_BUCKETS = 4096
+_NEVER = 1 << 63
+_ENDINGS = (".jsonl", ".jsonl.gz")
+
+
+class Work(NamedTuple):
+    """What is audited, by what, and where."""
+
+    logs: Sequence[Log]
+    names: Mapping[str, str]
+    """What each file is called in the report, by its path."""
+    program: Program
+    room: Room
+    chunk: int
+    """How many bytes of a journal a worker takes at once."""
+    progress: Progress
+    until: Optional[int] = None
+    """The time of the last lines that count, if the programs go on while their journals are read."""
+
+
+class Audited(NamedTuple):
+    """What came of it. Places are files with the numbers of lines, from 1."""
+
+    judged: list[Judged]
+    processes: Counter[str]
+    """How many processes of each side there are."""
+    lost: int
+    torn: list[str]
+    """The places of lines that were cut off."""
+    places: Places
+
+    @property
+    def differences(self) -> list[Difference]:
+        """Those of all instances, by their ids."""
+        return sorted((it for judged in self.judged for it in judged.differences), key=lambda it: it.instance)
+
+
+class Places:
+    """Which line of which file a line of a stretch is."""
+
+    def __init__(self, body: Sequence[Stretch], splits: Sequence[Split], names: Mapping[str, str]) -> None:
+        self._files = [names[it.log.path] for it in body]
+        before = [0, *accumulate(it.lines for it in splits)]
+        firsts = {it.log.path: at for at, it in reversed(list(enumerate(body)))}
+        self._before = [before[at] - before[firsts[it.log.path]] for at, it in enumerate(body)]
+
+    def told(self, place: Place) -> tuple[str, int]:
+        """The file, and the number of the line in it."""
+        return self._files[place.stretch], self._before[place.stretch] + place.line + 1
+
+
+def files_in(paths: Sequence[str]) -> dict[Log, str]:
+    """The files of these journals, each once, with the names by which the user knows them. A folder stands for all that
+    end with .jsonl or .jsonl.gz in it, or with a number behind that. Raises `Unreplayed` if one can't be read, and if
+    there is none in a folder.
+    """
+    logs: dict[Log, str] = {}
+    for path in paths:
+        if not os.path.isdir(path):
+            logs.setdefault(found(path), path)
+            continue
+        try:
+            names = sorted(it.path for it in os.scandir(path) if it.is_file() and _is_journal(it.name))
+        except OSError as error:
+            raise Unreplayed(REFUSED_WORDS, f"{path}: it can't be read: {reason(error)}") from error
+        if not names:
+            raise Unreplayed(REFUSED_WORDS, f"{path}: no file in it ends with .jsonl: name the folder of --journal")
+        for name in names:
+            logs.setdefault(found(name), name)
+    return logs
+
+
+def _is_journal(name: str) -> bool:
+    stem, _, last = name.rpartition(".")
+    return name.endswith(_ENDINGS) or last.isdigit() and stem.endswith(_ENDINGS)
+
+
+def audit(work: Work, engine: Engine) -> Audited:
+    """Has the journals split and each instance judged. Raises `Unreplayed` if a journal can't be used."""
+    body = [stretch for log in work.logs for stretch in stretches(log, 0, work.chunk)]
+    many = max(1, min(_MOST_BUCKETS, -(-sum(_size(it) for it in work.logs) // _BUCKET)))
+    splits = _split(work, engine, body, many)
+    places = Places(body, splits, work.names)
+    _check(body, splits, places)
+    headings = [it for split_ in splits for it in split_.headings]
+    settings = _settings(splits, places)
+    gaps = tuple(_gaps(headings, work.until))
+    counts = tuple(it.pieces for it in splits)
+    buckets = (Bucket(work.room, number, counts, work.program, settings, gaps) for number in range(many))
+    judged = _judge(work, engine, buckets, sum(it.events for it in splits), places)
+    torn = ["{}:{}".format(*places.told(Place(it.number, line))) for it in splits for line in it.torn]
+    return Audited(judged, _processes(headings), sum(map(_lost, headings)), torn, places)
+
+
+def _gaps(headings: Sequence[Heading], until: Optional[int]) -> Iterator[Gap]:
+    for it in headings:
+        if it.event == "lost":
+            yield Gap(it.before, it.time, LOST)
+    if until is not None:
+        yield Gap(until, _NEVER, RECENT)
+
+
+def _size(log: Log) -> int:
+    return log.size * 8 if log.is_gzip else log.size
+
+
+def _split(work: Work, engine: Engine, body: Sequence[Stretch], many: int) -> list[Split]:
+    given = (Splitting(work.room, number, stretch, many, work.chunk) for number, stretch in enumerate(body))
+    work.progress.begin()
+    splits = []
+    for it in engine.each(split, given):
+        splits.append(it)
+        work.progress.tell("split", sum(it.lines for it in splits), sum(it.lines for it in splits), False)
+    return sorted(splits, key=lambda it: it.number)
+
+
+def _check(body: Sequence[Stretch], splits: Sequence[Split], places: Places) -> None:
+    """Raises `Unreplayed` at the first line that is no line of a journal."""
+    for it in splits:
+        if it.bad is not None:
+            raise unusable(places, Place(it.number, it.bad[0]), it.bad[1])
+    for one, other, stretch, following in zip(splits, splits[1:], body, body[1:]):
+        is_within = stretch.log == following.log and other.lines > 0
+        if is_within and one.ends_torn and not other.begins_anew:
+            raise unusable(places, Place(one.number, one.torn[-1]), "it is no line of a journal")
+
+
+def unusable(places: Places, place: Place, why: str) -> Unreplayed:
+    """A line that can't be used."""
+    path, line = places.told(place)
+    return Unreplayed(REFUSED_WORDS, f"{path}: line {line}: {why}")
+
+
+def _settings(splits: Sequence[Split], places: Places) -> dict[str, Settings]:
+    settings: dict[str, Settings] = {}
+    for split_ in splits:
+        for it in split_.headings:
+            if (it.side, it.event) == ("broker", "started"):
+                try:
+                    settings[it.process] = settings_in(it.text)
+                except BadLine as error:
+                    raise unusable(places, Place(split_.number, it.line), str(error)) from error
+    return settings
+
+
+def _processes(headings: Sequence[Heading]) -> Counter[str]:
+    return Counter(side for side, _ in {(it.side, it.process) for it in headings})
+
+
+def _lost(heading: Heading) -> int:
+    return heading.missing if heading.event == "lost" else 0
+
+
+def _judge(work: Work, engine: Engine, buckets: Iterator[Bucket], lines: int, places: Places) -> list[Judged]:
+    judged: list[Judged] = []
+    done = 0
+    work.progress.begin()
+    for it in engine.each(judge, buckets):
+        if it.bad is not None:
+            raise unusable(places, *it.bad)
+        judged.append(it)
+        done += it.lines
+        work.progress.tell("judged", done, lines, True)
+    return judged
