@@ -6,9 +6,11 @@ import re
 import signal
 import socket
 import subprocess
+import time
 from pathlib import Path
 
 import pytest
+from conform.auditing import audited
 from conform.login import ENVIRONMENT
 from conform.small_broker import SmallBroker
 from conform.twice_broker import TwiceBroker
@@ -30,17 +32,22 @@ def ran(line: list[str]) -> subprocess.CompletedProcess[str]:
     return subprocess.run(line, env=ENVIRONMENT, stdin=subprocess.DEVNULL, capture_output=True, text=True, timeout=120)
 
 
-def test_broker_loses_nothing(storm: Path, served: str, tmp_path: Path) -> None:
-    """osb-broker loses nothing, whether it creates at once or by a worker."""
+def test_broker_loses_nothing(storm: Path, served: str, replay: Path, tmp_path: Path) -> None:
+    """osb-broker loses nothing, whether it creates at once or by a worker. Each request of both storms is in a journal,
+    and the journals of both sides are as the model says.
+    """
     listed = f"ls {tmp_path / 'state' / 'instances'}"
+    files = "--json", str(tmp_path / "json"), "--journal", str(tmp_path / "journals")
     for plan in ("at-once", "by-worker"):
-        arguments = "--service", "folder", "--plan", plan, "--list-command", listed, "--json", str(tmp_path / "json")
-        done = ran(command(storm, served, *arguments))
+        done = ran(command(storm, served, "--service", "folder", "--plan", plan, "--list-command", listed, *files))
         assert done.returncode == 0, done.stdout + done.stderr
         report = json.loads((tmp_path / "json").read_text())
         assert (report["lost"], report["false_records"], report["broken"], report["leftovers"]) == ([], [], [], [])
         assert report["converged"] and report["instances"] == 20 and report["bindings"] > 0 and report["requests"] > 40
         assert f"Each id begins with {report['prefix']}. The seed is 1.\n" in done.stdout
+    audit = audited(tmp_path / "journals", replay)
+    assert audit["instances"] == 40 and audit["events"] > 400, audit
+    assert not any("no journal" in it for it in audit["notes"]), audit
 
 
 def test_lost(storm: Path, tmp_path: Path) -> None:
@@ -78,6 +85,22 @@ def test_signal(storm: Path, number: int) -> None:
         assert small.instances == set()
 
 
+def test_hanging_command(storm: Path) -> None:
+    """Two signals end the program although a command of the user's hangs, and a child of it keeps its output open."""
+    with SmallBroker().running() as small:
+        line = command(storm, small.url, "--list-command", "sleep 1000 | cat")
+        with subprocess.Popen(line, env=ENVIRONMENT, stdout=subprocess.PIPE, text=True) as process:
+            until(lambda: len(small.instances) == 1, 30)
+            for _ in range(2):
+                process.send_signal(signal.SIGTERM)
+                time.sleep(0.5)
+            text, _ = process.communicate(timeout=10)
+        assert process.returncode == 3
+        assert [f"not deleted: instance {it}: the time for deletions was over\n" in text for it in small.instances] == [
+            True
+        ]
+
+
 def test_leftovers(storm: Path) -> None:
     """What can't be deleted is listed with its id, and the status says so. Nothing is tried with faults then."""
     with SmallBroker(delete=500).running() as small:
@@ -86,6 +109,7 @@ def test_leftovers(storm: Path) -> None:
         assert (done.returncode, set(listed)) == (3, small.instances) and len(listed) == 1
 
 
+@pytest.mark.long(12)
 def test_statuses(storm: Path, tmp_path: Path) -> None:
     with socket.create_server(("127.0.0.1", 0)) as free:
         unused = f"http://127.0.0.1:{free.getsockname()[1]}"
@@ -101,6 +125,9 @@ def test_statuses(storm: Path, tmp_path: Path) -> None:
             ["--faults", str(tmp_path / "none")],
             ["--kill-command", "true"],
             ["--fault-percent", "101"],
+            ["--journal", str(tmp_path / "faults")],
+            ["--list-command", "ls /nonexistent"],
+            ["--list-command", "true"],
         ):
             done = ran(command(storm, small.url, *wrong))
             assert (done.returncode, done.stderr.count("\n")) == (2, 1), (wrong, done.stderr)

@@ -8,10 +8,10 @@ from go.toolchain import NEEDS, SOURCES, TOOLS, Packages, needs
 
 
 @pytest.fixture(scope="session")
-def packages(library: Path, tmp_path_factory: pytest.TempPathFactory) -> Packages:
+def packages(library: Path) -> Packages:
     """Commands of Go over the packages in go/. What the programs are built with has to be installed."""
     needs(TOOLS)
     for name, package in NEEDS.items():
         if not (SOURCES / "src" / name).is_dir():
             pytest.skip(f"{name} isn't installed (Debian: {package})")
-    return Packages(library, tmp_path_factory.getbasetemp().parent / "go.lock")
+    return Packages(library)

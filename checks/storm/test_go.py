@@ -6,13 +6,14 @@ from go.toolchain import Packages
 
 pytestmark = pytest.mark.slow
 
-TAGS = "libsqlite3 storm"
+TAGS = "storm"
 
 
 def test_tests(packages: Packages) -> None:
     packages.test("./storm", tags=TAGS, race=True)
 
 
+@pytest.mark.long(15)
 def test_hook(packages: Packages) -> None:
     """The one place in the package broker, and that in the platform's program."""
     packages.test("./broker", tags=TAGS, options=("-run", "TestBindWithoutAvailable"), race=True)

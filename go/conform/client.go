@@ -52,12 +52,16 @@ func newClient(c Config) (*client, error) {
 	if base.User != nil || base.RawQuery != "" || base.Fragment != "" {
 		return nil, errors.New("the URL of the broker must have no user, query or fragment")
 	}
+	var transport http.RoundTripper = &http.Transport{
+		MaxResponseHeaderBytes: 64 << 10, DisableCompression: true, IdleConnTimeout: time.Second,
+	}
+	if c.Transport != nil {
+		transport = c.Transport(transport)
+	}
 	return &client{
 		base: strings.TrimRight(base.String(), "/"), user: c.User, password: c.Password, within: c.RequestTime,
 		http: &http.Client{
-			Transport: &http.Transport{
-				MaxResponseHeaderBytes: 64 << 10, DisableCompression: true, IdleConnTimeout: time.Second,
-			},
+			Transport:     transport,
 			CheckRedirect: func(*http.Request, []*http.Request) error { return http.ErrUseLastResponse },
 		},
 	}, nil

@@ -6,6 +6,7 @@ import (
 	"encoding/hex"
 	"errors"
 	"fmt"
+	"net/http"
 	"time"
 )
 
@@ -20,6 +21,8 @@ type Config struct {
 	RequestTime   time.Duration
 	OperationTime time.Duration // for an asynchronous operation
 	Pause         time.Duration // between two polls
+	// Transport wraps what sends the requests, or is nil.
+	Transport func(http.RoundTripper) http.RoundTripper
 }
 
 // ErrUnreachable is the error of Run if the broker doesn't answer the first request.

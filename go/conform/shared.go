@@ -70,6 +70,15 @@ func (r *Runner) Provision(ctx context.Context, instance string) Answer {
 	return Answer{x.status, x.object, x.sent(), x.came()}
 }
 
+// Bind asks for a binding of the target. CleanUp deletes it.
+func (r *Runner) Bind(ctx context.Context, instance, binding string) Answer {
+	k := key{instance, binding}
+	r.ledger.sending(k, r.target.pair)
+	x := r.client.send(ctx, r.bind(k, nil))
+	r.ledger.created(k, x)
+	return Answer{x.status, x.object, x.sent(), x.came()}
+}
+
 // An Owed is an instance or a binding of the target that somebody else has asked for.
 type Owed struct {
 	Instance, Binding string // Binding is empty for an instance

@@ -1,6 +1,8 @@
 package faults
 
 import (
+	"bufio"
+	"bytes"
 	"context"
 	"errors"
 	"fmt"
@@ -20,13 +22,13 @@ type carriage struct {
 	exchange   *Exchange
 }
 
-const (
-	gotCut    = "a cut connection"
-	gotNobody = "no answer"
+var (
+	gotCut    = Got{Words: "a cut connection"}
+	gotNobody = Got{Words: "no answer"}
 )
 
 // carry carries the request, and returns what the platform got.
-func (c *carriage) carry() string {
+func (c *carriage) carry() Got {
 	switch c.fault.Kind {
 	case RequestLost:
 		return gotCut
@@ -47,7 +49,7 @@ func (c *carriage) carry() string {
 }
 
 // answer has the broker answer, and gives the platform what the fault leaves of that.
-func (c *carriage) answer() string {
+func (c *carriage) answer() Got {
 	if c.fault.Kind == RepeatedLate {
 		c.later()
 	}
@@ -76,7 +78,7 @@ func (c *carriage) answer() string {
 }
 
 // come gives the platform what the fault leaves of an answer.
-func (c *carriage) come(answer *answer) string {
+func (c *carriage) come(answer *answer) Got {
 	whole := answer.bytes()
 	switch c.fault.Kind {
 	case AnswerLost:
@@ -132,40 +134,59 @@ func (c *carriage) context() context.Context { return context.Background() }
 // deliver sends the request to the broker, as far as the kind says, and notes the answer.
 func (c *carriage) deliver(ctx context.Context, kind Kind) (*answer, error) {
 	at := c.Journal.deliver(c.exchange)
-	answer, err := c.upstream.send(ctx, c.request, c.body, kind, c.fault.Share)
+	answer, err := c.upstream(at).send(ctx, c.request, c.body, kind, c.fault.Share)
 	c.Journal.delivered(c.exchange, at, answer, err)
 	return answer, err
 }
 
+// upstream returns which broker a copy reaches, counted from 0.
+func (c *carriage) upstream(at int) upstream {
+	const bits = 4 // of Pick, for each copy
+	return c.upstreams[(c.fault.Pick>>(bits*at))%len(c.upstreams)]
+}
+
 // give writes bytes to the platform, and returns what that is.
-func (c *carriage) give(text []byte) string {
+func (c *carriage) give(text []byte) Got {
 	_ = c.connection.SetWriteDeadline(time.Now().Add(c.AnswerTime))
 	if _, err := c.connection.Write(text); err != nil {
 		return gotNobody
 	}
-	return shown(text)
+	return gotOf(text)
 }
 
-// shown says in words what was given.
-func shown(text []byte) string {
+// gotOf returns what a platform got that got these bytes.
+func gotOf(text []byte) Got {
 	const before, head = len("HTTP/1.1 "), len("HTTP/1.1 200")
 	if len(text) < head {
-		return "a few bytes of the answer"
+		return Got{Words: "a few bytes of the answer"}
 	}
-	return fmt.Sprintf("status %s, %d bytes", text[before:head], len(text))
+	got := Got{Words: fmt.Sprintf("status %s, %d bytes", text[before:head], len(text))}
+	response, err := http.ReadResponse(bufio.NewReader(bytes.NewReader(text)), nil)
+	if err != nil { // the head was cut
+		return got
+	}
+	defer response.Body.Close()
+	got.Status = response.StatusCode
+	got.Body, err = io.ReadAll(response.Body)
+	got.IsWhole = err == nil
+	return got
 }
 
 // giveSlowly writes bytes to the platform in pieces. The whole takes at most as long as the bound of delays.
-func (c *carriage) giveSlowly(text []byte) string {
+func (c *carriage) giveSlowly(text []byte) Got {
 	const pieces = 10
 	pause := time.Duration(c.fault.Share * float64(c.Late) / pieces)
 	for at := 0; at < pieces; at++ {
 		from, to := bounds(len(text), pieces, at)
 		if _, err := c.connection.Write(text[from:to]); err != nil || !c.wait(pause) {
-			return "a part of the answer"
+			got := gotOf(text[:from])
+			got.Words = "a part of the answer"
+			return got
 		}
 	}
-	return shown(text) + ", slowly"
+	got := gotOf(text)
+	got.Words += ", slowly"
+	return got
 }
 
 // untilEnd waits until the platform has given up.

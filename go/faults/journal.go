@@ -10,12 +10,21 @@ import (
 type Exchange struct {
 	Number            Number
 	Fault             Kind
-	Instance, Binding string // the ids; Binding is empty for an instance
-	Method, Target    string // Target is the path with the query
+	Instance, Binding string      // the ids; Binding is empty for an instance
+	Method, Target    string      // Target is the path with the query
+	Header            http.Header // without Authorization
 	Body              []byte
 	Begun, Ended      time.Duration // since the start of the Journal; Ended is 0 until the platform has what it gets
 	Deliveries        []Delivery
-	Got               string // what the platform got, in words
+	Got               Got // what the platform got
+}
+
+// A Got is what a platform got in answer to a request.
+type Got struct {
+	Status  int // 0 if no status came
+	Body    []byte
+	IsWhole bool // all of an answer came
+	Words   string
 }
 
 // A Delivery is a copy of a request that was sent to the broker.
@@ -61,7 +70,7 @@ func (j *Journal) begin(x Exchange) *Exchange {
 	return &x
 }
 
-func (j *Journal) end(x *Exchange, got string) {
+func (j *Journal) end(x *Exchange, got Got) {
 	j.mutex.Lock()
 	defer j.mutex.Unlock()
 	x.Ended, x.Got = j.Now(), got

@@ -4,8 +4,11 @@ import "context"
 
 // Minimize returns the shortest part of a list that it finds for which test returns true: no part of the result that
 // lacks one fault passes the test. This is the algorithm ddmin of Andreas Zeller. The list itself passes the test. If
-// ctx is done, Minimize returns what it has found so far.
-func Minimize[T any](ctx context.Context, list []T, test func(context.Context, []T) bool) []T {
+// ctx is done before, Minimize returns what it has found so far, and false: it may not be the shortest. A test that ctx
+// has cut off must return false.
+func Minimize[T any](
+	ctx context.Context, list []T, test func(context.Context, []T) bool,
+) (shortest []T, isShortest bool) {
 	for pieces := 2; len(list) > 0 && ctx.Err() == nil; {
 		if pieces > len(list) {
 			pieces = len(list)
@@ -15,12 +18,12 @@ func Minimize[T any](ctx context.Context, list []T, test func(context.Context, [
 		case next != nil:
 			list, pieces = next, rest
 		case pieces == len(list):
-			return list
+			return list, ctx.Err() == nil
 		default:
 			pieces *= 2
 		}
 	}
-	return list
+	return list, len(list) == 0
 }
 
 // smaller returns a piece of a list that passes the test, or the list without a piece, and into how many pieces it is

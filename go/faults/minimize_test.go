@@ -36,9 +36,9 @@ func TestMinimize(t *testing.T) {
 	for _, needed := range [][]int{{0}, {99}, {41}, {0, 99}, {3, 4}, {1, 50, 51, 98}, {10, 20, 30, 40, 50, 60, 70}} {
 		t.Run(fmt.Sprint(needed), func(t *testing.T) {
 			calls := 0
-			list := Minimize(context.Background(), numbers(100), loserOf(&calls, needed...))
-			if !reflect.DeepEqual(list, needed) {
-				t.Errorf("%v is left", list)
+			list, isShortest := Minimize(context.Background(), numbers(100), loserOf(&calls, needed...))
+			if !reflect.DeepEqual(list, needed) || !isShortest {
+				t.Errorf("%v is left, the shortest: %v", list, isShortest)
 			}
 			if calls > 500 {
 				t.Errorf("the test was called %d times", calls)
@@ -49,32 +49,48 @@ func TestMinimize(t *testing.T) {
 
 func TestMinimizeSmallLists(t *testing.T) {
 	calls := 0
-	if list := Minimize(context.Background(), []int{}, loserOf(&calls)); len(list) != 0 {
-		t.Error(list)
-	}
-	if list := Minimize(context.Background(), []int{5}, loserOf(&calls, 5)); !reflect.DeepEqual(list, []int{5}) {
-		t.Error(list)
-	}
-	if list := Minimize(context.Background(), numbers(3), loserOf(&calls, 0, 1, 2)); !reflect.DeepEqual(list, numbers(3)) {
-		t.Error(list)
+	for _, all := range [][]int{{}, {5}, numbers(3)} {
+		list, isShortest := Minimize(context.Background(), append([]int{}, all...), loserOf(&calls, all...))
+		if fmt.Sprint(list) != fmt.Sprint(all) || !isShortest {
+			t.Errorf("%v of %v, the shortest: %v", list, all, isShortest)
+		}
 	}
 }
 
-// At the end of the time, what was found so far passes the test.
+// At the end of the time, what was found so far passes the test, and isn't called the shortest.
 func TestMinimizeEnds(t *testing.T) {
 	ctx, cancel := context.WithCancel(context.Background())
 	calls := 0
 	loses := loserOf(&calls, 3, 60)
-	list := Minimize(ctx, numbers(100), func(ctx context.Context, list []int) bool {
+	list, isShortest := Minimize(ctx, numbers(100), func(ctx context.Context, list []int) bool {
 		if calls == 8 {
 			cancel()
 		}
 		return loses(ctx, list)
 	})
-	if !loses(ctx, list) || len(list) == 2 || len(list) == 100 {
-		t.Errorf("%v is left", list)
+	if !loses(ctx, list) || len(list) == 2 || len(list) == 100 || isShortest {
+		t.Errorf("%v is left, the shortest: %v", list, isShortest)
 	}
 	if calls > 10 {
 		t.Errorf("the test was called %d times", calls)
+	}
+}
+
+// A list is the shortest only if each of its parts was tried to its end: also the last one.
+func TestMinimizeEndsAtLast(t *testing.T) {
+	for last := 1; last <= 8; last++ {
+		ctx, cancel := context.WithCancel(context.Background())
+		calls := 0
+		loses := loserOf(&calls, 0, 1, 2)
+		list, isShortest := Minimize(ctx, numbers(3), func(ctx context.Context, list []int) bool {
+			if calls+1 == last {
+				cancel()
+			}
+			return loses(ctx, list)
+		})
+		if wasWhole := ctx.Err() == nil; len(list) != 3 || isShortest != wasWhole || (calls < last) != wasWhole {
+			t.Errorf("cut at %d of %d: %v, the shortest: %v", last, calls, list, isShortest)
+		}
+		cancel()
 	}
 }

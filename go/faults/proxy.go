@@ -18,7 +18,10 @@ const longestBody = 1 << 20
 
 // A Config is what a Proxy works with.
 type Config struct {
+	Address string   // where to listen; a free port of this machine if it is empty
 	Broker  *url.URL // http or https; a path is a prefix of every request
+	// Others are further brokers over the same store. Each copy of a request reaches Broker or one of them, by chance.
+	Others  []*url.URL
 	Source  *Source
 	Journal *Journal
 	// Place returns the Place of an instance, or of a binding of it. The request of an instance that isn't one of the
@@ -26,6 +29,8 @@ type Config struct {
 	Place func(instance, binding string) (Place, bool)
 	// Catalogue answers the requests for the catalogue in the broker's place, without faults.
 	Catalogue []byte
+	// ForwardsOthers has the requests for the catalogue, and those without a Place, reach the broker without faults.
+	ForwardsOthers bool
 	// RequestTime is how long the platform waits for an answer.
 	RequestTime time.Duration
 	// Late is the bound of every delay: a copy of a request reaches the broker within this time after the request.
@@ -41,27 +46,34 @@ type Config struct {
 // A Proxy listens at a port of its own. Each connection carries one request.
 type Proxy struct {
 	Config
-	listener net.Listener
-	upstream upstream
-	ctx      context.Context // of everything that the Proxy still does; cancel ends it
-	cancel   func()
+	listener  net.Listener
+	upstreams []upstream
+	ctx       context.Context // of everything that the Proxy still does; cancel ends it
+	cancel    func()
 
 	mutex       sync.Mutex
 	connections map[net.Conn]bool
 	pending     int // requests that may still reach the broker
+	others      int // requests without a place
 	restarts    int
 	restarting  sync.Mutex
 	group       sync.WaitGroup
 }
 
-// Listen returns a Proxy that listens at a free port of this machine. Close ends it.
+// Listen returns a Proxy that listens. Close ends it.
 func Listen(config Config) (*Proxy, error) {
-	listener, err := net.Listen("tcp", "127.0.0.1:0")
+	address := config.Address
+	if address == "" {
+		address = "127.0.0.1:0"
+	}
+	listener, err := net.Listen("tcp", address)
 	if err != nil {
 		return nil, err
 	}
 	p := &Proxy{Config: config, listener: listener, connections: map[net.Conn]bool{}}
-	p.upstream = upstream{broker: config.Broker, within: config.AnswerTime}
+	for _, it := range append([]*url.URL{config.Broker}, config.Others...) {
+		p.upstreams = append(p.upstreams, upstream{broker: it, within: config.AnswerTime})
+	}
 	p.ctx, p.cancel = context.WithCancel(context.Background())
 	p.group.Add(1)
 	go func() {
@@ -128,30 +140,43 @@ func (p *Proxy) accept() {
 
 // serve carries the request of a connection.
 func (p *Proxy) serve(connection net.Conn) {
-	defer p.carrying()()
 	request, body, err := read(connection)
 	if err != nil || p.ctx.Err() != nil {
 		return
 	}
-	if strings.HasSuffix(request.URL.Path, "/v2/catalog") {
+	defer p.carrying()()
+	if strings.HasSuffix(request.URL.Path, "/v2/catalog") && !p.ForwardsOthers {
 		_, _ = connection.Write((&answer{status: http.StatusOK, header: jsonHeader(), body: p.Catalogue}).bytes())
 		return
 	}
 	instance, binding := idsOf(request.URL)
 	place, isOurs := p.Place(instance, binding)
-	if !isOurs {
+	if !isOurs && !p.ForwardsOthers {
 		_, _ = connection.Write(page(http.StatusBadGateway))
 		return
 	}
-	fault := p.Source.Next(place)
+	fault := p.fault(place, isOurs)
+	header := request.Header.Clone()
+	header.Del("Authorization")
 	carried := &carriage{
 		Proxy: p, connection: connection, request: request, body: body, fault: fault,
 		exchange: p.Journal.begin(Exchange{
-			Number: fault.Number, Fault: fault.Kind, Instance: instance, Binding: binding,
-			Method: request.Method, Target: request.URL.RequestURI(), Body: body,
+			Number: fault.Number, Fault: fault.Kind, Instance: instance, Binding: binding, Method: request.Method,
+			Target: request.URL.RequestURI(), Header: header, Body: body,
 		}),
 	}
 	p.Journal.end(carried.exchange, carried.carry())
+}
+
+// fault returns what befalls a request. One without a place has no fault, and reaches the brokers in turn.
+func (p *Proxy) fault(place Place, isOurs bool) Fault {
+	if isOurs {
+		return p.Source.Next(place)
+	}
+	p.mutex.Lock()
+	defer p.mutex.Unlock()
+	p.others++
+	return Fault{Kind: None, Pick: p.others}
 }
 
 // carrying counts a request that may still reach the broker, until the function that it returns is called.
@@ -197,6 +222,12 @@ func read(connection net.Conn) (*http.Request, []byte, error) {
 	request, err := http.ReadRequest(bufio.NewReader(connection))
 	if err != nil {
 		return nil, nil, err
+	}
+	if strings.EqualFold(request.Header.Get("Expect"), "100-continue") {
+		if _, err := io.WriteString(connection, "HTTP/1.1 100 Continue\r\n\r\n"); err != nil {
+			return nil, nil, err
+		}
+		request.Header.Del("Expect")
 	}
 	body, err := io.ReadAll(io.LimitReader(request.Body, longestBody+1))
 	if err == nil && len(body) > longestBody {

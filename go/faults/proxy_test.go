@@ -172,7 +172,7 @@ func TestKinds(t *testing.T) {
 				return whole == it.later && broken == it.broken
 			})
 			all := p.Journal.Exchanges()
-			if len(all) != 1 || all[0].Fault != it.kind || all[0].Number.String() != "1.1" || all[0].Got == "" {
+			if len(all) != 1 || all[0].Fault != it.kind || all[0].Number.String() != "1.1" || all[0].Got.Words == "" {
 				t.Fatalf("the journal has %+v", all)
 			}
 			if again := put(p, path); !answered(again) {
@@ -309,6 +309,39 @@ func TestOthersUntouched(t *testing.T) {
 }
 
 // The path of the broker's URL is a prefix, and the query stays.
+// Several brokers each get some of the requests, with a place and without one. A copy may reach another broker.
+func TestSeveralBrokers(t *testing.T) {
+	one, other := &counting{}, &counting{}
+	p := between(t, one, None, func(c *Config) {
+		server := httptest.NewServer(other)
+		t.Cleanup(server.Close)
+		at, err := url.Parse(server.URL)
+		if err != nil {
+			t.Fatal(err)
+		}
+		c.Others, c.ForwardsOthers = []*url.URL{at}, true
+		c.Source = BySeed(1, 1, Weights{{Repeated, 1}})
+	})
+	counts := func() [2]int {
+		ofOne, _, _ := one.counts()
+		ofOther, _, _ := other.counts()
+		return [2]int{ofOne, ofOther}
+	}
+	for request := 0; request < 8; request++ {
+		put(p, path)
+	}
+	if c := counts(); c[0] < 3 || c[1] < 3 || c[0]+c[1] != 16 || c[0]%2 == 0 {
+		t.Errorf("%v of 8 requests that were repeated", c)
+	}
+	before := counts()
+	for request := 0; request < 4; request++ {
+		put(p, "/v2/service_instances/theirs")
+	}
+	if c := counts(); c[0]-before[0] != 2 || c[1]-before[1] != 2 {
+		t.Errorf("%v of 4 requests without a place", c)
+	}
+}
+
 func TestPrefix(t *testing.T) {
 	broker := &counting{}
 	p := between(t, broker, None, func(c *Config) { c.Broker.Path = "/postgres/" })

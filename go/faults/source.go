@@ -81,6 +81,23 @@ func (s *Source) Given() []Numbered {
 	return given
 }
 
+// Unmet returns the faults of the list that no request has had, in the order of their numbers.
+func (s *Source) Unmet() (unmet []Numbered) {
+	s.mutex.Lock()
+	defer s.mutex.Unlock()
+	isMet := map[Number]bool{}
+	for _, it := range s.given {
+		isMet[it.Number] = true
+	}
+	for number, kind := range s.list {
+		if !isMet[number] {
+			unmet = append(unmet, Numbered{number, kind})
+		}
+	}
+	sortList(unmet)
+	return unmet
+}
+
 // Chance returns random numbers that are the same for the same seed and the same words.
 func Chance(seed int64, words ...string) *rand.Rand {
 	hash := fnv.New64a()

@@ -1,7 +1,9 @@
 package faults
 
 import (
+	"fmt"
 	"reflect"
+	"strings"
 	"testing"
 )
 
@@ -58,5 +60,24 @@ func TestByList(t *testing.T) {
 	ended.End()
 	if fault := ended.Next(Place{Instance: 1}); fault.Kind != None || len(ended.Given()) != 0 {
 		t.Errorf("after the end, the fault is %+v", fault)
+	}
+}
+
+// A fault of a list that no request has had, or only after the end, is unmet. Faults by a seed never are.
+func TestUnmet(t *testing.T) {
+	list, err := ReadList(strings.NewReader("9.1 hang-up\n2.1 hang-up\n2/1.1 hang-up\n1.2 answer-lost\n1.1 answer-lost"))
+	if err != nil {
+		t.Fatal(err)
+	}
+	s := ByList(1, list)
+	s.Next(Place{Instance: 1})
+	s.Next(Place{Instance: 2, Binding: 1})
+	s.End()
+	s.Next(Place{Instance: 1})
+	if text := fmt.Sprint(s.Unmet()); text != "[1.2 answer-lost 2.1 hang-up 9.1 hang-up]" {
+		t.Error(text)
+	}
+	if unmet := BySeed(1, 0.5, StandardWeights(false)).Unmet(); len(unmet) > 0 {
+		t.Errorf("%v", unmet)
 	}
 }

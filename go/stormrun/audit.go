@@ -15,15 +15,16 @@ type DifferenceKind int
 
 // The kinds of differences.
 const (
-	Lost  DifferenceKind = iota // it exists, and the platform has no record, or one that says that nothing exists
-	False                       // the record says ready, and it doesn't exist
-	Stuck                       // the record hasn't converged
+	Lost     DifferenceKind = iota // it exists, and the platform has no record, or one that says that nothing exists
+	False                          // the record says ready, and it doesn't exist
+	Stuck                          // the record hasn't converged
+	Disagree                       // the platform's record, the broker's row and what exists disagree in something else
 )
 
 // compare returns what records and what exists disagree in at the end, in the order of the ids.
 func compare(records map[Key]Record, sight Sight) (all differences) {
 	for key, it := range sight.Of {
-		if record := records[key]; it == Exists && record.isEnded() {
+		if record := records[key]; (it == Exists || it == Partial) && record.isEnded() {
 			all = append(all, Difference{key, Lost, lostBecause(record), record})
 		}
 	}
@@ -33,13 +34,20 @@ func compare(records map[Key]Record, sight Sight) (all differences) {
 	for key, record := range records {
 		switch {
 		case !record.Rests:
-			all = append(all, Difference{key, Stuck, "its record is still " + record.State, record})
-		case record.State == stateReady && sight.Of[key] == Missing:
+			all = append(all, Difference{key, Stuck, stuckBecause(record), record})
+		case record.State == stateReady && (sight.Of[key] == Missing || sight.Of[key] == Partial):
 			all = append(all, Difference{key, False, "its record says ready, and it doesn't exist", record})
 		}
 	}
 	sortDifferences(all)
 	return all
+}
+
+func stuckBecause(record Record) string {
+	if record.isEnded() { // only its last deletion is still sent
+		return "its last deletion isn't answered yet"
+	}
+	return "its record is still " + record.State
 }
 
 func lostBecause(record Record) string {

@@ -11,7 +11,7 @@ import (
 
 var (
 	one     = Key{Instance: "one"}
-	binding = Key{"one", "b"}
+	binding = Key{Instance: "one", Binding: "b"}
 	since   = time.Unix(1000, 0)
 )
 
@@ -31,6 +31,8 @@ func shown(all []Difference) string {
 // Each kind of difference is found at the end, and nothing else.
 func TestCompare(t *testing.T) {
 	working := Record{State: "cleaning", Since: since, Known: true}
+	lastOfGone := Record{State: "gone", Since: since, Known: true}
+	lastOfWithdrawn := Record{State: "withdrawn", Since: since, Known: true}
 	for _, it := range []struct {
 		name   string
 		record *Record
@@ -49,6 +51,8 @@ func TestCompare(t *testing.T) {
 		{"unsettled and exists", point(recorded("unsettled")), Exists, ""},
 		{"working and exists", &working, Exists, "2 one/: its record is still cleaning"},
 		{"working and missing", &working, Missing, "2 one/: its record is still cleaning"},
+		{"last deletion of gone", &lastOfGone, Missing, "2 one/: its last deletion isn't answered yet"},
+		{"last deletion of withdrawn", &lastOfWithdrawn, Unknown, "2 one/: its last deletion isn't answered yet"},
 	} {
 		records := map[Key]Record{}
 		if it.record != nil {

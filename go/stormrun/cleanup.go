@@ -12,17 +12,19 @@ import (
 
 // deleteAll deletes everything that a run may have created, and returns what couldn't be deleted, except what an
 // earlier run has returned.
-func (s *Storm) deleteAll(ctx context.Context, found *result) []conform.Leftover {
+func (s *Storm) deleteAll(running, deleting context.Context, found *result) []conform.Leftover {
 	for _, key := range found.keys.all() {
 		if it, isOwed := owed(key, found, s.config.Broker.RequestTime); isOwed {
 			s.broker.Owe(it)
 		}
 	}
-	left := s.cleanUp(ctx)
-	left = append(left, s.stillListed(ctx, left)...)
+	left := s.cleanUp(deleting)
+	looking, cancel := lingering(running, deleting)
+	defer cancel()
+	left = append(left, s.stillListed(looking, left)...)
 	var news []conform.Leftover
 	for _, it := range left {
-		if key := (Key{it.Instance, it.Binding}); !s.left[key] {
+		if key := (Key{Instance: it.Instance, Binding: it.Binding}); !s.left[key] {
 			s.left[key] = true
 			news = append(news, it)
 		}
@@ -69,7 +71,7 @@ func (s *Storm) stillListed(ctx context.Context, known []conform.Leftover) (left
 	}
 	isKnown := map[Key]bool{}
 	for _, it := range known {
-		isKnown[Key{it.Instance, it.Binding}] = true
+		isKnown[Key{Instance: it.Instance, Binding: it.Binding}] = true
 	}
 	for key, it := range sight.Of {
 		if it == Exists && !isKnown[key] {

@@ -21,6 +21,7 @@ type Config struct {
 	MinimizeTime      time.Duration // for the runs that shrink the list of faults; 0 for none
 	Commands          Commands
 	Folder            string // of the platform's store
+	Journal           string // the folder below which the platform's journal is written, or empty for none
 }
 
 // Commands are commands of the shell. Each may be empty.

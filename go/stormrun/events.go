@@ -8,14 +8,6 @@ import (
 	"pippinterm/platform"
 )
 
-// An Event is something that has happened to an instance or a binding, besides its requests.
-type Event struct {
-	At   time.Duration // since the start of the run
-	Key  Key           // empty if it is about the broker
-	Who  string        // operator, record, platform or broker
-	What string
-}
-
 // events are those of a run. Any number of goroutines use them.
 type events struct {
 	platform.Silent
@@ -29,7 +21,7 @@ type events struct {
 func (e *events) add(key Key, who, what string) {
 	e.mutex.Lock()
 	defer e.mutex.Unlock()
-	e.all = append(e.all, Event{e.now(), key, who, what})
+	e.all = append(e.all, Event{At: e.now(), Key: key, Who: who, What: what})
 }
 
 // list returns all events, in their order.
@@ -72,8 +64,10 @@ func (e *events) Orphan(key platform.Key, status int, isFound bool) {
 	if !isFound {
 		return
 	}
-	found := Event{e.now(), e.keyOf(key), "platform",
-		fmt.Sprintf("it existed though its record says gone: the last deletion was answered with %d", status)}
+	found := Event{
+		At: e.now(), Key: e.keyOf(key), Who: "platform",
+		What: fmt.Sprintf("it existed though its record says gone: the last deletion was answered with %d", status),
+	}
 	e.mutex.Lock()
 	defer e.mutex.Unlock()
 	e.all, e.found = append(e.all, found), append(e.found, found)

@@ -1,35 +1,59 @@
 package stormrun
 
 import (
-	_ "embed"
-	"html/template"
+	"fmt"
 	"io"
-)
+	"strings"
 
-//go:embed report.html
-var pageText string
+	"pippinterm/stormreport"
+)
 
 // WriteHTML writes the report as one page that needs nothing else: no script, no font, and nothing from a network.
 func (r *Report) WriteHTML(w io.Writer) error {
-	page, err := template.New("report").Parse(pageText)
-	if err != nil {
-		return err
+	page := &stormreport.Page{
+		Title:   "Storm against " + r.URL,
+		Summary: r.verdict(),
+		Minimal: r.Minimal, MinimalTitle: r.minimalTitle(),
+		Sections: []stormreport.Section{
+			{Title: "Lost", Findings: r.Lost, Kills: r.kills}, {Title: "False records", Findings: r.False, Kills: r.kills},
+			{Title: "Not converged", Findings: r.Stuck, Kills: r.kills},
+			{Title: "Disagreements", Findings: r.Disagree, Kills: r.kills},
+			{Title: "Lost with this list of faults", Findings: r.MinimalLost, Kills: r.minimalKills},
+		},
+		Course: r.course, Kills: r.kills, Noun: "Answer", Broken: r.Broken, Given: r.Given,
 	}
-	type section struct {
-		Title    string
-		Findings []Finding
-		Picture  *picture
+	if r.Programs != nil {
+		page.Title = "Storm of osb-broker and osb-platform"
 	}
-	var sections []section
-	for _, it := range []section{
-		{Title: "Lost", Findings: r.Lost}, {Title: "False records", Findings: r.False},
-		{Title: "Not converged", Findings: r.Stuck},
-		{Title: "Lost with the shortest list of faults", Findings: r.MinimalLost},
-	} {
-		if len(it.Findings) > 0 {
-			it.Picture = drawn(it.Findings)
-			sections = append(sections, it)
-		}
+	r.addFacts(page)
+	return page.Write(w)
+}
+
+// addFacts adds the rows of the table of facts.
+func (r *Report) addFacts(page *stormreport.Page) {
+	page.Add("Service and plan", r.Service+", "+r.Plan)
+	page.Add("Seed", fmt.Sprint(r.Seed))
+	page.Add("Prefix of all ids", r.Prefix)
+	page.Add("Created", fmt.Sprintf("%d instances, %d bindings", r.Instances, r.Bindings))
+	page.Add("Requests", strings.Join(append([]string{fmt.Sprint(r.Requests)}, stormreport.KindLines(r.Counts)...), "; "))
+	if r.Programs != nil {
+		page.Add("Kills and pauses", r.Programs.lines()...)
+		page.Add("Wrong", r.Programs.problems()...)
+	} else {
+		page.Add("Restarts of the broker", fmt.Sprint(r.Restarts))
 	}
-	return page.Execute(w, map[string]any{"Report": r, "Sections": sections, "Convergence": r.convergence()})
+	page.Add("What exists", r.Inventory)
+	page.Add("Not asked for", r.unasked()...)
+	page.Add("Faults of the list", stormreport.UnmetLines(r.Unmet)...)
+	if r.Ended != "" {
+		page.Add("Ended", r.Ended)
+	}
+	page.Add("Note", r.Notes...)
+	if r.MinimizeEnded != "" {
+		page.Add("Note", r.MinimizeEnded)
+	}
+	page.Add("Failed", r.Failed...)
+	for _, it := range r.Leftovers {
+		page.Add("Not deleted", it.String())
+	}
 }

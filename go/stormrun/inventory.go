@@ -1,12 +1,11 @@
 package stormrun
 
 import (
-	"bufio"
-	"bytes"
 	"context"
 	"fmt"
-	"os/exec"
 	"strings"
+
+	"pippinterm/shell"
 )
 
 // An Existence is whether something exists.
@@ -17,6 +16,7 @@ const (
 	Unknown Existence = iota
 	Exists
 	Missing
+	Partial // a part of it exists, which nobody can use
 )
 
 // A Sight is what exists. A key that it lacks is Unknown.
@@ -81,19 +81,8 @@ func (l listing) Look(ctx context.Context, keys []Key) (Sight, error) {
 
 // rows returns the keys of the run that a command prints, with so many ids on each line.
 func (l listing) rows(ctx context.Context, command string, ids int) (rows []Key, err error) {
-	printed, err := output(ctx, command)
-	if err != nil {
-		return nil, err
-	}
-	lines := bufio.NewScanner(bytes.NewReader(printed))
-	for lines.Scan() {
-		words := strings.Fields(lines.Text())
-		if len(words) == 0 {
-			continue
-		}
-		if len(words) != ids {
-			return nil, fmt.Errorf("the line %.100q doesn't have %d ids", lines.Text(), ids)
-		}
+	printed, err := shell.Rows(ctx, command, ids)
+	for _, words := range printed {
 		key := Key{Instance: words[0]}
 		if ids == 2 {
 			key.Binding = words[1]
@@ -102,26 +91,5 @@ func (l listing) rows(ctx context.Context, command string, ids int) (rows []Key,
 			rows = append(rows, key)
 		}
 	}
-	return rows, lines.Err()
-}
-
-// output runs a command of the shell, and returns what it prints.
-func output(ctx context.Context, command string) ([]byte, error) {
-	made := exec.CommandContext(ctx, "/bin/sh", "-c", command)
-	made.SysProcAttr = ownGroup()
-	printed, err := made.Output()
-	if err != nil {
-		return nil, fmt.Errorf("%w%s", err, stderrOf(err))
-	}
-	return printed, nil
-}
-
-// stderrOf returns the last line that a command has printed on its standard error, in brackets.
-func stderrOf(err error) string {
-	failed, is := err.(*exec.ExitError)
-	if !is || len(bytes.TrimSpace(failed.Stderr)) == 0 {
-		return ""
-	}
-	lines := strings.Split(strings.TrimSpace(string(failed.Stderr)), "\n")
-	return fmt.Sprintf(" (%.200s)", lines[len(lines)-1])
+	return rows, err
 }

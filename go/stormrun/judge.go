@@ -11,25 +11,26 @@ import (
 	"pippinterm/faults"
 )
 
-// A Broken is an answer of the broker that breaks the standard.
-type Broken struct {
-	conform.Result
-	Number string `json:"number"` // of the request
-	Count  int    `json:"count"`  // how many answers break the same rule
-}
-
-// judge returns the first answer that breaks each rule, in the order in which they came.
-func judge(exchanges []faults.Exchange) []Broken {
+// judge returns the first answer that breaks each rule, in the order in which they came. differences are what was found
+// in the end.
+//
+// A 410 to a deletion breaks a rule only if the thing exists in the end. Else the broker may have carried out this very
+// deletion before it answered: another of its workers has taken it up, and the request has found nothing any more.
+func judge(exchanges []faults.Exchange, differences []Difference) []Broken {
 	var all []Broken
 	at := map[string]int{}
+	lost := map[Key]bool{}
+	for _, it := range differences {
+		lost[it.Key] = lost[it.Key] || it.Kind == Lost
+	}
 	for _, it := range deliveriesOf(exchanges) {
-		for _, failed := range it.judge() {
+		for _, failed := range it.judge(lost[it.key]) {
 			if known, is := at[failed.Name]; is {
 				all[known].Count++
 				continue
 			}
 			at[failed.Name] = len(all)
-			all = append(all, Broken{failed, it.number.String(), 1})
+			all = append(all, Broken{Result: failed, Number: it.number.String(), Count: 1})
 		}
 	}
 	return all
@@ -68,7 +69,7 @@ func deliveriesOf(exchanges []faults.Exchange) []*sent {
 				Seen: conform.Seen{
 					Method: x.Method, Target: x.Target, Sent: x.Body, Status: d.Status, Header: d.Header, Came: d.Body,
 				},
-				number: x.Number, key: Key{x.Instance, x.Binding}, begun: d.Begun, ended: d.Ended,
+				number: x.Number, key: Key{Instance: x.Instance, Binding: x.Binding}, begun: d.Begun, ended: d.Ended,
 				isAnswered: d.Status != 0,
 			}
 			byKey[it.key] = append(byKey[it.key], it)
@@ -181,13 +182,15 @@ func (s *sent) polled() string {
 	return values.Get("operation")
 }
 
-// judge returns the cases that the answer fails, by itself and by what was known before.
-func (s *sent) judge() []conform.Result {
+// judge returns the cases that the answer fails, by itself and by what was known before. isLost is whether the thing
+// exists in the end though its record says otherwise.
+func (s *sent) judge(isLost bool) []conform.Result {
 	if !s.isAnswered {
 		return nil
 	}
 	failed := s.Judge()
-	if name, reason := s.breaks(); name != "" {
+	isSaidGone := s.Method == http.MethodDelete && s.Status == http.StatusGone
+	if name, reason := s.breaks(); name != "" && (isLost || !isSaidGone) {
 		failed = append(failed, s.Fail(name, reason))
 	}
 	return failed

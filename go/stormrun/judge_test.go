@@ -78,8 +78,25 @@ func TestJudge(t *testing.T) {
 		{"no answer to a creation", answers(x{"PUT", 0, ``}, x{"PUT", 201, `{}`}, x{"PUT", 201, `{}`}), ""},
 		{"an error of the broker", answers(x{"PUT", 201, `{}`}, x{"DELETE", 500, `{}`}, x{"DELETE", 410, `{}`}), ""},
 	} {
-		if found := namesOf(judge(it.all)); found != it.wanted {
+		if found := namesOf(judge(it.all, []Difference{{Key: Key{Instance: "one"}, Kind: Lost}})); found != it.wanted {
 			t.Errorf("%s: %q", it.name, found)
+		}
+	}
+}
+
+// A 410 to a deletion breaks no rule if the instance doesn't exist in the end: perhaps this very deletion was carried out.
+func TestJudgeDeletionThatFindsNothing(t *testing.T) {
+	type x = [3]any
+	for name, all := range map[string][]faults.Exchange{
+		"created": answers(x{"PUT", 202, operation}, x{"DELETE", 410, `{}`}),
+		"exists":  answers(x{"PUT", 201, `{}`}, x{"DELETE", 410, `{}`}),
+	} {
+		for _, differences := range [][]Difference{
+			nil, {{Key: Key{Instance: "one"}, Kind: Stuck}}, {{Key: Key{Instance: "another"}, Kind: Lost}},
+		} {
+			if found := judge(all, differences); len(found) > 0 {
+				t.Errorf("%s, %v: %+v", name, differences, found)
+			}
 		}
 	}
 }
@@ -92,11 +109,11 @@ func TestJudgeAtOnce(t *testing.T) {
 		exchange("DELETE", 410, `{}`, 20*ms, 25*ms), exchange("PUT", 201, `{}`, 40*ms, 50*ms),
 		exchange("PUT", 201, `{}`, 45*ms, 55*ms),
 	}
-	if found := judge(atOnce); len(found) > 0 {
+	if found := judge(atOnce, nil); len(found) > 0 {
 		t.Errorf("%+v", found)
 	}
 	after := append(atOnce, exchange("PUT", 201, `{}`, 60*ms, 65*ms), exchange("PUT", 201, `{}`, 70*ms, 75*ms))
-	if found := judge(after); namesOf(found) != "provision-repeated" || found[0].Count != 1 {
+	if found := judge(after, nil); namesOf(found) != "provision-repeated" || found[0].Count != 1 {
 		t.Errorf("%+v", found)
 	}
 }

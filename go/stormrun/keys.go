@@ -7,18 +7,14 @@ import (
 	"pippinterm/faults"
 )
 
-// A Key names an instance, or a binding of it if Binding isn't empty, by their ids.
-type Key struct{ Instance, Binding string }
-
-// instance returns the key of the instance.
-func (k Key) instance() Key { return Key{Instance: k.Instance} }
-
 // keys are the ids of a run with their places. Any number of goroutines use them.
 type keys struct {
 	newID func(number int) string
 	mutex sync.Mutex
 	ofKey map[Key]faults.Place
 	next  map[string]int // the number of the next binding of an instance
+	// others is how many instances have got a place although they aren't the lives'.
+	others int
 }
 
 func newKeys(newID func(int) string) *keys {
@@ -40,7 +36,7 @@ func (k *keys) binding(of Key) Key {
 	defer k.mutex.Unlock()
 	k.next[of.Instance]++
 	number := k.next[of.Instance]
-	key := Key{of.Instance, k.newID(number)}
+	key := Key{Instance: of.Instance, Binding: k.newID(number)}
 	k.ofKey[key] = faults.Place{Instance: k.ofKey[of].Instance, Binding: number}
 	return key
 }
@@ -49,7 +45,30 @@ func (k *keys) binding(of Key) Key {
 func (k *keys) place(instance, binding string) (faults.Place, bool) {
 	k.mutex.Lock()
 	defer k.mutex.Unlock()
-	place, is := k.ofKey[Key{instance, binding}]
+	place, is := k.ofKey[Key{Instance: instance, Binding: binding}]
+	return place, is
+}
+
+// firstOther is the number of the first instance that isn't one of the lives', such as a further try of one.
+const firstOther = 1000001
+
+// placeOrNew returns the place of ids. The first request about others gives them one.
+func (k *keys) placeOrNew(instance, binding string) (faults.Place, bool) {
+	if place, is := k.place(instance, binding); is || instance == "" {
+		return place, is
+	}
+	k.mutex.Lock()
+	defer k.mutex.Unlock()
+	of := Key{Instance: instance}
+	if _, is := k.ofKey[of]; !is {
+		k.ofKey[of] = faults.Place{Instance: firstOther + k.others}
+		k.others++
+	}
+	if binding != "" {
+		k.next[instance]++
+		k.ofKey[Key{Instance: instance, Binding: binding}] = faults.Place{Instance: k.ofKey[of].Instance, Binding: k.next[instance]}
+	}
+	place, is := k.ofKey[Key{Instance: instance, Binding: binding}]
 	return place, is
 }
 

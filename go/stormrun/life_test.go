@@ -44,7 +44,8 @@ func TestLives(t *testing.T) {
 	}
 }
 
-// The faults of each lost instance are tried alone, the fewest first. Then come those of all, and the restarts.
+// The faults of each lost instance are tried alone, the fewest first. Then come those of all, and the restarts. An
+// instance whose number isn't one of a life isn't tried: in another run, another instance may have that number.
 func TestCandidates(t *testing.T) {
 	k := newKeys(func(number int) string { return fmt.Sprint("id-", number) })
 	one, two, three := k.instance(1), k.instance(2), k.instance(3)
@@ -52,10 +53,13 @@ func TestCandidates(t *testing.T) {
 		return faults.Numbered{Number: faults.Number{Place: faults.Place{Instance: instance}, Request: request}, Kind: kind}
 	}
 	a, b, c := fault(1, 1, faults.HangUp), fault(1, 2, faults.HangUp), fault(2, 1, faults.HangUp)
-	d := fault(3, 1, faults.RestartAfter)
+	d, other := fault(3, 1, faults.RestartAfter), Key{Instance: "another"}
+	if place, _ := k.placeOrNew(other.Instance, ""); place.Instance != firstOther {
+		t.Fatalf("another instance has the number %s", place)
+	}
 	found := &result{
-		keys: k, given: []faults.Numbered{a, b, c, d, fault(4, 1, faults.HangUp)},
-		differences: []Difference{{Key: one}, {Key: one}, {Key: two, Kind: False}, {Key: three, Kind: Stuck}},
+		keys: k, given: []faults.Numbered{a, b, c, d, fault(4, 1, faults.HangUp), fault(firstOther, 1, faults.HangUp)},
+		differences: []Difference{{Key: one}, {Key: one}, {Key: two, Kind: False}, {Key: three, Kind: Stuck}, {Key: other}},
 	}
 	lists := func() (all []string) {
 		for _, it := range candidates(found) {

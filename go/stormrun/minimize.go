@@ -2,10 +2,12 @@ package stormrun
 
 import (
 	"context"
+	"errors"
 	"fmt"
 	"sort"
 
 	"pippinterm/faults"
+	"pippinterm/stormreport"
 )
 
 // tries is how often a list of faults is tried before it counts as one that loses nothing: what is lost may depend on
@@ -22,34 +24,67 @@ type candidate struct {
 func (s *Storm) minimize(running, deleting context.Context, found *result, report *Report) {
 	limited, cancel := context.WithTimeout(running, s.config.MinimizeTime)
 	defer cancel()
-	for _, it := range candidates(found) {
+	report.shrink(limited, candidates(found), func(ctx context.Context, it candidate) (*result, error) {
+		again, err := s.once(ctx, deleting, faults.ByList(s.config.Seed, it.list), it.only)
+		report.Leftovers = append(report.Leftovers, again.leftovers...)
+		return again, err
+	})
+}
+
+// shrink shrinks the list of the first candidate that loses something, and writes it into the report. once is a run. If
+// ctx is done, the run that it has cut off doesn't count, and the report says that the list may not be the shortest.
+func (r *Report) shrink(
+	ctx context.Context, candidates []candidate, once func(context.Context, candidate) (*result, error),
+) {
+	for _, it := range candidates {
+		only := it.only
 		loses := func(ctx context.Context, list []faults.Numbered) bool {
-			return s.loses(ctx, deleting, candidate{list, it.only}, report)
+			return r.loses(ctx, func() (*result, error) { return once(ctx, candidate{list, only}) })
 		}
 		switch {
-		case !loses(limited, it.list):
+		case !loses(ctx, it.list):
+			if ctx.Err() != nil {
+				r.MinimizeEnded = whyMinimizeEnded(ctx) + " before a list was found that loses something"
+				return
+			}
 			continue
-		case loses(limited, nil):
-			report.Notes = append(report.Notes, "--minimize: something is lost without any fault, too")
-			report.Minimal = []string{}
-		default:
-			report.minimal = faults.Minimize(limited, it.list, loses)
-			report.Minimal = lines(report.minimal)
+		case loses(ctx, []faults.Numbered{}):
+			r.Notes = append(r.Notes, "--minimize: something is lost without any fault, too")
+			r.Minimal = []string{}
+			return
+		}
+		var isShortest bool
+		r.minimal, isShortest = faults.Minimize(ctx, it.list, func(ctx context.Context, list []faults.Numbered) bool {
+			return len(list) > 0 && loses(ctx, list)
+		})
+		if r.Minimal = stormreport.ListLines(r.minimal); !isShortest {
+			r.MinimizeEnded = whyMinimizeEnded(ctx) + ": the list may not be the shortest"
 		}
 		return
 	}
-	report.Notes = append(report.Notes, fmt.Sprintf(
-		"--minimize: in %d runs with the faults of the lost instances alone, nothing was lost", report.MinimizeRuns))
+	r.Notes = append(r.Notes, fmt.Sprintf(
+		"--minimize: in %d runs with the faults of the lost instances alone, nothing was lost", r.MinimizeRuns))
 }
 
-// loses returns whether a run with these faults loses something. If so, the report has its life.
-func (s *Storm) loses(ctx, deleting context.Context, it candidate, report *Report) bool {
+// whyMinimizeEnded says why ctx is done.
+func whyMinimizeEnded(ctx context.Context) string {
+	if errors.Is(ctx.Err(), context.DeadlineExceeded) {
+		return "the time for --minimize was over"
+	}
+	return "--minimize was ended"
+}
+
+// loses returns whether one of some runs loses something. If so, the report has its life. A run that ctx has cut off
+// doesn't count.
+func (r *Report) loses(ctx context.Context, once func() (*result, error)) bool {
 	for try := 0; try < tries && ctx.Err() == nil; try++ {
-		report.MinimizeRuns++
-		again, err := s.once(ctx, deleting, faults.ByList(s.config.Seed, it.list), it.only)
-		report.Leftovers = append(report.Leftovers, again.leftovers...)
+		again, err := once()
+		if ctx.Err() != nil {
+			return false
+		}
+		r.MinimizeRuns++
 		if err == nil && again.isLoser() {
-			report.MinimalLost = report.findings(again, Lost, False)
+			r.MinimalLost, r.minimalKills = r.findings(again, Lost, False, Disagree), r.runOf(again).Kills()
 			return true
 		}
 	}
@@ -63,7 +98,7 @@ func candidates(found *result) (all []candidate) {
 	lost := map[int]bool{}
 	for _, it := range found.differences {
 		place, is := found.keys.place(it.Key.Instance, "")
-		if !is || it.Kind == Stuck || lost[place.Instance] {
+		if !is || it.Kind == Stuck || lost[place.Instance] || place.Instance >= firstOther {
 			continue
 		}
 		lost[place.Instance] = true
@@ -96,13 +131,4 @@ func part(given []faults.Numbered, of map[int]bool) (list []faults.Numbered) {
 		}
 	}
 	return list
-}
-
-// lines are the lines of a list.
-func lines(list []faults.Numbered) []string {
-	all := make([]string, 0, len(list))
-	for _, it := range list {
-		all = append(all, it.String())
-	}
-	return all
 }

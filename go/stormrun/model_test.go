@@ -199,7 +199,7 @@ func (m *model) put(r *http.Request, k Key) (int, any) {
 		return 200, m.given(k)
 	}
 	if k.Binding != "" {
-		if of := m.rows[k.instance()]; of == nil || of.isMaking {
+		if of := m.rows[k.InstanceKey()]; of == nil || of.isMaking {
 			return 422, object{"error": "ConcurrencyError"}
 		}
 		m.create(k)

@@ -4,6 +4,8 @@ import (
 	"context"
 	"sync"
 	"time"
+
+	"pippinterm/faults"
 )
 
 // A Record is what a platform says about an instance or a binding.
@@ -57,7 +59,7 @@ func (o *operator) run(ctx context.Context, all []life) {
 }
 
 func (o *operator) live(ctx context.Context, l life) {
-	if !sleep(ctx, l.begin) {
+	if !faults.Sleep(ctx, l.begin) {
 		return
 	}
 	key := o.keys.instance(l.number)
@@ -65,14 +67,14 @@ func (o *operator) live(ctx context.Context, l life) {
 		return
 	}
 	if l.early {
-		_ = sleep(ctx, l.pause) && o.remove(ctx, key, true)
+		_ = faults.Sleep(ctx, l.pause) && o.remove(ctx, key, true)
 		return
 	}
 	if o.rest(ctx, key).State != stateReady {
 		return
 	}
 	bindings := o.bind(ctx, key, l)
-	if l.stays || !sleep(ctx, l.pause) {
+	if l.stays || !faults.Sleep(ctx, l.pause) {
 		return
 	}
 	for _, it := range bindings {
@@ -120,7 +122,7 @@ func (o *operator) do(ctx context.Context, key Key, what string, call func() err
 func (o *operator) rest(ctx context.Context, key Key) Record {
 	for {
 		record, err := o.orders.Record(ctx, key)
-		if err == nil && record.Rests || !sleep(ctx, o.look) {
+		if err == nil && record.Rests || !faults.Sleep(ctx, o.look) {
 			return record
 		}
 	}
@@ -141,20 +143,8 @@ func (o *operator) settle(ctx context.Context, isQuiet func() bool) bool {
 		if rests {
 			return true
 		}
-		if !sleep(ctx, o.look) {
+		if !faults.Sleep(ctx, o.look) {
 			return false
 		}
-	}
-}
-
-// sleep waits, and returns false at once if ctx is done.
-func sleep(ctx context.Context, rest time.Duration) bool {
-	timer := time.NewTimer(rest)
-	defer timer.Stop()
-	select {
-	case <-ctx.Done():
-		return false
-	case <-timer.C:
-		return ctx.Err() == nil
 	}
 }

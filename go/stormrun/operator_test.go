@@ -9,6 +9,8 @@ import (
 	"sync"
 	"testing"
 	"time"
+
+	"pippinterm/faults"
 )
 
 // memory is an Orders whose records rest at once: what is created in the state created, and what is removed as gone.
@@ -132,3 +134,26 @@ func TestSettle(t *testing.T) {
 		cancel()
 	}
 }
+
+// The faults end once nothing has to happen any more, although lives would still begin.
+func TestCourseEndsWhenDone(t *testing.T) {
+	t.Parallel()
+	begun, ends := time.Now(), make(chan struct{}, 1)
+	k, e := newKeys(func(n int) string { return fmt.Sprint(n) }), &events{now: func() time.Duration { return 0 }, keyOf: keyOf}
+	c := &course{
+		orders: &memory{created: stateReady}, keys: k, events: e, source: faults.BySeed(1, 0, nil), watch: never{},
+		now: func() time.Duration { return time.Since(begun) }, isQuiet: func() bool { return true }, lookEach: time.Hour,
+		lives: func(int) []life { return []life{{number: 1}, {number: 2, begin: time.Hour}} }, endsWhenDone: true,
+		isDone: func() bool { return time.Since(begun) > doneEach/2 }, calm: func() { ends <- struct{}{} },
+		time: time.Hour, settleTime: time.Second,
+	}
+	converged, _ := c.run(context.Background())
+	if took := time.Since(begun); !converged || took > 5*time.Second || len(ends) != 1 || len(k.all()) != 1 {
+		t.Errorf("converged %v after %s, %d instances", converged, took, len(k.all()))
+	}
+}
+
+// never looks at nothing.
+type never struct{}
+
+func (never) run(ctx context.Context, _ time.Duration) { <-ctx.Done() }

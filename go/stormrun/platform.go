@@ -9,11 +9,14 @@ import (
 	"time"
 
 	"pippinterm/conform"
-	"pippinterm/osb"
+	"pippinterm/faults"
 	"pippinterm/platform"
 	"pippinterm/platform/client"
+	"pippinterm/platform/journaled"
 	"pippinterm/platform/sqlite"
 	"pippinterm/platform/vault"
+	"pippinterm/program/journal"
+	sqlitefile "pippinterm/program/sqlite"
 )
 
 // The names of the worker and the broker in the store.
@@ -24,56 +27,63 @@ const (
 
 // A platformRig is this project's platform: an engine over a store in a folder of the run. It is an Orders.
 type platformRig struct {
-	target conform.Target
-	store  *sqlite.Store
-	orders *platform.Orders
+	book
 	engine *platform.Engine
 	client *client.Client
-	free   func() // the name of the worker
+	free   func()          // the name of the worker
+	writer *journal.Writer // of its journal, or nil
 	stop   chan struct{}
 	ended  chan error
 }
 
 var _ Orders = (*platformRig)(nil)
 
-// startPlatform starts a platform whose broker is at a URL.
+// startPlatform starts a platform whose broker is at a URL. If writer isn't nil, the platform writes its journal to it, and
+// closes it in the end.
 func startPlatform(
 	ctx context.Context, c Config, folder, url string, target conform.Target, observer platform.Observer,
-) (rig *platformRig, err error) {
-	rig = &platformRig{target: target, stop: make(chan struct{}), ended: make(chan error, 1)}
-	sealing, err := newVault()
-	if err != nil {
-		return nil, err
+	writer *journal.Writer,
+) (*platformRig, error) {
+	rig := &platformRig{book: bookOf(target), writer: writer, ended: make(chan error, 1)}
+	if err := rig.open(ctx, c, folder, url, observer); err != nil {
+		return nil, either(err, rig.closeFiles())
 	}
-	if rig.store, err = sqlite.Open(ctx, filepath.Join(folder, "orders.sqlite")); err != nil {
-		return nil, fmt.Errorf("the store of the platform: %w", err)
-	}
-	defer func() {
-		if err != nil {
-			_ = rig.store.Close()
-		}
-	}()
-	if rig.free, _, err = rig.store.Only(ctx, workerName); err != nil {
-		return nil, err
-	}
-	password := c.Broker.Password
-	rig.client, err = client.New(client.Options{
-		Password: func(platform.Broker) (string, error) { return password, nil }, UserAgent: "osb-storm",
-	})
-	if err != nil {
-		return nil, err
-	}
-	rig.orders = platform.NewOrders(rig.store, sealing)
-	broker := platform.Broker{Name: brokerName, URL: url, User: c.Broker.User}
-	if err := rig.orders.AddBroker(ctx, broker, []byte(password)); err != nil {
-		return nil, err
-	}
-	rig.engine = platform.NewEngine(rig.store, rig.client, sealing, optionsOf(c), observer)
-	go func() { rig.ended <- rig.engine.Run(context.Background(), rig.stop) }()
+	rig.resume()
 	if err := rig.awaitCatalogue(ctx); err != nil {
 		return nil, either(err, rig.close())
 	}
 	return rig, nil
+}
+
+// open opens the store, adds the broker, and makes the engine.
+func (p *platformRig) open(ctx context.Context, c Config, folder, url string, observer platform.Observer) error {
+	sealing, err := newVault()
+	if err != nil {
+		return err
+	}
+	store, err := sqlite.Open(ctx, filepath.Join(folder, "orders.sqlite"))
+	if err != nil {
+		return fmt.Errorf("the store of the platform: %w", err)
+	}
+	p.store = store
+	if p.free, _, err = p.store.Only(ctx, workerName); err != nil {
+		return err
+	}
+	password := c.Broker.Password
+	p.client, err = client.New(client.Options{
+		Password: func(platform.Broker) (string, error) { return password, nil }, UserAgent: "osb-storm",
+	})
+	if err != nil {
+		return err
+	}
+	orders, engine, sender := p.store, p.store, platform.Client(p.client)
+	if p.writer != nil {
+		lines := journaled.New(p.writer, sealing, isDoubtful)
+		orders, engine, sender = lines.OrdersStore(orders), lines.EngineStore(engine), lines.Client(sender)
+	}
+	p.orders = platform.NewOrders(orders, sealing)
+	p.engine = platform.NewEngine(engine, sender, sealing, optionsOf(c), observer)
+	return p.orders.AddBroker(ctx, platform.Broker{Name: brokerName, URL: url, User: c.Broker.User}, []byte(password))
 }
 
 // optionsOf are the options of the engine. What is late has arrived before a deletion is sent (Hold), as the platform
@@ -103,7 +113,7 @@ func (p *platformRig) awaitCatalogue(ctx context.Context) error {
 		if err == nil && len(brokers) == 1 && brokers[0].Catalogue != nil {
 			return nil
 		}
-		if !sleep(ctx, 10*time.Millisecond) {
+		if !faults.Sleep(ctx, 10*time.Millisecond) {
 			reason := ""
 			if len(brokers) == 1 {
 				reason = brokers[0].Reason.Lost
@@ -111,6 +121,16 @@ func (p *platformRig) awaitCatalogue(ctx context.Context) error {
 			return fmt.Errorf("the platform can't read the catalogue: %s", reason)
 		}
 	}
+}
+
+// isDoubtful returns whether a transaction that has failed with an error may have been committed.
+func isDoubtful(err error) bool { return errors.Is(err, sqlitefile.ErrUnknownCommit) }
+
+// resume has the engine work, at first and after halt.
+func (p *platformRig) resume() {
+	stop := make(chan struct{})
+	p.stop = stop
+	go func() { p.ended <- p.engine.Run(context.Background(), stop) }()
 }
 
 // halt ends the engine, once what is in flight is answered.
@@ -128,80 +148,21 @@ func (p *platformRig) halt() error {
 func (p *platformRig) close() error {
 	err := p.halt()
 	p.client.Close()
-	p.free()
-	return either(err, p.store.Close())
+	return either(err, p.closeFiles())
 }
 
-// Create writes down an instance to create.
-func (p *platformRig) Create(ctx context.Context, key Key) error {
-	_, err := p.orders.Create(ctx, platform.NewInstance{
-		Broker: brokerName, Service: p.target.Service, Plan: p.target.Plan, ID: key.Instance,
-		Organization: "osb-storm-organization", Space: "osb-storm-space",
-	})
+// closeFiles closes the store and the journal, as far as they are open.
+func (p *platformRig) closeFiles() (err error) {
+	if p.free != nil {
+		p.free()
+	}
+	if p.store != nil {
+		err = p.store.Close()
+	}
+	if p.writer != nil {
+		p.writer.Close()
+	}
 	return err
-}
-
-// Bind writes down a binding to create.
-func (p *platformRig) Bind(ctx context.Context, key Key) error {
-	_, err := p.orders.Bind(ctx, platform.NewBinding{Instance: key.Instance, ID: key.Binding})
-	return err
-}
-
-// Remove has an instance or a binding deleted.
-func (p *platformRig) Remove(ctx context.Context, key Key, withBindings bool) error {
-	numbered, err := numberOf(key)
-	if err != nil {
-		return err
-	}
-	_, err = p.orders.Remove(ctx, numbered, withBindings)
-	return err
-}
-
-// Record returns the record of a key.
-func (p *platformRig) Record(ctx context.Context, key Key) (Record, error) {
-	numbered, err := numberOf(key)
-	if err != nil {
-		return Record{}, err
-	}
-	entry, err := p.store.Read(ctx, numbered)
-	if errors.Is(err, platform.ErrUnknown) {
-		return Record{}, nil
-	}
-	return recordOf(entry), err
-}
-
-// Records returns all records.
-func (p *platformRig) Records(ctx context.Context) (map[Key]Record, error) {
-	entries, err := p.store.List(ctx, platform.Filter{})
-	if err != nil {
-		return nil, err
-	}
-	all := map[Key]Record{}
-	for _, it := range entries {
-		all[Key{it.Names.Instance, it.Names.Binding}] = recordOf(it)
-	}
-	return all, nil
-}
-
-func recordOf(e platform.Entry) Record {
-	return Record{State: string(e.State), Since: e.Since, Rests: e.Rests() && !e.HasLast, Known: true}
-}
-
-func numberOf(key Key) (platform.Key, error) {
-	instance, err := osb.IDOfText(key.Instance)
-	if err != nil || key.Binding == "" {
-		return platform.InstanceKey(instance), err
-	}
-	binding, err := osb.IDOfText(key.Binding)
-	return platform.BindingKey(instance, binding), err
-}
-
-// keyOf returns the ids of a row. They are GUIDs, so their numbers are their texts.
-func keyOf(key platform.Key) Key {
-	if key.IsBinding {
-		return Key{key.Instance.String(), key.Binding.String()}
-	}
-	return Key{Instance: key.Instance.String()}
 }
 
 // either returns the first error that isn't nil.

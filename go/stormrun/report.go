@@ -1,75 +1,80 @@
 package stormrun
 
 import (
-	"encoding/json"
+	"fmt"
 	"io"
-	"sort"
-	"strings"
 
 	"pippinterm/conform"
 	"pippinterm/faults"
+	"pippinterm/stormreport"
 )
 
 // A Report is what a storm has found.
 type Report struct {
-	URL       string  `json:"url"`
-	Prefix    string  `json:"prefix"`
-	Service   string  `json:"service"`
-	Plan      string  `json:"plan"`
-	Seed      int64   `json:"seed"`
-	Ended     string  `json:"ended,omitempty"` // why the run was ended before, or empty
-	Inventory string  `json:"inventory"`       // how osb-storm found out what exists
-	Instances int     `json:"instances"`
-	Bindings  int     `json:"bindings"`
-	Requests  int     `json:"requests"`
-	Restarts  int     `json:"restarts"`
-	Converged bool    `json:"converged"`
-	Took      float64 `json:"converged_after_seconds"` // after the faults ended
-	Unknown   int     `json:"unknown"`                 // how many instances and bindings nobody could ask for
+	URL       string   `json:"url"`
+	Prefix    string   `json:"prefix"`
+	Service   string   `json:"service"`
+	Plan      string   `json:"plan"`
+	Seed      int64    `json:"seed"`
+	Ended     string   `json:"ended,omitempty"` // why the run was ended before, or empty
+	Inventory string   `json:"inventory"`       // how osb-storm found out what exists
+	Instances int      `json:"instances"`
+	Bindings  int      `json:"bindings"`
+	Requests  int      `json:"requests"`
+	Restarts  int      `json:"restarts"`
+	Converged bool     `json:"converged"`
+	Took      float64  `json:"converged_after_seconds"` // after the faults ended
+	Unknown   int      `json:"unknown"`                 // how many instances and bindings nobody could ask for
+	Unmet     []string `json:"unmet_faults"`            // those of the given list that no request has met
 
 	Counts    []KindCount        `json:"faults"`
 	Lost      []Finding          `json:"lost"`
 	False     []Finding          `json:"false_records"`
 	Stuck     []Finding          `json:"not_converged"`
+	Disagree  []Finding          `json:"disagreements"` // of the records, the broker's rows and what exists
 	Broken    []Broken           `json:"broken"`
 	Failed    []string           `json:"failed"` // what went wrong with the run itself
 	Leftovers []conform.Leftover `json:"leftovers"`
 	Notes     []string           `json:"notes"`
 
+	Programs     *Programs `json:"programs,omitempty"` // of a storm of both programs
 	Given        []string  `json:"fault_list"`
 	Minimal      []string  `json:"minimal_fault_list,omitempty"` // nil unless a list was shrunk
 	MinimalLost  []Finding `json:"minimal_lost,omitempty"`
 	MinimizeRuns int       `json:"minimize_runs,omitempty"`
+	// MinimizeEnded is why --minimize was ended before the list was the shortest, or empty.
+	MinimizeEnded string `json:"minimize_ended,omitempty"`
 
 	given, minimal []faults.Numbered
 	user, password string
+	// course is drawn if nothing was found. The kills are those of the run, and of the one with the list that was shrunk.
+	course              []Finding
+	kills, minimalKills []stormreport.Line
 }
 
-// A KindCount is how many requests had a kind of fault.
-type KindCount struct {
-	Kind  faults.Kind `json:"kind"`
-	Count int         `json:"count"`
-}
-
-// A Finding is an instance or a binding that was lost, or whose record was false.
-type Finding struct {
-	Number   string `json:"number"` // the place
-	Instance string `json:"instance"`
-	Binding  string `json:"binding,omitempty"`
-	What     string `json:"what"`
-	Life     []Line `json:"life"`
-}
-
-func newReport(s *Storm) *Report {
+// emptyReport returns a report without a member that is nil.
+func emptyReport() *Report {
 	return &Report{
-		URL: s.config.Broker.URL, Prefix: s.Prefix(), Seed: s.config.Seed, password: s.config.Broker.Password,
-		user: s.config.Broker.User, Counts: []KindCount{}, Lost: []Finding{}, False: []Finding{}, Stuck: []Finding{},
-		Broken: []Broken{}, Failed: []string{}, Leftovers: []conform.Leftover{}, Notes: []string{}, Given: []string{},
+		Counts: []KindCount{}, Lost: []Finding{}, False: []Finding{}, Stuck: []Finding{}, Disagree: []Finding{}, Broken: []Broken{},
+		Failed: []string{}, Leftovers: []conform.Leftover{}, Notes: []string{}, Given: []string{}, Unmet: []string{},
 	}
 }
 
+func newReport(s *Storm) *Report {
+	report := emptyReport()
+	report.URL, report.Prefix, report.Seed = s.config.Broker.URL, s.Prefix(), s.config.Seed
+	report.user, report.password = s.config.Broker.User, s.config.Broker.Password
+	return report
+}
+
 // take takes what a run has come to.
-func (r *Report) take(s *Storm, found *result) {
+func (r *Report) take(found *result) {
+	r.takeRun(found)
+	r.Instances++ // the one that was created without faults
+}
+
+// takeRun takes what a run has come to, in which no instance was created without faults.
+func (r *Report) takeRun(found *result) {
 	for _, key := range found.keys.all() {
 		if key.Binding == "" {
 			r.Instances++
@@ -77,48 +82,45 @@ func (r *Report) take(s *Storm, found *result) {
 			r.Bindings++
 		}
 	}
-	r.Instances++ // the one that was created without faults
 	r.Requests, r.Restarts = len(found.exchanges), found.restarts
 	r.Converged, r.Took, r.Unknown = found.converged, found.took.Seconds(), found.unknown
-	r.Counts = countKinds(found.exchanges)
+	r.Counts = stormreport.CountKinds(found.exchanges)
 	r.Lost, r.False, r.Stuck = r.findings(found, Lost), r.findings(found, False), r.findings(found, Stuck)
-	hide := newHider(r.user, r.password, found.exchanges)
+	r.Disagree = r.findings(found, Disagree)
+	r.course, r.kills = r.runOf(found).Course(), r.runOf(found).Kills()
+	hide := r.hider(found)
 	for _, it := range found.broken {
-		it.Sent, it.Came, it.Reason = hide.in(it.Sent), hide.in(it.Came), hide.in(it.Reason)
-		r.Broken = append(r.Broken, it)
+		r.Broken = append(r.Broken, it.Hidden(hide))
 	}
 	for _, it := range found.failed {
-		r.Failed = append(r.Failed, hide.in(conform.Printable(it)))
+		r.Failed = append(r.Failed, hide.In(conform.Printable(it)))
 	}
 	for _, it := range found.leftovers {
-		it.Reason = hide.in(it.Reason)
+		it.Reason = hide.In(it.Reason)
 		r.Leftovers = append(r.Leftovers, it)
 	}
-	r.given, r.Given = found.given, lines(found.given)
+	r.given, r.Given, r.Unmet = found.given, stormreport.ListLines(found.given), stormreport.ListLines(found.unmet)
+}
+
+func (r *Report) hider(found *result) stormreport.Hider {
+	return stormreport.NewHider(r.user, r.password, found.exchanges)
 }
 
 // findings returns the differences of some kinds, each instance or binding once, with their lives.
 func (r *Report) findings(found *result, kinds ...DifferenceKind) []Finding {
-	all, at := []Finding{}, map[Key]int{}
-	hide := newHider(r.user, r.password, found.exchanges)
+	var all []stormreport.Found
 	for _, it := range found.differences {
-		if !isOneOf(it.Kind, kinds) {
-			continue
+		if isOneOf(it.Kind, kinds) {
+			all = append(all, stormreport.Found{Key: it.Key, What: it.What})
 		}
-		if known, is := at[it.Key]; is {
-			if !strings.Contains(all[known].What, it.What) {
-				all[known].What += "; " + it.What
-			}
-			continue
-		}
-		number := "?"
-		if place, is := found.keys.place(it.Key.Instance, it.Key.Binding); is {
-			number = place.String()
-		}
-		at[it.Key] = len(all)
-		all = append(all, Finding{number, it.Key.Instance, it.Key.Binding, it.What, lifeOf(it.Key, found, hide)})
 	}
-	return all
+	return r.runOf(found).Findings(all)
+}
+
+func (r *Report) runOf(found *result) stormreport.Run {
+	return stormreport.Run{
+		Place: found.keys.place, Exchanges: found.exchanges, Events: found.events, Hide: r.hider(found),
+	}
 }
 
 func isOneOf(kind DifferenceKind, kinds []DifferenceKind) bool {
@@ -130,45 +132,54 @@ func isOneOf(kind DifferenceKind, kinds []DifferenceKind) bool {
 	return false
 }
 
-func countKinds(exchanges []faults.Exchange) []KindCount {
-	counts := map[faults.Kind]int{}
-	for _, it := range exchanges {
-		if it.Fault != faults.None {
-			counts[it.Fault]++
-		}
-	}
-	all := []KindCount{}
-	for kind, count := range counts {
-		all = append(all, KindCount{kind, count})
-	}
-	sort.Slice(all, func(one, other int) bool { return all[one].Kind < all[other].Kind })
-	return all
-}
-
 // BreaksMust returns whether an answer broke what the standard demands.
-func (r *Report) BreaksMust() bool {
-	for _, it := range r.Broken {
-		if it.Level == conform.Must {
-			return true
-		}
+func (r *Report) BreaksMust() bool { return stormreport.BreaksMust(r.Broken) }
+
+// IsClean returns whether the storm has found nothing, and was run to its end. If a part of the design was taken out, it
+// returns whether the storm has found what is left behind.
+func (r *Report) IsClean() bool {
+	switch {
+	case r.Ended != "" || r.Programs != nil && len(r.Programs.Odd) > 0:
+		return false
+	case r.Programs != nil && r.Programs.Without != "":
+		return r.hasLoss()
 	}
-	return false
+	return !r.hasLoss() && len(r.Stuck) == 0 && !r.BreaksMust() && r.Converged && r.Unknown == 0 &&
+		(r.Programs == nil || len(r.Programs.problems()) == 0)
 }
 
-// IsClean returns whether the storm has found nothing, and was run to its end.
-func (r *Report) IsClean() bool {
-	return len(r.Lost) == 0 && len(r.False) == 0 && len(r.Stuck) == 0 && !r.BreaksMust() && r.Converged && r.Ended == ""
+// hasLoss returns whether something was lost, a record was false, something disagrees, or two have worked at once.
+func (r *Report) hasLoss() bool {
+	together := r.Programs != nil && len(r.Programs.Together) > 0
+	return len(r.Lost)+len(r.False)+len(r.Disagree) > 0 || together
 }
 
 // WriteJSON writes the report as a JSON object.
-func (r *Report) WriteJSON(w io.Writer) error {
-	encoder := json.NewEncoder(w)
-	encoder.SetEscapeHTML(false)
-	encoder.SetIndent("", "  ")
-	return encoder.Encode(r)
+func (r *Report) WriteJSON(w io.Writer) error { return stormreport.WriteJSON(w, r) }
+
+// unasked says for people how many instances and bindings nobody could ask for, and what to do. It is empty if there
+// are none.
+func (r *Report) unasked() []string {
+	if r.Unknown == 0 {
+		return nil
+	}
+	option := "--list-command"
+	if r.Inventory == byListCommand {
+		option = "--list-bindings-command"
+	}
+	return []string{fmt.Sprintf("%s couldn't be asked for: give %s",
+		stormreport.Counted(r.Unknown, "instance or binding", "instances and bindings"), option)}
 }
 
-// WriteFaults writes the faults of the run as a list that faults.ReadList reads, or the shortest list if it was shrunk.
+// minimalTitle is what the list is called that was shrunk.
+func (r *Report) minimalTitle() string {
+	if r.MinimizeEnded != "" {
+		return "A list of faults that still loses one"
+	}
+	return "The shortest list of faults that still loses one"
+}
+
+// WriteFaults writes the faults of the run as a list that faults.ReadList reads, or the list to which it was shrunk.
 func (r *Report) WriteFaults(w io.Writer) error {
 	if r.Minimal != nil {
 		return faults.WriteList(w, r.minimal)

@@ -7,12 +7,15 @@ import (
 	"encoding/xml"
 	"errors"
 	"fmt"
+	"html"
 	"io"
 	"regexp"
 	"strings"
 	"testing"
+	"time"
 
 	"pippinterm/conform"
+	"pippinterm/stormreport"
 )
 
 // reports returns the report in its three forms.
@@ -35,19 +38,23 @@ const hostile = `<script>alert("&'1")</script>`
 
 // hostileReport has a text of the broker wherever one may stand.
 func hostileReport() *Report {
-	life := []Line{
+	life := []stormreport.Line{
 		{Seconds: 1, Number: "1.1", Who: "request", What: hostile, Fault: "hang-up", Until: 2},
 		{Seconds: 1.5, Number: "1.1", Who: "broker", What: hostile}, {Seconds: 2, Who: "record", What: hostile},
 		{Seconds: 1.2, Who: "broker", What: hostile},
 	}
-	finding := Finding{"1", "ours", hostile, hostile, life}
+	finding := Finding{Number: "1", Instance: "ours", Binding: hostile, What: hostile, Life: life}
 	return &Report{
 		URL: "http://" + hostile, Service: hostile, Plan: hostile, Ended: hostile, Inventory: hostile,
 		Lost: []Finding{finding}, False: []Finding{finding}, Stuck: []Finding{finding}, MinimalLost: []Finding{finding},
 		Minimal: []string{hostile}, Given: []string{hostile}, Notes: []string{hostile}, Failed: []string{hostile},
 		Leftovers: []conform.Leftover{{Instance: hostile, Reason: hostile}},
-		Broken:    []Broken{{conform.Result{Reason: hostile, Sent: hostile, Came: hostile}, hostile, 1}},
+		Broken:    []Broken{brokenWith(conform.Result{Reason: hostile, Sent: hostile, Came: hostile}, hostile)},
 	}
+}
+
+func brokenWith(result conform.Result, number string) Broken {
+	return Broken{Result: result, Number: number, Count: 1}
 }
 
 // A broker's text is text in the page, wherever it stands. The page has no script, and needs nothing else.
@@ -78,22 +85,6 @@ func TestHTML(t *testing.T) {
 	}
 }
 
-// All marks of a picture are within it.
-func TestPicture(t *testing.T) {
-	p := drawn(hostileReport().Lost)
-	if len(p.Lanes) != 1 || len(p.Lanes[0].Spans) != 1 || len(p.Lanes[0].Points) != 2 || len(p.Restarts) != 1 {
-		t.Fatalf("%+v", p)
-	}
-	for _, it := range p.Lanes[0].Points {
-		if it.X < p.Left || it.X > p.Right || it.Y > p.Height {
-			t.Errorf("%+v isn't within", it)
-		}
-	}
-	if it := p.Lanes[0].Spans[0]; it.X != p.Left || it.X+it.Width > p.Right+0.1 || len(p.Ticks) < 5 {
-		t.Errorf("%+v, %d ticks", it, len(p.Ticks))
-	}
-}
-
 // No report has the password or credentials, even if the broker repeats them in its errors.
 func TestNoSecrets(t *testing.T) {
 	t.Parallel()
@@ -111,7 +102,7 @@ func TestNoSecrets(t *testing.T) {
 				t.Errorf("%s has %s", name, it)
 			}
 		}
-		if !strings.Contains(text, hidden) {
+		if !strings.Contains(text, stormreport.Hidden) {
 			t.Errorf("%s leaves nothing out", name)
 		}
 	}
@@ -140,8 +131,10 @@ func TestIsClean(t *testing.T) {
 	must, should := conform.Result{Case: conform.Case{Level: conform.Must}}, conform.Result{}
 	for name, change := range map[string]func(*Report){
 		"lost": func(r *Report) { r.Lost = []Finding{{}} }, "false": func(r *Report) { r.False = []Finding{{}} },
-		"stuck": func(r *Report) { r.Stuck = []Finding{{}} }, "must": func(r *Report) { r.Broken = []Broken{{must, "", 1}} },
-		"ended": func(r *Report) { r.Ended = "x" }, "not converged": func(r *Report) { r.Converged = false },
+		"stuck":   func(r *Report) { r.Stuck = []Finding{{}} },
+		"must":    func(r *Report) { r.Broken = []Broken{brokenWith(must, "")} },
+		"unknown": func(r *Report) { r.Unknown = 1 },
+		"ended":   func(r *Report) { r.Ended = "x" }, "not converged": func(r *Report) { r.Converged = false },
 	} {
 		report := clean()
 		if change(report); report.IsClean() {
@@ -149,7 +142,86 @@ func TestIsClean(t *testing.T) {
 		}
 	}
 	report := clean()
-	if report.Broken = []Broken{{should, "", 1}}; !report.IsClean() {
+	if report.Broken = []Broken{brokenWith(should, "")}; !report.IsClean() {
 		t.Error("a SHOULD changes the verdict")
+	}
+}
+
+// What nobody could ask for doesn't count as nothing lost: each form says how many, and which option helps.
+func TestUnasked(t *testing.T) {
+	for _, it := range []struct {
+		unknown         int
+		inventory, line string
+		verdict         string
+	}{
+		{0, "asked", "", "0 lost, 0 false records, "},
+		{1, "asked", "1 instance or binding couldn't be asked for: give --list-command",
+			"0 lost of those that could be asked for, 1 couldn't be asked for, 0 false records, "},
+		{7, byListCommand, "7 instances and bindings couldn't be asked for: give --list-bindings-command",
+			"0 lost of those that could be asked for, 7 couldn't be asked for, 0 false records, "},
+	} {
+		report := emptyReport()
+		report.Converged, report.Unknown, report.Inventory = true, it.unknown, it.inventory
+		if report.IsClean() != (it.unknown == 0) {
+			t.Errorf("%d: clean is %v", it.unknown, report.IsClean())
+		}
+		for form, text := range reports(t, report) {
+			text = html.UnescapeString(text)
+			if form != "JSON" && !(strings.Contains(text, it.line) && strings.Contains(text, it.verdict)) {
+				t.Errorf("%s: %s", form, text)
+			}
+			if form != "JSON" && it.unknown == 0 && strings.Contains(text, "asked for") {
+				t.Errorf("%s: %s", form, text)
+			}
+		}
+	}
+}
+
+// Faults of a list that meet no request are named in each form.
+func TestUnmet(t *testing.T) {
+	t.Parallel()
+	_, url := newModel(t, false, mistakes{})
+	config := configFor(t, url)
+	config.Broker.Instances, config.Time = 2, time.Second
+	config.List = listOf(t, "99.1 answer-lost\n1.1 answer-lost\n98/1.2 hang-up")
+	for form, text := range reports(t, stormed(t, config)) {
+		wanted := "2 faults of the list met no request: 98/1.2 hang-up, 99.1 answer-lost"
+		if form == "JSON" {
+			wanted = "\"unmet_faults\": [\n    \"98/1.2 hang-up\",\n    \"99.1 answer-lost\"\n  ]"
+		}
+		if !strings.Contains(text, wanted) {
+			t.Errorf("%s: %s", form, text)
+		}
+	}
+	for form, text := range reports(t, emptyReport()) {
+		if strings.Contains(text, "met no request") || form == "JSON" && !strings.Contains(text, `"unmet_faults": []`) {
+			t.Errorf("%s: %s", form, text)
+		}
+	}
+}
+
+// A storm that has found nothing is drawn, too, with the restarts of the broker.
+func TestPictureOfCleanStorm(t *testing.T) {
+	t.Parallel()
+	m, url := newModel(t, false, mistakes{})
+	config := configFor(t, url)
+	config.Commands, config.Time = m.commands(), 2*time.Second
+	config.Commands.Restart = "true"
+	config.List = listOf(t, "1.1 restart-after\n2.1 answer-lost")
+	report := stormed(t, config)
+	if !report.IsClean() || report.Restarts != 1 {
+		t.Fatal(textOf(t, report))
+	}
+	page := reports(t, report)["HTML"]
+	for _, it := range []string{
+		"<h2>The storm</h2>", "<title>the broker is killed and started again</title>", "   FAULT: restart-after</title>",
+		"   FAULT: answer-lost</title>",
+	} {
+		if !strings.Contains(page, it) {
+			t.Errorf("the page doesn't have %q", it)
+		}
+	}
+	if count := strings.Count(page, "<svg"); count != 1 {
+		t.Errorf("there are %d pictures", count)
 	}
 }

@@ -5,14 +5,33 @@ import (
 	"fmt"
 	"net"
 	"net/url"
-	"os/exec"
-	"syscall"
 	"time"
+
+	"pippinterm/faults"
+	"pippinterm/shell"
 )
 
 // commandTime is how long a command that kills or starts the broker may take, and how long the broker may then take
 // until it can be reached.
 const commandTime = time.Minute
+
+// lastTime is for how long a command of the user's may go on after the first signal.
+const lastTime = 10 * time.Second
+
+// lingering returns the context of a command. Once running is done, the command has lastTime. Once deleting is done, it
+// has none.
+func lingering(running, deleting context.Context) (ctx context.Context, cancel func()) {
+	ctx, cancel = context.WithCancel(deleting)
+	go func() {
+		select {
+		case <-running.Done():
+			faults.Sleep(ctx, lastTime)
+			cancel()
+		case <-ctx.Done():
+		}
+	}()
+	return ctx, cancel
+}
 
 // restart kills the broker and starts it again, and waits until it can be reached.
 func (c Commands) restart(broker *url.URL) func(context.Context) error {
@@ -23,26 +42,17 @@ func (c Commands) restart(broker *url.URL) func(context.Context) error {
 	if c.Restart == "" {
 		commands = []string{c.Kill, c.Start}
 	}
-	return func(context.Context) error {
-		ctx, cancel := context.WithTimeout(context.Background(), commandTime)
+	return func(ctx context.Context) error {
+		ctx, cancel := context.WithTimeout(ctx, commandTime)
 		defer cancel()
 		for _, it := range commands {
-			if err := run(ctx, it); err != nil {
+			if err := shell.Run(ctx, it); err != nil {
 				return fmt.Errorf("the command %q: %w", it, err)
 			}
 		}
 		return awaitBroker(ctx, broker)
 	}
 }
-
-// run runs a command of the shell. Processes that it has started may go on. A terminal's signals don't reach them.
-func run(ctx context.Context, command string) error {
-	made := exec.CommandContext(ctx, "/bin/sh", "-c", command)
-	made.SysProcAttr = ownGroup()
-	return made.Run()
-}
-
-func ownGroup() *syscall.SysProcAttr { return &syscall.SysProcAttr{Setpgid: true} }
 
 // awaitBroker waits until a broker takes connections.
 func awaitBroker(ctx context.Context, broker *url.URL) error {
@@ -55,7 +65,7 @@ func awaitBroker(ctx context.Context, broker *url.URL) error {
 		if err == nil {
 			return connection.Close()
 		}
-		if !sleep(ctx, 20*time.Millisecond) {
+		if !faults.Sleep(ctx, 20*time.Millisecond) {
 			return fmt.Errorf("the broker can't be reached after its start: %w", err)
 		}
 	}

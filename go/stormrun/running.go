@@ -30,12 +30,12 @@ const readEach = 50 * time.Millisecond
 // lookEach is how often the records are compared with what exists while the storm goes on.
 const lookEach = 500 * time.Millisecond
 
-func (s *Storm) startRun(ctx context.Context, folder string, source *faults.Source) (*running, error) {
+func (s *Storm) startRun(ctx, deleting context.Context, folder string, source *faults.Source) (*running, error) {
 	r := &running{Storm: s, journal: faults.NewJournal(), source: source, keys: newKeys(s.broker.NewID)}
 	r.events = &events{now: r.journal.Now, keyOf: keyOf}
 	restart := s.config.Commands.restart(s.address)
 	if restart != nil {
-		restart = r.noting(restart)
+		restart = r.noting(ctx, deleting, restart)
 	}
 	var err error
 	r.proxy, err = faults.Listen(faults.Config{
@@ -46,7 +46,10 @@ func (s *Storm) startRun(ctx context.Context, folder string, source *faults.Sour
 	if err != nil {
 		return nil, err
 	}
-	r.platform, err = startPlatform(ctx, s.config, folder, r.proxy.URL(), s.target, r.events)
+	writer, err := s.journals.open(workerName)
+	if err == nil {
+		r.platform, err = startPlatform(ctx, s.config, folder, r.proxy.URL(), s.target, r.events, writer)
+	}
 	if err != nil {
 		r.proxy.Close()
 		return nil, err
@@ -58,9 +61,14 @@ func (s *Storm) startRun(ctx context.Context, folder string, source *faults.Sour
 	return r, nil
 }
 
-// noting notes each restart.
-func (r *running) noting(restart func(context.Context) error) func(context.Context) error {
-	return func(ctx context.Context) error {
+// noting notes each restart. A restart goes on although the proxy is closed: the broker has to be there for the
+// deletions.
+func (r *running) noting(
+	running, deleting context.Context, restart func(context.Context) error,
+) func(context.Context) error {
+	return func(context.Context) error {
+		ctx, cancel := lingering(running, deleting)
+		defer cancel()
 		r.events.add(Key{}, whoBroker, "is killed and started again")
 		err := restart(ctx)
 		r.events.add(Key{}, whoBroker, "can be reached again")
@@ -78,63 +86,46 @@ func (r *running) fail(what string) {
 // doesn't wait. If deleting is done, it doesn't ask what exists.
 func (r *running) storm(ctx, deleting context.Context, only map[int]bool) *result {
 	found := &result{keys: r.keys}
-	looking, endLooks := context.WithCancel(ctx)
-	var looks sync.WaitGroup
-	looks.Add(1)
-	go func() {
-		defer looks.Done()
-		r.watch.run(looking, lookEach)
-	}()
-	operator := &operator{orders: r.platform, keys: r.keys, events: r.events, look: readEach}
-	storming, cancel := context.WithTimeout(ctx, r.config.Time)
+	course := &course{
+		orders: r.platform, keys: r.keys, events: r.events, watch: r.watch, source: r.source, now: r.journal.Now,
+		isQuiet: r.isQuiet, isDone: func() bool { return true }, calm: func() {}, time: r.config.Time,
+		settleTime: r.config.SettleTime, lookEach: lookEach,
+	}
 	isBindable, count := r.target.Bindable && r.target.HasCatalogue, r.config.Broker.Instances-1
-	operator.run(storming, lives(r.config.Seed, count, r.config.Time, isBindable, only))
-	operator.settle(storming, r.isQuiet) // if everything is done before, the storm ends
-	cancel()
-	r.source.End()
-	r.events.add(Key{}, "osb-storm", "ends the faults")
-	ended := r.journal.Now()
-	settling, cancel := context.WithTimeout(ctx, r.config.SettleTime)
-	found.converged = operator.settle(settling, r.isQuiet)
-	cancel()
-	found.took = r.journal.Now() - ended
-	endLooks()
-	looks.Wait()
+	course.lives = func(int) []life { return lives(r.config.Seed, count, r.config.Time, isBindable, only) }
+	found.converged, found.took = course.run(ctx)
 	if err := r.platform.halt(); err != nil {
 		r.fail("the platform failed: " + err.Error())
 	}
-	r.compare(deleting, found, ctx.Err() == nil)
-	found.failed = r.failed
-	return found
-}
-
-// isQuiet returns whether no request is on its way to the broker.
-func (r *running) isQuiet() bool { return r.proxy.Pending() == 0 }
-
-// compare compares at the end, and adds what was found before. isWhole is whether the run has waited until the records
-// converged.
-func (r *running) compare(ctx context.Context, found *result, isWhole bool) {
-	found.differences = append(found.differences, r.watch.differences()...)
+	looking, cancel := lingering(ctx, deleting)
+	defer cancel()
+	end := r.watch.end(looking, ctx.Err() == nil)
+	r.last, found.differences = end.last, end.differences
 	if r.deletionsTell {
 		for _, it := range r.events.foundGone() {
 			found.differences = append(found.differences, Difference{Key: it.Key, Kind: Lost, What: it.What})
 		}
 	}
-	records, err := r.platform.Records(context.Background())
-	if err != nil {
-		r.fail("the records can't be read: " + err.Error())
-		return
-	}
-	keys := make([]Key, 0, len(records))
-	for key := range records {
-		keys = append(keys, key)
-	}
-	if r.last, err = r.inventory.Look(ctx, keys); err != nil && ctx.Err() == nil {
-		r.fail("what exists can't be asked for: " + err.Error())
-	}
-	end := compare(records, r.last)
-	if !isWhole {
-		end = end.without(Stuck)
-	}
-	found.differences = append(found.differences, end...)
+	found.failed = append(r.failed, end.failed...)
+	return found
 }
+
+// clear has the platform delete everything that these records name. It waits until that is done, for at most the time to
+// converge.
+func (r *running) clear(ctx context.Context, records map[Key]Record) error {
+	within, cancel := context.WithTimeout(ctx, r.config.SettleTime)
+	defer cancel()
+	r.events.add(Key{}, "osb-storm", "has the platform delete everything")
+	r.platform.resume()
+	operator := &operator{orders: r.platform, keys: r.keys, events: r.events, look: readEach}
+	for key, it := range records {
+		if key.Binding == "" && !it.isEnded() {
+			operator.remove(within, key, true)
+		}
+	}
+	operator.settle(within, r.isQuiet)
+	return r.platform.halt()
+}
+
+// isQuiet returns whether no request is on its way to the broker.
+func (r *running) isQuiet() bool { return r.proxy.Pending() == 0 }

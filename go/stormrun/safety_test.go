@@ -104,7 +104,8 @@ func TestOthersUntouched(t *testing.T) {
 	}
 	theirs := []Key{
 		{Instance: "00000000-0000-4000-8000-000000000001"}, {Instance: other + "-0001-4000-8000-000000000002"},
-		{Instance: "x" + storm.Prefix()}, {"x" + storm.Prefix(), storm.Prefix() + "-0001-4000-8000-000000000003"},
+		{Instance: "x" + storm.Prefix()},
+		{Instance: "x" + storm.Prefix(), Binding: storm.Prefix() + "-0001-4000-8000-000000000003"},
 	}
 	for _, it := range theirs {
 		m.create(it)
@@ -123,24 +124,39 @@ func TestOthersUntouched(t *testing.T) {
 	}
 }
 
-// If a creation without faults fails, nothing else is tried.
+// If a creation without faults fails, nothing else is tried, whether osb-storm or the platform tries it, and nothing is
+// left.
 func TestTrial(t *testing.T) {
-	t.Parallel()
-	m, url := newModel(t, false, mistakes{})
-	if err := os.RemoveAll(filepath.Join(m.folder, "instances")); err != nil {
-		t.Fatal(err)
+	for _, folder := range []string{"", t.TempDir()} {
+		folder := folder
+		t.Run("", func(t *testing.T) {
+			t.Parallel()
+			m, url := newModel(t, false, mistakes{})
+			if err := os.RemoveAll(filepath.Join(m.folder, "instances")); err != nil {
+				t.Fatal(err)
+			}
+			config := configFor(t, url)
+			config.Broker.RequestTime, config.Journal = time.Second, folder
+			storm, err := New(config)
+			if err != nil {
+				t.Fatal(err)
+			}
+			if _, err := storm.Run(context.Background(), context.Background()); !errors.Is(err, ErrTrial) {
+				t.Errorf("%v", err)
+			}
+			if len(m.rows) > 0 {
+				t.Errorf("%v", m.rows)
+			}
+			checkEmpty(t, config.Folder)
+		})
 	}
-	config := configFor(t, url)
-	config.Broker.RequestTime = time.Second
-	storm, err := New(config)
-	if err != nil {
-		t.Fatal(err)
-	}
-	if _, err := storm.Run(context.Background(), context.Background()); !errors.Is(err, ErrTrial) {
-		t.Errorf("%v", err)
-	}
-	if len(m.rows) > 0 {
-		t.Errorf("%v", m.rows)
+}
+
+// checkEmpty checks that nothing is in a folder.
+func checkEmpty(t *testing.T, folder string) {
+	t.Helper()
+	if names, err := os.ReadDir(folder); err != nil || len(names) > 0 {
+		t.Errorf("%v is in %s (%v)", names, folder, err)
 	}
 }
 

@@ -3,7 +3,10 @@ package stormrun
 import (
 	"bytes"
 	"context"
+	"errors"
 	"fmt"
+	"net/http"
+	"net/http/httptest"
 	"strings"
 	"testing"
 	"time"
@@ -40,7 +43,7 @@ func stormed(t *testing.T, config Config) *Report {
 }
 
 // storms is in how many storms a mistake must show at least once: on a busy machine other requests meet the faults.
-const storms = 3
+const storms = 10
 
 // inOneStorm calls look for each seed, until it returns "". It fails with what look has returned last.
 func inOneStorm(t *testing.T, look func(seed int64) string) {
@@ -52,6 +55,26 @@ func inOneStorm(t *testing.T, look func(seed int64) string) {
 		}
 	}
 	t.Errorf("in none of %d storms: %s", storms, missing)
+}
+
+// untilEnough calls run with one seed after the other, until enough has happened in all storms together: on a slow machine
+// less happens in each. It fails if it isn't enough after ten.
+func untilEnough(t *testing.T, run func(seed int64) *Report) {
+	t.Helper()
+	var instances, bindings, requests, given int
+	for seed := int64(1); seed <= 10 && !t.Failed(); seed++ {
+		report := run(seed)
+		instances += report.Instances
+		bindings += report.Bindings
+		requests += report.Requests
+		given += len(report.Given)
+		if instances >= 20 && bindings >= 5 && requests >= 100 && given >= 30 {
+			return
+		}
+	}
+	if !t.Failed() {
+		t.Errorf("%d instances, %d bindings, %d requests, %d faults", instances, bindings, requests, given)
+	}
 }
 
 // textOf returns the report as text.
@@ -71,22 +94,22 @@ func TestNothingLost(t *testing.T) {
 			isAsync, isListed := isAsync, isListed
 			t.Run("", func(t *testing.T) {
 				t.Parallel()
-				m, url := newModel(t, isAsync, mistakes{})
-				config := configFor(t, url)
-				if isListed {
-					config.Commands = m.commands()
-				}
-				report := stormed(t, config)
-				if !report.IsClean() || len(report.Broken) > 0 || len(report.Failed) > 0 || len(report.Leftovers) > 0 {
-					t.Error(textOf(t, report))
-				}
-				if report.Instances < 20 || report.Bindings < 5 || report.Requests < 100 || len(report.Given) < 30 {
-					t.Errorf("%d instances, %d bindings, %d requests, %d faults",
-						report.Instances, report.Bindings, report.Requests, len(report.Given))
-				}
-				if left := m.left(t); len(left) > 0 {
-					t.Errorf("%v are left", left)
-				}
+				untilEnough(t, func(seed int64) *Report {
+					m, url := newModel(t, isAsync, mistakes{})
+					config := configFor(t, url)
+					config.Seed, config.SettleTime, config.CleanUpTime = seed, time.Minute, time.Minute
+					if isListed {
+						config.Commands = m.commands()
+					}
+					report := stormed(t, config)
+					if !report.IsClean() || len(report.Broken) > 0 || len(report.Failed) > 0 || len(report.Leftovers) > 0 {
+						t.Error(textOf(t, report))
+					}
+					if left := m.left(t); len(left) > 0 {
+						t.Errorf("%v are left", left)
+					}
+					return report
+				})
 			})
 		}
 	}
@@ -217,4 +240,18 @@ func TestMinimize(t *testing.T) {
 		}
 		return ""
 	})
+}
+
+// A broker without a catalogue can be tested if the service and the plan are given. The error says so.
+func TestNoCatalogue(t *testing.T) {
+	server := httptest.NewServer(http.NotFoundHandler())
+	defer server.Close()
+	storm, err := New(configFor(t, server.URL))
+	if err != nil {
+		t.Fatal(err)
+	}
+	_, err = storm.Run(context.Background(), context.Background())
+	if !errors.Is(err, conform.ErrNoPlan) || !strings.Contains(err.Error(), "give --service and --plan with ids") {
+		t.Errorf("the error is %v", err)
+	}
 }

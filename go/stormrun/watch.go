@@ -4,6 +4,8 @@ import (
 	"context"
 	"sync"
 	"time"
+
+	"pippinterm/faults"
 )
 
 // A watch compares, while a storm goes on, the records that say ready or gone with what exists.
@@ -22,7 +24,7 @@ type watch struct {
 
 // run looks until ctx is done.
 func (w *watch) run(ctx context.Context, each time.Duration) {
-	for sleep(ctx, each) {
+	for faults.Sleep(ctx, each) {
 		w.look(ctx)
 	}
 }
@@ -77,4 +79,35 @@ func (w *watch) differences() []Difference {
 	w.mutex.Lock()
 	defer w.mutex.Unlock()
 	return append([]Difference(nil), w.found...)
+}
+
+// An ending is what exists at the end, and what the records and what exists disagree in.
+type ending struct {
+	last        Sight
+	differences []Difference
+	failed      []string // what went wrong with the comparison
+}
+
+// end compares at the end, and adds what was found before. isWhole is whether the run has waited until the records
+// converged.
+func (w *watch) end(ctx context.Context, isWhole bool) (e ending) {
+	e.differences = w.differences()
+	records, err := w.orders.Records(context.Background())
+	if err != nil {
+		e.failed = append(e.failed, "the records can't be read: "+err.Error())
+		return e
+	}
+	keys := make([]Key, 0, len(records))
+	for key := range records {
+		keys = append(keys, key)
+	}
+	if e.last, err = w.inventory.Look(ctx, keys); err != nil && ctx.Err() == nil {
+		e.failed = append(e.failed, "what exists can't be asked for: "+err.Error())
+	}
+	found := compare(records, e.last)
+	if !isWhole {
+		found = found.without(Stuck)
+	}
+	e.differences = append(e.differences, found...)
+	return e
 }

@@ -29,8 +29,8 @@ func NameOf(key broker.Key) string {
 	return name
 }
 
-// keyOf is the key whose role has a name, if there is one.
-func keyOf(name string) (key broker.Key, isOne bool) {
+// KeyOf returns the key whose role has a name, if there is one.
+func KeyOf(name string) (key broker.Key, isOne bool) {
 	parts := strings.Split(name, "_")
 	if len(parts) < 2 || len(parts) > 3 || parts[0] != "osb" {
 		return key, false

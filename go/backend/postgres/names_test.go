@@ -43,7 +43,7 @@ func TestNames(t *testing.T) {
 		if names[name] || len(name) > 63 || strings.Trim(name, "0123456789abcdefghijklmnopqrstuvwxyz_") != "" {
 			t.Errorf("%v has the name %s", key, name)
 		}
-		if got, isOne := keyOf(name); !isOne || got != key {
+		if got, isOne := KeyOf(name); !isOne || got != key {
 			t.Errorf("%s is the name of %v", name, got)
 		}
 		password := PasswordOf([]byte("key"), key)
@@ -58,7 +58,7 @@ func TestNames(t *testing.T) {
 		"osb_0f1e2d3c4b5a69788796a5b4c3d2e1f0_00",
 		NameOf(keys[3]) + "_", NameOf(keys[0]) + "_vvvvvvvvvvvvvvvvvvvvvvvvvv",
 	} {
-		if key, isOne := keyOf(name); isOne {
+		if key, isOne := KeyOf(name); isOne {
 			t.Errorf("%s is the name of %v", name, key)
 		}
 	}

@@ -105,7 +105,7 @@ func (r rekeying) roles(tx *sql.Tx) (found []labelled, err error) {
 		if err := rows.Scan(&name, &label); err != nil {
 			return nil, err
 		}
-		if key, isOne := keyOf(name); isOne {
+		if key, isOne := KeyOf(name); isOne {
 			found = append(found, labelled{key, label})
 		}
 	}

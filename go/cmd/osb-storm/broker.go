@@ -5,29 +5,19 @@ import (
 	"errors"
 	"fmt"
 	"io"
-	"math/rand"
-	"os"
-	"strings"
 	"time"
 
 	"github.com/spf13/cobra"
 
 	"pippinterm/conform"
-	"pippinterm/faults"
 	"pippinterm/program"
-	"pippinterm/program/secrets"
 	"pippinterm/stormrun"
 )
 
 // brokerSettings are the options of `osb-storm broker`.
 type brokerSettings struct {
-	config               stormrun.Config
-	passwordFile         string
-	json, html           string
-	faultsFile, faultsTo string
-	percent              int
-	minimize             bool
-	minimizeTime         time.Duration
+	stormSettings
+	config stormrun.Config
 }
 
 const brokerHelp = `Let a platform drive a broker through a network that loses, delays, repeats and garbles requests and
@@ -41,40 +31,35 @@ deletions, too.
 
 To find out what exists, give --list-command. Without it, osb-storm asks the broker for each instance.
 
-The commands are run by /bin/sh, and must return. A broker that is started in the foreground needs & at the end of its
-command.
+With --journal, the platform writes its journal, which osb-audit compares with that of osb-broker. The platform then also
+deletes everything that its records name, before osb-storm deletes the rest.
+
+The commands are run by /bin/sh, and must return within a minute. A broker that is started in the foreground needs & at
+the end of its command.
 
 environment:
   OSB_BROKER_PASSWORD      the password, if --password-file isn't given
 
-exit status: 0 nothing was lost; 1 something was lost, a record was false, an answer broke a MUST, or not everything
-converged; 2 change something first: an argument, a file, a name, or a plan that can't be created without faults; 3 an
-instance or a binding could not be deleted, and standard output lists it; 69 the broker can't be reached; 70 any other
-error`
+exit status: 0 nothing was lost; 1 something was lost, a record was false, an answer broke a MUST, not everything
+converged, something couldn't be asked for, or a signal ended the run; 2 change something first: an argument, a file, a
+name, a plan that can't be created without faults, or a command that doesn't list what exists; 3 an instance or a
+binding could not be deleted, and standard output lists it; 69 the broker can't be reached; 70 any other error`
 
 func brokerCommand(o *outcome) *cobra.Command {
 	s := &brokerSettings{}
-	made := &cobra.Command{
-		Use:   "broker --url URL",
-		Short: "Drive a broker through a faulty network, and find what was lost",
-		Long:  brokerHelp,
-		RunE: func(c *cobra.Command, _ []string) (err error) {
-			if !c.Flags().Changed("seed") {
-				s.config.Seed = rand.New(rand.NewSource(time.Now().UnixNano())).Int63n(1 << 32)
-			}
-			o.status, err = s.run(c.Context(), c.OutOrStdout(), c.ErrOrStderr())
-			return err
-		},
+	run := func(c *cobra.Command) (int, error) {
+		s.chooseSeed(c)
+		return s.run(c.Context(), c.OutOrStdout(), c.ErrOrStderr())
 	}
-	made.SetUsageTemplate(strings.ReplaceAll(made.UsageTemplate(), ".FlagUsages", ".FlagUsagesWrapped 110"))
-	made.Flags().SortFlags = false
+	return commandOf(o, "broker --url URL",
+		"Drive a broker through a faulty network, and find what was lost", brokerHelp, "url", s.add, run)
+}
+
+// add adds the options.
+func (s *brokerSettings) add(made *cobra.Command) {
 	s.addBroker(made)
 	s.addStorm(made)
 	s.addReports(made)
-	if err := made.MarkFlagRequired("url"); err != nil {
-		panic(err) // there is no such flag
-	}
-	return made
 }
 
 // addBroker adds the options about the broker.
@@ -102,14 +87,8 @@ func (s *brokerSettings) addStorm(made *cobra.Command) {
 	flags.Var(program.Count(&config.Broker.Instances, 50, 2, 10000), "instances", "the most instances that a run creates")
 	flags.Var(program.Seconds(&config.Time, time.Minute), "seconds", "after which the faults end")
 	flags.Var(program.Seconds(&config.SettleTime, 2*time.Minute), "settle-seconds", "until everything has converged")
-	flags.Var(program.Count(&s.percent, 40, 0, 100), "fault-percent", "how many of 100 requests have a fault")
-	flags.Int64Var(&config.Seed, "seed", 0, "a `number` that chooses the faults. Default: by chance; it is printed")
-	flags.StringVar(&s.faultsFile, "faults", "",
-		"a `file` with the faults, in place of those by the seed: on each line a request and a kind, such as "+
-			"12.3 answer-lost")
-	flags.StringVar(&s.faultsTo, "faults-to", "", "a `file` to which the faults are written, for --faults")
-	flags.BoolVar(&s.minimize, "minimize", false, "shrink the list of faults to the shortest one that still loses one")
-	flags.Var(program.Seconds(&s.minimizeTime, 10*time.Minute), "minimize-seconds", "for --minimize")
+	s.addFaults(made)
+	s.addMinimize(made, "shrink the list of faults to the shortest one that still loses one")
 	flags.Var(program.Seconds(&config.RequestTime, 3*time.Second), "request-seconds",
 		"for which the platform waits for an answer")
 	flags.Var(program.Seconds(&config.Late, 6*time.Second), "late-seconds", "the bound of every delay")
@@ -119,31 +98,34 @@ func (s *brokerSettings) addStorm(made *cobra.Command) {
 		"for an asynchronous operation")
 	flags.Var(program.Seconds(&config.Broker.Pause, time.Second/2), "poll-seconds", "between two polls of an operation")
 	flags.Var(program.Seconds(&config.CleanUpTime, 5*time.Minute), "cleanup-seconds", "for the deletions at the end")
-}
-
-// addReports adds the options about the reports.
-func (s *brokerSettings) addReports(made *cobra.Command) {
-	flags := made.Flags()
-	flags.StringVar(&s.json, "json", "", "a `file` to which the report is written as JSON, too")
-	flags.StringVar(&s.html, "html", "", "a `file` to which the report is written as one page of HTML, too")
+	flags.StringVar(&config.Journal, "journal", "",
+		"a `directory`: the journal of the storm's platform is written to DIRECTORY/platform, for osb-audit")
 }
 
 // run runs the storm, and writes the reports. It returns the exit status.
 func (s *brokerSettings) run(ctx context.Context, out, stderr io.Writer) (int, error) {
+	files, err := s.open()
+	if err != nil {
+		return 0, err
+	}
+	defer files.close()
 	storm, err := s.storm(stderr)
 	if err != nil {
 		return 0, program.Unusable(err)
 	}
 	running, deleting, forget := untilSignals(ctx)
 	defer forget()
-	fmt.Fprintf(out, "Each id begins with %s. The seed is %d.\n\n", storm.Prefix(), s.config.Seed)
+	fmt.Fprintf(out, "Each id begins with %s. The seed is %d.\n\n", storm.Prefix(), s.seed)
 	report, failure := storm.Run(running, deleting)
 	if failure != nil {
 		return failed(report, failure, out, stderr)
 	}
-	if err := s.write(report, out); err != nil {
-		return 0, err
-	}
+	status, failure := s.status(report)
+	return concluded(status, failure, s.write(report, files, out), stderr)
+}
+
+// status returns the exit status for a report, or what the run has failed at.
+func (s *brokerSettings) status(report *stormrun.Report) (int, error) {
 	switch {
 	case len(report.Leftovers) > 0:
 		return statusLeft, nil
@@ -168,75 +150,20 @@ func failed(report *stormrun.Report, failure error, out, stderr io.Writer) (int,
 		fmt.Fprintf(stderr, "osb-storm: %v\n", failure)
 		return statusUnreachable, nil
 	case errors.Is(failure, conform.ErrLogin), errors.Is(failure, conform.ErrNoPlan),
-		errors.Is(failure, stormrun.ErrTrial):
+		errors.Is(failure, stormrun.ErrTrial), errors.Is(failure, stormrun.ErrList):
 		return 0, program.Unusable(failure)
 	}
 	return 0, failure
 }
 
 // storm reads the password and the list of faults, and returns a Storm for the settings.
-func (s *brokerSettings) storm(warnings io.Writer) (*stormrun.Storm, error) {
-	passwords, warning, err := secrets.Passwords("OSB_BROKER_PASSWORD", s.passwordFile)
-	if err != nil {
-		return nil, fmt.Errorf("the password: %w", err)
-	}
-	if warning != "" {
-		fmt.Fprintf(warnings, "osb-storm: %s\n", warning)
-	}
-	s.config.Broker.Password, s.config.Share = passwords[0], float64(s.percent)/100
-	if s.minimize {
-		s.config.MinimizeTime = s.minimizeTime
-	}
-	if s.faultsFile != "" {
-		if s.config.List, err = readFaults(s.faultsFile); err != nil {
-			return nil, err
-		}
-	}
-	return stormrun.New(s.config)
-}
-
-// readFaults reads a list of faults. It isn't nil, even if the file has no fault.
-func readFaults(name string) ([]faults.Numbered, error) {
-	file, err := os.Open(name)
-	if err != nil {
+func (s *brokerSettings) storm(warnings io.Writer) (storm *stormrun.Storm, err error) {
+	if s.config.Broker.Password, err = s.password(warnings); err != nil {
 		return nil, err
 	}
-	defer file.Close()
-	list, err := faults.ReadList(file)
-	if err != nil {
-		return nil, fmt.Errorf("%s: %w", name, err)
+	s.config.Seed, s.config.Share, s.config.MinimizeTime = s.seed, s.share(), s.forMinimize()
+	if s.config.List, err = s.list(); err != nil {
+		return nil, err
 	}
-	return append([]faults.Numbered{}, list...), nil
-}
-
-// write writes the report as text, and into each file that is named.
-func (s *brokerSettings) write(report *stormrun.Report, out io.Writer) error {
-	if err := report.WriteText(out); err != nil {
-		return fmt.Errorf("the report can't be written: %w", err)
-	}
-	for _, it := range []struct {
-		name  string
-		write func(io.Writer) error
-	}{{s.json, report.WriteJSON}, {s.html, report.WriteHTML}, {s.faultsTo, report.WriteFaults}} {
-		if err := writeTo(it.name, it.write); err != nil {
-			return err
-		}
-	}
-	return nil
-}
-
-// writeTo writes a file, if it has a name.
-func writeTo(name string, write func(io.Writer) error) error {
-	if name == "" {
-		return nil
-	}
-	file, err := os.Create(name)
-	if err != nil {
-		return program.Unusable(fmt.Errorf("the report can't be written: %w", err))
-	}
-	if err := write(file); err != nil {
-		_ = file.Close()
-		return fmt.Errorf("the report can't be written: %w", err)
-	}
-	return file.Close()
+	return stormrun.New(s.config)
 }

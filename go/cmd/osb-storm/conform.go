@@ -7,7 +7,6 @@ import (
 	"io"
 	"os"
 	"os/signal"
-	"strings"
 	"syscall"
 	"time"
 
@@ -15,7 +14,6 @@ import (
 
 	"pippinterm/conform"
 	"pippinterm/program"
-	"pippinterm/program/secrets"
 )
 
 // conformSettings are the options of `osb-storm conform`.
@@ -41,18 +39,14 @@ not be deleted, and standard output lists it; 69 the broker can't be reached; 70
 
 func conformCommand(o *outcome) *cobra.Command {
 	s := &conformSettings{}
-	made := &cobra.Command{
-		Use:   "conform --url URL",
-		Short: "Compare the answers of a broker with the standard",
-		Long:  conformHelp,
-		RunE: func(c *cobra.Command, _ []string) (err error) {
-			o.status, err = s.run(c.Context(), c.OutOrStdout(), c.ErrOrStderr())
-			return err
-		},
-	}
-	made.SetUsageTemplate(strings.ReplaceAll(made.UsageTemplate(), ".FlagUsages", ".FlagUsagesWrapped 110"))
+	return commandOf(o, "conform --url URL",
+		"Compare the answers of a broker with the standard", conformHelp, "url", s.add,
+		func(c *cobra.Command) (int, error) { return s.run(c.Context(), c.OutOrStdout(), c.ErrOrStderr()) })
+}
+
+// add adds the options.
+func (s *conformSettings) add(made *cobra.Command) {
 	flags, config := made.Flags(), &s.config
-	flags.SortFlags = false
 	flags.StringVar(&config.URL, "url", "", "the `URL` of the broker, without /v2")
 	flags.StringVar(&config.User, "user", "platform", "the `name` with which to log in")
 	flags.StringVar(&s.passwordFile, "password-file", "", "a `file` with the password")
@@ -68,14 +62,15 @@ func conformCommand(o *outcome) *cobra.Command {
 	flags.Var(program.Seconds(&s.cleanupTime, 5*time.Minute), "cleanup-seconds", "for the deletions at the end")
 	flags.StringSliceVar(&s.except, "except", nil, "`cases` that don't change the exit status, separated by commas")
 	flags.StringVar(&s.json, "json", "", "a `file` to which the report is written as JSON, too")
-	if err := made.MarkFlagRequired("url"); err != nil {
-		panic(err) // there is no such flag
-	}
-	return made
 }
 
 // run checks the broker, deletes what it has created, and writes the report. It returns the exit status.
 func (s *conformSettings) run(ctx context.Context, out, stderr io.Writer) (int, error) {
+	files, err := openReports(s.json)
+	if err != nil {
+		return 0, err
+	}
+	defer files.close()
 	runner, err := s.runner(stderr)
 	if err != nil {
 		return 0, program.Unusable(err)
@@ -92,10 +87,7 @@ func (s *conformSettings) run(ctx context.Context, out, stderr io.Writer) (int, 
 	if failure != nil {
 		return s.failed(failure, stderr)
 	}
-	if err := s.write(report, out); err != nil {
-		return 0, err
-	}
-	return s.status(report), nil
+	return concluded(s.status(report), nil, files.write(out, report.WriteText, report.WriteJSON), stderr)
 }
 
 // runner reads the password, and returns a Runner for the settings.
@@ -103,14 +95,11 @@ func (s *conformSettings) runner(warnings io.Writer) (*conform.Runner, error) {
 	if err := s.checkExcept(); err != nil {
 		return nil, err
 	}
-	passwords, warning, err := secrets.Passwords("OSB_BROKER_PASSWORD", s.passwordFile)
+	password, err := passwordOf(s.passwordFile, warnings)
 	if err != nil {
-		return nil, fmt.Errorf("the password: %w", err)
+		return nil, err
 	}
-	if warning != "" {
-		fmt.Fprintf(warnings, "osb-storm: %s\n", warning)
-	}
-	s.config.Password = passwords[0]
+	s.config.Password = password
 	return conform.New(s.config)
 }
 
@@ -134,14 +123,6 @@ func (s *conformSettings) failed(failure error, stderr io.Writer) (int, error) {
 		return statusUnreachable, nil
 	}
 	return 0, program.Unusable(failure)
-}
-
-// write writes the report as text, and as JSON if there is a file for it.
-func (s *conformSettings) write(report *conform.Report, out io.Writer) error {
-	if err := report.WriteText(out); err != nil {
-		return fmt.Errorf("the report can't be written: %w", err)
-	}
-	return writeTo(s.json, report.WriteJSON)
 }
 
 // status returns the exit status for a report.

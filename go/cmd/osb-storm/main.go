@@ -1,4 +1,4 @@
-// osb-storm tests a broker under the Open Service Broker API 2.17 (docs/storm.md).
+// osb-storm tests a broker or a platform under the Open Service Broker API 2.17 (docs/storm.md).
 package main
 
 import (
@@ -24,7 +24,7 @@ type outcome struct{ status int }
 
 // The exit statuses besides those of the package program.
 const (
-	statusDeviates    = 1  // the broker deviates from the standard, or not every case was tried
+	statusDeviates    = 1  // what is tested deviates from the standard or loses something, or not everything was tried
 	statusLeft        = 3  // something couldn't be deleted
 	statusUnreachable = 69 // the broker doesn't answer (EX_UNAVAILABLE in sysexits.h)
 )
@@ -32,18 +32,21 @@ const (
 func rootCommand(o *outcome) *cobra.Command {
 	root := &cobra.Command{
 		Use:     "osb-storm",
-		Short:   "Test a broker under the Open Service Broker API 2.17",
+		Short:   "Test a broker or a platform under the Open Service Broker API 2.17",
 		Version: program.Version(),
-		Long: `Test a broker under the Open Service Broker API 2.17.
+		Long: `Test a broker or a platform under the Open Service Broker API 2.17.
 
-It creates instances and bindings of its own at the broker, and deletes them again.
+At a broker, it creates instances and bindings of its own, and deletes them again. For a platform, it is a broker.
+Of osb-broker and osb-platform, it tests both together.
 
     ./osb-storm conform --url http://127.0.0.1:8080 --user platform --password-file FILE
     ./osb-storm broker --url http://127.0.0.1:8080 --user platform --password-file FILE
+    ./osb-storm platform --listen 127.0.0.1:8080 --user platform --password-file FILE
+    ./osb-storm both
 
-docs/storm.md says how to run it against a broker of your own.`,
+docs/storm.md says how to run it against a broker or a platform of your own.`,
 	}
-	root.AddCommand(conformCommand(o), brokerCommand(o))
+	root.AddCommand(conformCommand(o), brokerCommand(o), platformCommand(o), bothCommand(o), usualCommand())
 	root.CompletionOptions.DisableDefaultCmd = true
 	return root
 }

@@ -1,0 +1,90 @@
+"""The files of the reports of osb-storm: a wrong name ends the program before the run, and no report is lost later."""
+from __future__ import annotations
+
+import json
+import re
+import socket
+import subprocess
+from pathlib import Path
+
+import pytest
+from conform.login import ENVIRONMENT
+from conform.small_broker import SmallBroker
+from conform.twice_broker import TwiceBroker
+
+pytestmark = pytest.mark.slow
+
+SHORT = (
+    *("--seconds", "4", "--instances", "20", "--fault-percent", "50", "--late-seconds", "0.8"),
+    *("--request-seconds", "0.4", "--poll-seconds", "0.1", "--seed", "1"),
+)
+
+
+def ran(*line: object, seconds: float = 120) -> subprocess.CompletedProcess[str]:
+    return subprocess.run(
+        [str(it) for it in line],
+        env=ENVIRONMENT,
+        stdin=subprocess.DEVNULL,
+        capture_output=True,
+        text=True,
+        timeout=seconds,
+    )
+
+
+@pytest.mark.parametrize("command", ["conform", "broker", "platform", "both"])
+def test_names_are_tried_first(storm: Path, tmp_path: Path, command: str) -> None:
+    """Nothing is sent or waited for, the status is 2, and no other file is left or changed."""
+    kept, new = tmp_path / "kept", tmp_path / "new"
+    kept.write_text("before")
+    with SmallBroker().running() as small:
+        own: dict[str, list[str]] = {"platform": ["--listen", "127.0.0.1:0"], "both": []}
+        arguments = own.get(command, ["--url", small.url])
+        for option in ["--json"] if command == "conform" else ["--json", "--html", "--faults-to"]:
+            for wrong in tmp_path / "none" / "file", tmp_path:
+                others = [it for it in ("--json", "--html", "--faults-to") if it != option and command != "conform"]
+                files = [it for pair in zip(others, (kept, new)) for it in pair]
+                done = ran(storm, command, *arguments, option, wrong, *files, seconds=20)
+                assert (done.returncode, done.stderr.count("\n"), done.stdout) == (2, 1, ""), done.stderr
+                assert f"the report can't be written: open {wrong}: " in done.stderr
+                assert kept.read_text() == "before" and not new.exists()
+        assert small.instances == set()
+
+
+def test_failed_run_changes_no_report(storm: Path, tmp_path: Path) -> None:
+    """If there is nothing to report, an earlier report stays, and no empty one is left."""
+    with socket.create_server(("127.0.0.1", 0)) as free:
+        unused = f"http://127.0.0.1:{free.getsockname()[1]}"
+    kept, new = tmp_path / "kept", tmp_path / "new"
+    kept.write_text("before")
+    for command, files in ("broker", ["--json", kept, "--html", new]), ("conform", ["--json", kept]):
+        assert ran(storm, command, "--url", unused, *files).returncode == 69
+        assert kept.read_text() == "before" and not new.exists()
+
+
+@pytest.mark.long(20)
+def test_all_reports_are_written(storm: Path, tmp_path: Path) -> None:
+    """A full disk costs one report. The others are written over longer ones, and what was found decides the status."""
+    for number, full in enumerate(("--json", "--html", "--faults-to")):
+        broker = TwiceBroker(tmp_path / f"instances{number}")
+        files = {it: tmp_path / f"report{it}" for it in ("--json", "--html", "--faults-to")}
+        for file in files.values():
+            file.write_text("x" * 1_000_000)
+        files[full] = Path("/dev/full")
+        with broker.running():
+            options = [it for pair in files.items() for it in pair]
+            done = ran(storm, "broker", "--url", broker.url, *SHORT, "--list-command", broker.list_command, *options)
+        assert (done.returncode, done.stderr.count("\n")) == (1, 1), done.stdout + done.stderr
+        assert done.stderr.startswith("osb-storm: the report can't be written: write /dev/full: "), done.stderr
+        assert "it exists twice" in done.stdout
+        if full != "--json":
+            assert json.loads(files["--json"].read_text())["lost"]
+        if full != "--html":
+            assert files["--html"].read_text().rstrip().endswith("</html>")
+        if full != "--faults-to":
+            assert re.fullmatch(r"(\d+\.\d+ [a-z-]+\n)+", files["--faults-to"].read_text())
+
+
+def test_nothing_found_and_no_report(storm: Path, served: str) -> None:
+    """If nothing was found, a report that can't be written is an error."""
+    done = ran(storm, "conform", "--url", served, "--poll-seconds", "0.01", "--json", "/dev/full")
+    assert (done.returncode, done.stderr.count("\n")) == (70, 1), done.stderr

@@ -1,0 +1,181 @@
+package main
+
+import (
+	"context"
+	"errors"
+	"fmt"
+	"io"
+	"os"
+	"path/filepath"
+	"strings"
+	"time"
+
+	"github.com/spf13/cobra"
+
+	"pippinterm/program"
+	"pippinterm/stormrun"
+)
+
+// bothSettings are the options of `osb-storm both`.
+type bothSettings struct {
+	stormSettings
+	config stormrun.BothConfig
+}
+
+const bothHelp = `Run osb-broker and osb-platform with a network between them that loses, delays, repeats and garbles
+requests and answers. Kill both programs with SIGKILL again and again, pause them with SIGSTOP for longer than a request
+lasts, and start them again. Find out what was lost: instances and bindings that exist without a record, records that
+say ready though nothing exists, records that don't converge, and whatever else the platform's records, the broker's
+rows and the resources disagree in.
+
+The stores, the folders that are sold, and the logs are in a temporary folder, which is deleted at the end, also after
+SIGINT or SIGTERM. A storm with --store postgresql or --backend postgresql needs --postgresql or --kill-database.
+
+A storm goes on until it has tried everything, for at most twice --seconds, or 240 seconds if that is more: until 20
+records of each kind were compared, each kind of fault has met a request, and each program was killed twice and paused
+once. With --crash-points, both programs and the commands are also killed at each of their named crash points. Build the
+programs with the tag crashpoints for that.
+
+environment:
+  OSB_BROKER               the program osb-broker, if --broker-program isn't given
+  OSB_PLATFORM             the program osb-platform, if --platform-program isn't given
+
+Without them, both programs are looked for beside osb-storm.
+
+exit status: 0 nothing was lost; 1 something was lost, a record was false, something disagrees, not everything
+converged, an answer broke a MUST, a program ended by itself, not everything was tried, or a signal ended the run; 2
+change something first: an argument, a file, a program or a server; 70 any other error`
+
+func bothCommand(o *outcome) *cobra.Command {
+	s := &bothSettings{}
+	run := func(c *cobra.Command) (int, error) {
+		s.chooseSeed(c)
+		s.chooseSettleTime(c)
+		return s.run(c.Context(), c.OutOrStdout(), c.ErrOrStderr())
+	}
+	return commandOf(o, "both",
+		"Run osb-broker and osb-platform through faults and kills, and find what was lost", bothHelp, "", s.add, run)
+}
+
+// chooseSettleTime shortens the time to converge if a part of the design is taken out, unless a time is given: what is
+// left behind then may keep an instance from being deleted.
+func (s *bothSettings) chooseSettleTime(c *cobra.Command) {
+	const without = 40 * time.Second
+	if s.config.Without != "" && !c.Flags().Changed("settle-seconds") {
+		s.config.SettleTime = without
+	}
+}
+
+// add adds the options.
+func (s *bothSettings) add(made *cobra.Command) {
+	flags, config := made.Flags(), &s.config
+	flags.StringVar(&config.Broker, "broker-program", "", "the `program` osb-broker")
+	flags.StringVar(&config.Platform, "platform-program", "", "the `program` osb-platform")
+	flags.Var(program.Count(&config.Workers, 1, 1, 16), "workers", "how many workers the platform has")
+	flags.Var(program.Count(&config.Brokers, 1, 1, 16), "brokers",
+		"how many brokers serve over one store; each request reaches one of them, by chance")
+	flags.BoolVar(&config.HAProxy, "haproxy", false, "let HAProxy stand in front of the brokers")
+	flags.Var(choiceOf(&config.Store, stormrun.InFiles, stormrun.InFiles, stormrun.InPostgreSQL), "store",
+		"where the records and the broker's rows are: `place`, sqlite or postgresql")
+	flags.Var(choiceOf(&config.Backend, stormrun.AsFolders, stormrun.AsFolders, stormrun.InPostgreSQL), "backend",
+		"what the broker sells: `kind`, folders or postgresql")
+	flags.StringVar(&config.PostgreSQL, "postgresql", "",
+		"the `URL` of a PostgreSQL server for them. The storm creates a database of its own there, and needs the rights to "+
+			"create databases and roles")
+	flags.Var(program.Count(&config.KillDatabase, 0, 0, 100), "kill-database",
+		"how often PostgreSQL is killed, and how often it is paused. It is a server of the storm's own then")
+	flags.BoolVar(&config.Unruly, "unruly", false,
+		"a second client creates and deletes bindings of any instance at any time, so only the broker's rules protect them")
+	flags.Var(choiceOf(&config.Without, "", stormrun.Parts()...), "without",
+		"take a `part` of the design out, and succeed only if the storm finds what that leaves behind: "+
+			strings.Join(stormrun.Parts(), ", ")+". The programs need the build tag storm")
+	flags.Var(program.Count(&config.Instances, 100, 1, 10000), "instances",
+		"how many instances are created, and as many again if not everything is done after that")
+	flags.Var(program.Seconds(&config.Time, time.Minute), "seconds", "after which the faults and the kills end")
+	flags.Var(program.Seconds(&config.SettleTime, 2*time.Minute), "settle-seconds", "until everything has converged")
+	flags.Var(choiceOf(&config.CrashPoints, "", stormrun.AllPoints, stormrun.SomePoints), "crash-points",
+		"kill both programs and the commands at their crash points, too: `which`, all or some. With some, it is no failure "+
+			"if a crash point isn't visited")
+	flags.Lookup("crash-points").NoOptDefVal = stormrun.AllPoints
+	flags.BoolVar(&config.Calm, "calm", false,
+		"kill and pause nothing, and let the operator do nothing besides the lives: nothing but the faults comes")
+	s.addFaults(made)
+	s.addMinimize(made, "if something is lost, shrink the list of faults to the shortest one that still loses one in a "+
+		"calm storm, as with --calm. What needs a kill, a pause or --unruly can't be shrunk")
+	flags.Var(program.Seconds(&config.RequestTime, 2*time.Second), "request-seconds",
+		"for which the platform waits for an answer")
+	flags.Var(program.Seconds(&config.Late, 6*time.Second), "late-seconds", "the bound of every delay")
+	flags.StringVar(&config.Journal, "journal", "",
+		"a `directory` for the journals of both programs, which get --journal DIRECTORY/broker and DIRECTORY/platform")
+	s.addReports(made)
+}
+
+// run runs the storm, and writes the reports. It returns the exit status.
+func (s *bothSettings) run(ctx context.Context, out, stderr io.Writer) (status int, err error) {
+	files, err := s.open()
+	if err != nil {
+		return 0, err
+	}
+	defer files.close()
+	running, _, forget := untilSignals(ctx)
+	defer forget()
+	both, err := s.start(running)
+	if err != nil {
+		return 0, program.Unusable(err)
+	}
+	fmt.Fprintf(out, "The seed is %d.\n\n", s.seed)
+	found, failure := both.Run(running)
+	closed := both.Close()
+	if failure != nil {
+		return 0, program.Unusable(failure)
+	}
+	switch {
+	case closed != nil:
+		failure = program.Unusable(closed)
+	case len(found.Failed) > 0:
+		failure = errors.New(found.Failed[0])
+	case !found.IsClean():
+		status = statusDeviates
+	}
+	return concluded(status, failure, s.write(found, files, out), stderr)
+}
+
+// start finds the programs, reads the list of faults, and opens a storm of both.
+func (s *bothSettings) start(ctx context.Context) (both *stormrun.Both, err error) {
+	for _, it := range []struct {
+		to             *string
+		name, variable string
+	}{{&s.config.Broker, "osb-broker", "OSB_BROKER"}, {&s.config.Platform, "osb-platform", "OSB_PLATFORM"}} {
+		if *it.to, err = programOf(*it.to, it.name, it.variable); err != nil {
+			return nil, err
+		}
+	}
+	if s.config.Self, err = os.Executable(); err != nil {
+		return nil, err
+	}
+	s.config.Seed, s.config.Share, s.config.MinimizeTime = s.seed, s.share(), s.forMinimize()
+	if s.config.List, err = s.list(); err != nil {
+		return nil, err
+	}
+	return stormrun.NewBoth(ctx, s.config)
+}
+
+// programOf returns the path of a program: the one that an option or a variable names, or the one beside this program.
+func programOf(given, name, variable string) (string, error) {
+	if given == "" {
+		given = os.Getenv(variable)
+	}
+	if given != "" {
+		return filepath.Abs(given)
+	}
+	own, err := os.Executable()
+	if err != nil {
+		return "", err
+	}
+	found := filepath.Join(filepath.Dir(own), name)
+	if _, err := os.Stat(found); err != nil {
+		return "", fmt.Errorf("there is no %s: run ./%s --help once, which builds it, or name it with --%s-program",
+			found, name, name[len("osb-"):])
+	}
+	return found, nil
+}

@@ -1,0 +1,129 @@
+package main
+
+import (
+	"context"
+	"errors"
+	"fmt"
+	"io"
+	"time"
+
+	"github.com/spf13/cobra"
+
+	"pippinterm/program"
+	"pippinterm/stormplatform"
+)
+
+// platformSettings are the options of `osb-storm platform`.
+type platformSettings struct {
+	stormSettings
+	config stormplatform.Config
+}
+
+const platformHelp = `Be a broker for your platform, behind a network that loses, delays, repeats and garbles requests
+and answers, and find out what the platform abandons: instances and bindings that exist though the platform doesn't have
+them, those that the platform has in vain, missing deletions that the section Orphan Mitigation of the Open Service
+Broker API 2.17 asks for, and requests that break the standard.
+
+Add the broker to your platform, and let the platform create and delete instances and bindings. With the first request
+about an instance, the faults begin. After --seconds they end, and the platform has --settle-seconds to clean up. If
+nothing is left to clean up, osb-storm ends before.
+
+The broker sells folders in a temporary folder, which is deleted at the end, also after SIGINT or SIGTERM.
+
+To find out what the platform has, give --list-command, and --list-bindings-command for the bindings. Without them,
+osb-storm judges by the platform's requests, and lists what you have to compare yourself.
+
+environment:
+  OSB_BROKER_PASSWORD      the password, if --password-file isn't given
+
+exit status: 0 nothing was abandoned; 1 something was abandoned, a record was false, not everything converged, a
+request broke a MUST, no request came, or a signal ended the run; 2 change something first: an argument or a file; 70
+any other error`
+
+func platformCommand(o *outcome) *cobra.Command {
+	s := &platformSettings{}
+	run := func(c *cobra.Command) (int, error) {
+		s.chooseSeed(c)
+		return s.run(c.Context(), c.OutOrStdout(), c.ErrOrStderr())
+	}
+	return commandOf(o, "platform --listen HOST:PORT",
+		"Be a broker behind a faulty network, and find what your platform abandons", platformHelp, "listen", s.add, run)
+}
+
+// add adds the options.
+func (s *platformSettings) add(made *cobra.Command) {
+	s.addPlatform(made)
+	s.addStorm(made)
+	s.addReports(made)
+}
+
+// addPlatform adds the options about the platform and its broker.
+func (s *platformSettings) addPlatform(made *cobra.Command) {
+	flags, config := made.Flags(), &s.config
+	flags.Var(program.Address(&config.Address, ""), "listen",
+		"where the platform reaches the broker; port 0 is any free port")
+	flags.StringVar(&config.User, "user", "platform", "the `name` with which the platform logs in")
+	flags.StringVar(&s.passwordFile, "password-file", "", "a `file` with the password")
+	flags.BoolVar(&config.FirstPoll, "first-poll", false,
+		"create an instance of an asynchronous plan only once the platform has polled it")
+	flags.StringVar(&config.Commands.List, "list-command", "",
+		"a `command` that prints the id of each instance that the platform has, one on a line")
+	flags.StringVar(&config.Commands.ListBindings, "list-bindings-command", "",
+		"a `command` that prints the ids of the instance and the binding for each binding that the platform has")
+}
+
+// addStorm adds the options about the storm.
+func (s *platformSettings) addStorm(made *cobra.Command) {
+	flags, config := made.Flags(), &s.config
+	flags.Var(program.Seconds(&config.WaitTime, 10*time.Minute), "wait-seconds", "for the first request about an instance")
+	flags.Var(program.Seconds(&config.Time, time.Minute), "seconds", "from then on until the faults end")
+	flags.Var(program.Seconds(&config.SettleTime, 2*time.Minute), "settle-seconds",
+		"for the platform to clean up after the faults")
+	s.addFaults(made)
+	flags.Var(program.Seconds(&config.RequestTime, time.Minute), "request-seconds",
+		"for which the platform waits for an answer")
+	flags.Var(program.Seconds(&config.Late, 6*time.Second), "late-seconds", "the bound of every delay")
+	flags.Var(program.Seconds(&config.OperationTime, 2*time.Second), "operation-seconds",
+		"for an asynchronous operation, at most")
+	flags.StringVar(&config.Journal, "journal", "",
+		"a `directory`: the journal of the storm's broker is written to DIRECTORY/broker, for osb-audit")
+}
+
+// run runs the storm, and writes the reports. It returns the exit status.
+func (s *platformSettings) run(ctx context.Context, out, stderr io.Writer) (status int, err error) {
+	files, err := s.open()
+	if err != nil {
+		return 0, err
+	}
+	defer files.close()
+	storm, err := s.start(ctx, stderr)
+	if err != nil {
+		return 0, program.Unusable(err)
+	}
+	running, _, forget := untilSignals(ctx)
+	defer forget()
+	fmt.Fprintf(out, "The broker listens at %s for the user %s. The seed is %d.\n"+
+		"The faults begin with the first request about an instance.\n\n", storm.URL(), s.config.User, s.seed)
+	found := storm.Run(running)
+	failure := storm.Close()
+	switch {
+	case failure != nil:
+	case len(found.Failed) > 0:
+		failure = errors.New(found.Failed[0])
+	case !found.IsClean():
+		status = statusDeviates
+	}
+	return concluded(status, failure, s.write(found, files, out), stderr)
+}
+
+// start reads the password and the list of faults, and starts a Storm for the settings.
+func (s *platformSettings) start(ctx context.Context, warnings io.Writer) (storm *stormplatform.Storm, err error) {
+	if s.config.Password, err = s.password(warnings); err != nil {
+		return nil, err
+	}
+	s.config.Seed, s.config.Share = s.seed, s.share()
+	if s.config.List, err = s.list(); err != nil {
+		return nil, err
+	}
+	return stormplatform.Start(ctx, s.config)
+}

@@ -1,0 +1,73 @@
+package stormplatform
+
+import (
+	"sync"
+
+	"pippinterm/faults"
+	"pippinterm/stormreport"
+)
+
+// places are the ids that the platform has named, with their Places in the order in which it has named them. Any number
+// of goroutines use them.
+type places struct {
+	mutex    sync.Mutex
+	of       map[stormreport.Key]faults.Place
+	bindings map[string]int // of each instance
+	order    []stormreport.Key
+	began    chan struct{} // is closed at the first request about an instance
+}
+
+func newPlaces() *places {
+	return &places{
+		of: map[stormreport.Key]faults.Place{}, bindings: map[string]int{}, began: make(chan struct{}),
+	}
+}
+
+// place returns the Place of ids, which are new or known. It is false if a path names no instance.
+func (p *places) place(instance, binding string) (faults.Place, bool) {
+	if instance == "" {
+		return faults.Place{}, false
+	}
+	p.mutex.Lock()
+	defer p.mutex.Unlock()
+	whole := p.instance(stormreport.Key{Instance: instance})
+	if binding == "" {
+		return whole, true
+	}
+	key := stormreport.Key{Instance: instance, Binding: binding}
+	if _, isKnown := p.of[key]; !isKnown {
+		p.bindings[instance]++
+		p.of[key] = faults.Place{Instance: whole.Instance, Binding: p.bindings[instance]}
+		p.order = append(p.order, key)
+	}
+	return p.of[key], true
+}
+
+// instance returns the Place of an instance. The mutex is locked.
+func (p *places) instance(key stormreport.Key) faults.Place {
+	if _, isKnown := p.of[key]; !isKnown {
+		if len(p.of) == 0 {
+			close(p.began)
+		}
+		p.of[key] = faults.Place{Instance: p.instances() + 1}
+		p.order = append(p.order, key)
+	}
+	return p.of[key]
+}
+
+// instances returns how many instances are known. The mutex is locked.
+func (p *places) instances() (count int) {
+	for _, it := range p.order {
+		if it.Binding == "" {
+			count++
+		}
+	}
+	return count
+}
+
+// keys returns all keys, in the order in which the platform has named them.
+func (p *places) keys() []stormreport.Key {
+	p.mutex.Lock()
+	defer p.mutex.Unlock()
+	return append([]stormreport.Key(nil), p.order...)
+}

@@ -1,0 +1,66 @@
+package stormreport
+
+import (
+	"reflect"
+	"strings"
+	"testing"
+	"time"
+
+	"pippinterm/conform"
+	"pippinterm/faults"
+)
+
+// Each instance and each binding is one finding, with all that was found of it, in its order.
+func TestFindings(t *testing.T) {
+	one, two := Key{Instance: "one"}, Key{Instance: "one", Binding: "two"}
+	run := Run{Place: func(instance, binding string) (faults.Place, bool) {
+		return faults.Place{Instance: 7}, binding == ""
+	}}
+	all := run.Findings([]Found{{one, "a"}, {two, "b"}, {one, "c"}, {one, "a"}})
+	var got []string
+	for _, it := range all {
+		got = append(got, it.Number+" "+it.Name()+" "+it.What)
+	}
+	wanted := []string{"7 instance 7 (one) a; c", "? binding ? (two of instance one) b"}
+	if !reflect.DeepEqual(got, wanted) {
+		t.Errorf("%q", got)
+	}
+}
+
+// A life has what is about the instance, its binding, or all. It doesn't begin with what was before.
+func TestLifeOf(t *testing.T) {
+	key := Key{Instance: "one", Binding: "two"}
+	events := []Event{
+		{At: time.Second, Who: WhoBroker, What: "is killed"},
+		{At: 2 * time.Second, Key: key.InstanceKey(), Who: "record", What: "ready"},
+		{At: 4 * time.Second, Who: WhoPlatform, What: "is paused"},
+		{At: 5 * time.Second, Key: Key{Instance: "other"}, Who: "record", What: "gone"},
+		{At: 6 * time.Second, Key: Key{Instance: "one", Binding: "other"}, Who: "record", What: "gone"},
+	}
+	x := faults.Exchange{Instance: "one", Binding: "two", Method: "PUT", Target: "/x", Begun: 3 * time.Second}
+	var got []string
+	for _, it := range LifeOf(key, []faults.Exchange{x}, events, Hider{}) {
+		got = append(got, it.What)
+	}
+	if wanted := "ready|PUT /x|doesn't get the request|is paused"; strings.Join(got, "|") != wanted {
+		t.Errorf("%q", got)
+	}
+	x.Ended, x.Got.Words = 7*time.Second, "no answer"
+	life := LifeOf(key, []faults.Exchange{x}, events, Hider{})
+	if last := life[len(life)-1]; len(life) != len(got)+1 || last.What != "gives the platform no answer" {
+		t.Errorf("%+v", life)
+	}
+}
+
+// Only a MUST that is broken counts.
+func TestBreaksMust(t *testing.T) {
+	of := func(level conform.Level) Broken {
+		return Broken{Result: conform.Result{Case: conform.Case{Level: level}}}
+	}
+	if BreaksMust(nil) || BreaksMust([]Broken{of(conform.Should), of(conform.May)}) {
+		t.Error("no MUST is broken")
+	}
+	if !BreaksMust([]Broken{of(conform.Should), of(conform.Must)}) {
+		t.Error("a MUST is broken")
+	}
+}
