@@ -8,14 +8,14 @@ FAST = not slow and not postgres and not browser and not alone
 STATICCHECK = $(CURDIR)/build/staticcheck
 
 .PHONY: help quick test check one prebuilt generate format release
-.PHONY: quick-format quick-lint quick-shell quick-go quick-types quick-tests
+.PHONY: quick-format quick-rattle quick-lint quick-shell quick-go quick-types quick-tests
 
 help: ## print this list
 	@awk -F ':.*## ' '/^[a-z]+:.*## / { printf "make %-10s %s\n", $$1, $$2 }' $(MAKEFILE_LIST)
 
-quick: quick-format quick-lint quick-shell quick-go quick-types quick-tests ## format, lint, types, and tests that start no process: under a minute
+quick: quick-format quick-rattle quick-lint quick-shell quick-go quick-types quick-tests ## format, lint, types, and tests that start no process: under a minute
 
-test: ## everything but the proofs, over the prebuilt library: some minutes
+test: ## the tests, over the prebuilt library: some minutes
 	./check --tests
 
 check: ## everything from nothing, proofs included: about an hour on four cores
@@ -34,11 +34,12 @@ generate: ## write the header, the constants of the packages and the table of do
 release: ## write the packages that people install to dist/: docs/install.md
 	$(PYTHON) -m release
 
-format: generate ## generate, format all Python, bash and Go, and embed files in the documents
+format: generate ## generate, format all crates, Python, bash and Go, and embed files in the documents
 	scripts/files python | xargs black -q
 	scripts/files python | xargs isort -q
 	scripts/files bash | xargs shfmt -w -i 4 -ci
 	gofmt -w go
+	if command -v rattle >/dev/null; then scripts/files rattle | xargs rattle fmt; fi
 	scripts/embed.py
 
 quick-format:
@@ -46,6 +47,10 @@ quick-format:
 	scripts/files python | xargs isort -q --check
 	scripts/files bash | xargs shfmt -d -i 4 -ci
 	[ -z "$$(gofmt -l go | tee /dev/stderr)" ]
+
+# `rt ci` rejects a crate that isn't in Rattle's layout. Only who has Rattle changes a crate.
+quick-rattle:
+	if command -v rattle >/dev/null; then scripts/files rattle | xargs rattle fmt --check; fi
 
 quick-lint:
 	scripts/files python | xargs flake8

@@ -35,20 +35,22 @@ def pytest_configure(config: pytest.Config) -> None:
 
 
 @pytest.hookimpl(trylast=True)  # type: ignore[misc]  # after -m and -k
-def pytest_collection_modifyitems(config: pytest.Config, items: list[pytest.Item]) -> None:
-    """Has each process of pytest-xdist begin with tests that are marked `long`. It gives the first process so many of
-    the first tests, the second one the next ones, and so on; and each further test to the process that is free.
+def pytest_collection_modifyitems(items: list[pytest.Item]) -> None:
+    """Has what is marked `long` begin first, the longest at once, and what isn't marked `slow` last. With `--dist
+    loadgroup` the next test goes to the process that is free, so all processes end at the same time.
     """
-    processes = getattr(config, "workerinput", {}).get("workercount", 1)
-    each = max(len(items) // (4 * processes), 2)
-    long = [it for it in items if it.get_closest_marker("long")]
-    items[:] = [it for it in items if not it.get_closest_marker("long")]
-    for at, item in enumerate(long):
-        items.insert(at % processes * each + at // processes, item)
+    items.sort(key=_turn)
+
+
+def _turn(item: pytest.Item) -> float:
+    """Tests begin in the order of this number, and as they were collected."""
+    if long := item.get_closest_marker("long"):
+        return -float(long.args[0] if long.args else 60)
+    return 0 if item.get_closest_marker("slow") else 1
 
 
 def pytest_itemcollected(item: pytest.Item) -> None:
-    """Has one process run all tests that are marked `alone` and belong to no group (pytest -n 3 --dist loadgroup)."""
+    """Has one process run all tests that are marked `alone` and belong to no group (pytest -n 2 --dist loadgroup)."""
     if item.get_closest_marker("alone") and not item.get_closest_marker("xdist_group"):
         item.add_marker(pytest.mark.xdist_group("alone"))
 
@@ -91,6 +93,12 @@ def broker() -> Path:
 def platform() -> Path:
     """The program that ./osb-platform runs (_program)."""
     return _program("osb-platform", "OSB_PLATFORM")
+
+
+@pytest.fixture(scope="session")
+def storm() -> Path:
+    """The program that ./osb-storm runs (_program)."""
+    return _program("osb-storm", "OSB_STORM")
 
 
 def _program(name: str, variable: str) -> Path:
@@ -140,7 +148,9 @@ def postgresql(pytestconfig: pytest.Config) -> Iterator[str]:
     if PORT not in pytestconfig.stash:
         yield url
         return
-    options = f"port={pytestconfig.stash[PORT]}", "max_connections=300"
+    few_locks = "max_locks_per_transaction=10"  # a test that fills their table has less to do
+    prepared = "max_prepared_transactions=10"  # a test prepares one; by default a server allows none
+    options = f"port={pytestconfig.stash[PORT]}", "max_connections=300", few_locks, prepared
     settings = ["-c", "--locale=C --encoding=UTF8", *(word for it in options for word in ("-o", it))]
     server = subprocess.Popen(
         ["pg_virtualenv", "-t", *settings, "sh", "-ec", _SERVE],

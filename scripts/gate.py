@@ -3,12 +3,15 @@
 
     scripts/gate.py PYTHON [--tests]
 
-PYTHON is the Python that has pytest. The steps, one after another; with --tests, only the last one:
+PYTHON is the Python that has pytest. The steps, one after another; with --tests, only the last one, without the race
+detector of Go, with fewer random walks of its tests, and without the checks of format, lint and types that `make quick`
+has, too:
 
 1. `rt ci`: all proofs, the mutants that the prover must reject, and the tests and programs of the crates.
 2. `scripts/prebuilt --compare`: the prebuilt files are what these sources give. It builds them over the libraries that
    `rt ci` has just proved and built.
-3. pytest, several tests at once; then, few at once, those that go by the clock.
+3. pytest, several tests at once. Beside them, few at once, those that go by the clock: all others leave the processors
+   to them.
 
 Hosts differ, so the cost is also given in units: one is what `rt check` of osb_message takes from nothing, in processor
 seconds. It is measured before the steps, by itself.
@@ -16,6 +19,7 @@ seconds. It is measured before the steps, by itself.
 
 from __future__ import annotations
 
+import contextlib
 import fcntl
 import importlib.util
 import os
@@ -28,9 +32,8 @@ import sys
 import tempfile
 import time
 import xml.etree.ElementTree
-from functools import partial
 from pathlib import Path
-from typing import Callable, NamedTuple
+from typing import IO, Callable, Iterator, NamedTuple
 
 TOP = Path(__file__).resolve().parent.parent
 COUNTS = re.compile(r"(\d+) passed, (\d+) failed(?:, (\d+) skipped)?")
@@ -49,6 +52,8 @@ NAMED = (
     "PYTHONPATH",
     "PYTEST_ADDOPTS",
 )
+NICENESS = 10
+"""That of the tests that leave the processors to those that go by the clock."""
 # PostgreSQL's clients take what a URL leaves out from variables that begin so, such as PGHOSTADDR and PGPASSWORD.
 LIBPQ = "PG"
 
@@ -68,30 +73,50 @@ class Ran(NamedTuple):
     lines: list[str]
 
 
-def run(command: list[str]) -> Ran:
-    """Runs a command, and shows its output as it comes. Whatever it started ends with it."""
-    lines = []
-    process = subprocess.Popen(
+@contextlib.contextmanager
+def started(command: list[str], output: int | IO[bytes]) -> Iterator[subprocess.Popen[bytes]]:
+    """Runs a command beside the block. Whatever it started ends with the block."""
+    with subprocess.Popen(
         command,
         cwd=TOP,
         stdin=subprocess.DEVNULL,
-        stdout=subprocess.PIPE,
+        stdout=output,
         stderr=subprocess.STDOUT,
         start_new_session=True,
-    )
-    assert process.stdout is not None
-    try:
-        for line in process.stdout:
-            sys.stdout.buffer.write(line)
-            sys.stdout.flush()
-            lines.append(line.decode(errors="replace").rstrip("\n"))
-        return Ran(process.wait(), lines)
-    finally:
+    ) as process:
         try:
-            os.killpg(process.pid, signal.SIGKILL)
-        except ProcessLookupError:
-            pass
-        process.wait()
+            yield process
+        finally:
+            with contextlib.suppress(ProcessLookupError):
+                os.killpg(process.pid, signal.SIGKILL)
+
+
+def run(command: list[str], gives_way: bool = False) -> Ran:
+    """Runs a command, and shows its output as it comes. Whatever it started ends with it. One that gives way leaves the
+    processors to the others.
+    """
+    nice = ["nice", "-n", str(NICENESS)] if gives_way else []
+    with started([*nice, *command], subprocess.PIPE) as process:
+        if gives_way:
+            lower(process.pid)
+        assert process.stdout is not None
+        lines = [shown(line) for line in process.stdout]
+        return Ran(process.wait(), lines)
+
+
+def lower(session: int) -> None:
+    """Lowers the priority of a session. Linux may share the processors among sessions first: then the niceness of a
+    process counts only within its session (sched(7), autogroup).
+    """
+    with contextlib.suppress(OSError):
+        Path(f"/proc/{session}/autogroup").write_text(str(NICENESS))
+
+
+def shown(line: bytes) -> str:
+    """Writes a line of a command to standard output, and returns its text."""
+    sys.stdout.buffer.write(line)
+    sys.stdout.flush()
+    return line.decode(errors="replace").rstrip("\n")
 
 
 def counted(passed: int, failures: list[str], skips: list[str], status: int) -> Result:
@@ -196,20 +221,57 @@ def check(*command: str) -> Result:
     return by_last_line(run([*command]))
 
 
-def test(python: str, *options: str) -> Result:
-    with tempfile.TemporaryDirectory() as folder:
-        report = Path(folder, "report.xml")
-        return by_report(run([python, "-m", "pytest", "-q", f"--junitxml={report}", *options]), report)
+class Tests:
+    """The two runs of pytest. If there are four processors, the tests that go by the clock run beside all others, which
+    leave the processors to them.
+    """
+
+    def __init__(self, python: str, stack: contextlib.ExitStack, whole: bool) -> None:
+        """Whatever a run started ends with the stack. What is marked `whole` runs only if all of the gate does."""
+        self._python, self._stack = python, stack
+        self._whole = whole
+        self._folder = Path(stack.enter_context(tempfile.TemporaryDirectory()))
+        self._processors = len(os.sched_getaffinity(0))
+        self._by_the_clock: subprocess.Popen[bytes] | None = None
+
+    def others(self) -> Result:
+        """Runs all others."""
+        if self._processors >= 4:
+            self._by_the_clock = self._begin_by_the_clock()
+        # More tests than there are processors: many wait most of their time, and fewer with the race detector.
+        many = os.environ.get("PYTEST_XDIST_AUTO_NUM_WORKERS") or str(self._processors + (1 if self._whole else 3))
+        line = self._line("others", "-n", many, "-m", "not alone" if self._whole else "not alone and not whole")
+        return by_report(run(line, gives_way=True), self._report("others"))
+
+    def by_the_clock(self) -> Result:
+        """Waits for those that go by the clock, or runs them."""
+        status = (self._by_the_clock or self._begin_by_the_clock()).wait()
+        with open(self._folder / "output", "rb") as output:
+            lines = [shown(line) for line in output]
+        return by_report(Ran(status, lines), self._report("alone"))
+
+    def _begin_by_the_clock(self) -> subprocess.Popen[bytes]:
+        few = "2" if self._processors >= 4 else "1"
+        output = self._stack.enter_context(open(self._folder / "output", "wb"))
+        return self._stack.enter_context(started(self._line("alone", "-n", few, "-m", "alone"), output))
+
+    def _line(self, name: str, *options: str) -> list[str]:
+        report = f"--junitxml={self._report(name)}"
+        return [self._python, "-m", "pytest", "-q", "--dist", "loadgroup", report, *options]
+
+    def _report(self, name: str) -> Path:
+        return self._folder / f"{name}.xml"
 
 
-def steps(python: str, *options: str) -> dict[str, Callable[[], Result]]:
+def steps(python: str, stack: contextlib.ExitStack, *options: str) -> dict[str, Callable[[], Result]]:
+    """The steps in their order, by their names. Whatever they start ends with the stack."""
     found: dict[str, Callable[[], Result]] = {}
     if "--tests" not in options:
         found["rt ci"] = prove
         found["scripts/prebuilt --compare"] = compare
-    found["pytest -n auto -m 'not alone'"] = partial(test, python, "-n", "auto", "-m", "not alone")
-    few = "3" if len(os.sched_getaffinity(0)) >= 4 else "1"
-    found["pytest -m alone"] = partial(test, python, "-n", few, "--dist", "loadgroup", "-m", "alone")
+    tests = Tests(python, stack, whole="--tests" not in options)
+    found["pytest -m 'not alone'"] = tests.others
+    found["pytest -m alone"] = tests.by_the_clock
     return found
 
 
@@ -257,10 +319,18 @@ def main() -> int:
     signal.signal(signal.SIGTERM, lambda *_: sys.exit(128 + signal.SIGTERM))
     for name in ("MAKEFLAGS", "MFLAGS"):  # of a `make` that started this: they aren't for what the steps start
         os.environ.pop(name, None)
-    found = steps(*sys.argv[1:])
+    python, *options = sys.argv[1:]
+    with contextlib.ExitStack() as stack:
+        status = count(steps(python, stack, *options))
+    return status
+
+
+def count(found: dict[str, Callable[[], Result]]) -> int:
+    """Runs the steps, and reports what they counted. Returns the status of the gate."""
     if "rt ci" in found:
         for name in [it for it in os.environ if it in NAMED or it.startswith(LIBPQ)]:
             del os.environ[name]
+        os.environ["OSB_WHOLE"] = "1"
     one, why = unit() if "rt ci" in found else (0, "")
     all_used = processor_seconds()
     results: list[Result] = []

@@ -49,13 +49,14 @@ digest_of_program() (
     } | sha256sum
 )
 
-# build: builds the program, unless another start does it meanwhile. One build of a program runs at a time.
+# build: builds the program, unless another start does it meanwhile. One build runs at a time: all programs have most
+# packages in common.
 build() {
     local library
     check_tools
     # The library first: it may have to be built too, which has reports of its own, and changes the digest.
     library=${LIBOSB_FOLDER:-$("$top/scripts/where" library)} || exit 70
-    exec 9<"$top/$who"
+    exec 9<"$top/scripts/go_program.sh"
     flock -n 9 || { say "waiting for another start, which builds" && flock 9; }
     if ! is_current; then
         say "building the program from the sources in go/, which takes up to a minute"

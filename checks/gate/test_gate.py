@@ -2,6 +2,7 @@
 
 from __future__ import annotations
 
+import contextlib
 import importlib.util
 import os
 import re
@@ -11,6 +12,7 @@ import sys
 from pathlib import Path
 
 import pytest
+import waiting
 
 TOP = Path(__file__).resolve().parents[2]
 
@@ -66,7 +68,7 @@ class Repository:
             "bin/rt", "mkdir -p crates/osb_replay/out; : >crates/osb_replay/out/osb_replay; echo '5 passed, 0 failed'"
         )
         self.script("scripts/prebuilt", "echo '3 passed, 0 failed, 0 skipped'")
-        (top / "pytest.ini").write_text("[pytest]\naddopts = -p no:cacheprovider\nmarkers = alone\n")
+        (top / "pytest.ini").write_text("[pytest]\naddopts = -p no:cacheprovider\nmarkers =\n    alone\n    whole\n")
         self.tests("def test_one(): pass")
         (top / "test_alone.py").write_text("import pytest\n\n@pytest.mark.alone\ndef test_clock(): pass\n")
 
@@ -97,13 +99,26 @@ class Repository:
 
 
 @pytest.fixture
-def repository(tmp_path: Path) -> Repository:
+def repository(tmp_path: Path, monkeypatch: pytest.MonkeyPatch) -> Repository:
+    monkeypatch.setenv("PYTEST_XDIST_AUTO_NUM_WORKERS", "1")  # `-n auto`: there are few tests
+    monkeypatch.delenv("OSB_WHOLE", raising=False)
     return Repository(tmp_path)
 
 
 @pytest.mark.slow
 def test_all_pass(repository: Repository) -> None:
     assert repository.check() == (0, "10 passed, 0 failed, 0 skipped", [])
+
+
+@pytest.mark.slow
+def test_whole(repository: Repository) -> None:
+    """With --tests, what is marked `whole` is left out, and the tests of Go are told so."""
+    told = "import os\n\ndef test_one(): assert os.environ.get('OSB_WHOLE') =="
+    repository.tests(f"@pytest.mark.whole\ndef test_format(): assert False\n\n{told} None")
+    assert repository.check("--tests") == (0, "2 passed, 0 failed, 0 skipped", [])
+    repository.tests(f"@pytest.mark.whole\ndef test_format(): assert False\n\n{told} '1'")
+    failures = ["FAILED: pytest -m 'not alone': test_some::test_format"]
+    assert repository.check() == (1, "10 passed, 1 failed, 0 skipped", failures)
 
 
 KIT = """
@@ -138,6 +153,75 @@ def test_libraries_are_taken(repository: Repository, tmp_path: Path, kit: str, s
     assert repository.check()[0] == 0
     written = rlib / "stamp"
     assert (written.read_text() if written.exists() else None) == stamp
+
+
+WAITS = """
+import os, pathlib, time
+
+def left(name, other):
+    pathlib.Path(name).touch()
+    end = time.monotonic() + 60
+    while not pathlib.Path(other).exists():
+        assert time.monotonic() < end
+        time.sleep(0.01)
+"""
+
+
+@pytest.mark.slow
+def test_beside_the_clock(repository: Repository, monkeypatch: pytest.MonkeyPatch) -> None:
+    """On four processors, what goes by the clock runs beside all others, and those leave the processors to it."""
+    repository.script("waits.py", WAITS)
+    nice = os.nice(0)  # 19 is the most
+    group = Path("/proc/self/autogroup")
+    repository.tests(
+        "import pathlib\nfrom waits import left, os\n\ndef test_one():\n"
+        f"    left('one', 'clock')\n    assert os.nice(0) == {min(nice + 10, 19)}\n"
+        f"    assert {not group.exists()} or pathlib.Path('{group}').read_text().endswith(' nice 10\\n')\n"
+    )
+    (repository.top / "test_alone.py").write_text(
+        "import pytest\nfrom waits import left, os\n\n@pytest.mark.alone\n"
+        f"def test_clock(): left('clock', 'one'); assert os.nice(0) == {nice}\n"
+    )
+    assert counts(repository, monkeypatch, 4) == [(1, [], []), (1, [], [])]
+
+
+@pytest.mark.slow
+def test_before_the_clock(repository: Repository, monkeypatch: pytest.MonkeyPatch) -> None:
+    """On fewer, it runs after all others."""
+    repository.tests("import pathlib, time\ndef test_one(): time.sleep(1); pathlib.Path('one').touch()")
+    (repository.top / "test_alone.py").write_text(
+        "import pathlib, pytest\n\n@pytest.mark.alone\ndef test_clock(): assert pathlib.Path('one').exists()\n"
+    )
+    assert counts(repository, monkeypatch, 3) == [(1, [], []), (1, [], [])]
+
+
+def counts(repository: Repository, monkeypatch: pytest.MonkeyPatch, processors: int) -> list[object]:
+    """What both runs of pytest count on a machine with so many processors."""
+    monkeypatch.setattr(gate, "TOP", repository.top)
+    monkeypatch.setattr(os, "sched_getaffinity", lambda _: set(range(processors)))
+    with contextlib.ExitStack() as stack:
+        counted = [step() for step in gate.steps(sys.executable, stack, "--tests").values()]
+    return counted
+
+
+@pytest.mark.slow
+def test_nothing_goes_on_after_a_failure(repository: Repository, monkeypatch: pytest.MonkeyPatch) -> None:
+    """What goes by the clock ends with the gate."""
+    (repository.top / "test_alone.py").write_text(
+        "import os, pathlib, pytest, time\n\n@pytest.mark.alone\ndef test_clock():\n"
+        "    pathlib.Path('new').write_text(str(os.getpid()))\n"
+        "    os.rename('new', 'clock')\n    time.sleep(60)\n"
+    )
+    monkeypatch.setattr(gate, "TOP", repository.top)
+    monkeypatch.setattr(os, "sched_getaffinity", lambda _: set(range(4)))
+    with pytest.raises(KeyboardInterrupt):
+        with contextlib.ExitStack() as stack:
+            others, _ = gate.steps(sys.executable, stack, "--tests").values()
+            others()
+            waiting.until((repository.top / "clock").exists)
+            raise KeyboardInterrupt
+    number = (repository.top / "clock").read_text()
+    waiting.until(lambda: not Path(f"/proc/{number}").exists(), 10)
 
 
 @pytest.mark.slow

@@ -1,5 +1,5 @@
 """The packages of Go around the library: gofmt, go vet, staticcheck, their tests, and each run of the broker's network
-beside the proved model.
+beside the proved model. In ./check the tests run with the race detector.
 """
 from __future__ import annotations
 
@@ -10,11 +10,12 @@ from pathlib import Path
 import pytest
 from crate_programs import told_by
 from go.toolchain import TOP, Packages
+from whole import WHOLE
 
 pytestmark = pytest.mark.slow
 
-SEEDS = 500
-"""So many runs over a network go into the gate."""
+SEEDS = 500 if WHOLE else 100
+"""So many runs over a network."""
 
 FEW_SEEDS = 16
 """So many runs with a store in PostgreSQL."""
@@ -31,7 +32,7 @@ FURTHER: dict[str, list[str]] = {
 of the storm build the packages with each tag alone. With `pages` a program writes its manual pages.
 """
 
-TAGS = pytest.mark.parametrize("tags", [" ".join(["libsqlite3", *it]) for it in FURTHER.values()], ids=list(FURTHER))
+TAGS = pytest.mark.parametrize("tags", [" ".join(it) for it in FURTHER.values()], ids=list(FURTHER))
 
 
 def test_tags() -> None:
@@ -44,75 +45,104 @@ def test_tags() -> None:
         assert any((line.removeprefix("!") in tags) != line.startswith("!") for tags in FURTHER.values())
 
 
+@pytest.mark.whole
+@pytest.mark.long(50)
+@pytest.mark.xdist_group("vet")
 @TAGS
 def test_vet(packages: Packages, tags: str) -> None:
-    assert packages("vet", "-tags", tags, "./...") == ""
+    assert packages.look("vet", *changed_by(tags), tags=tags) == ""
 
 
+@pytest.mark.whole
+@pytest.mark.long(100)
+@pytest.mark.xdist_group("staticcheck")
 @TAGS
 def test_staticcheck(packages: Packages, staticcheck: str, tags: str) -> None:
-    assert packages(staticcheck, "-tags", tags, "./...") == ""
+    assert packages.look(staticcheck, *changed_by(tags), tags=tags) == ""
 
 
+def changed_by(tags: str) -> list[str]:
+    """The packages whose sources depend on these build tags: all, if there are none."""
+    return packages_with("*.go", *tags.split()) if tags else ["./..."]
+
+
+def packages_with(sources: str, *tags: str) -> list[str]:
+    """The packages with a source of this name that needs one of the build tags, or its absence."""
+    line = re.compile(rf"^//go:build !?({'|'.join(tags)})$", re.MULTILINE)
+    found = [it for it in (TOP / "go").rglob(sources) if line.search(it.read_text(encoding="utf-8"))]
+    return sorted({f"./{it.parent.relative_to(TOP / 'go')}" for it in found})
+
+
+@pytest.mark.whole
 def test_format() -> None:
     assert subprocess.run(["gofmt", "-l", TOP / "go"], capture_output=True, text=True, check=True).stdout == ""
 
 
 BROKER = "pippinterm/broker"
 
-CRASHES = "libsqlite3 crashpoints"
-"""The build tags of a program that can be killed at each crash point."""
+CRASHES = "crashpoints"
+"""The build tag of a program that can be killed at each crash point."""
 
 ALONE = "pippinterm/backend/postgres"
 """The package whose tests fill the server's table of locks, so that no other tests may use that server meanwhile."""
 
-BY_THE_CLOCK = "pippinterm/stormrun"
-"""The package whose tests are storms of a few seconds, in which a busy machine loses requests by itself."""
+BY_THE_CLOCK = "pippinterm/stormrun", "pippinterm/stormplatform"
+"""The packages whose tests are storms of a few seconds, in which a busy machine loses requests by itself."""
+
+TIMED = "pippinterm/faults", "pippinterm/platform/client", "pippinterm/program/server"
+"""The packages whose tests are about how long something takes."""
 
 
-@pytest.mark.long
+@pytest.mark.long(250)
 @pytest.mark.postgres
 def test_tests(packages: Packages) -> None:
-    """The tests of each package but osb, which has its own, with the race detector."""
-    these = [it for it in but_osb(packages) if it not in (ALONE, BY_THE_CLOCK)]
-    packages.test(*these, tags="libsqlite3", race=True)
+    """The tests of each package that no other test has."""
+    these = [it for it in but_osb(packages) if it not in (ALONE, *BY_THE_CLOCK, *TIMED)]
+    packages.test(*these, race=True)
 
 
 @pytest.mark.alone
+@pytest.mark.long(40)
 @pytest.mark.xdist_group("stormrun")
-def test_storms_against_a_broker(packages: Packages) -> None:
-    """The tests of stormrun, with the race detector."""
-    packages.test(BY_THE_CLOCK, tags="libsqlite3", race=True)
+def test_storms(packages: Packages) -> None:
+    """The tests of stormrun and stormplatform."""
+    packages.test(*BY_THE_CLOCK, race=True)
 
 
-@pytest.mark.long
+@pytest.mark.alone
+@pytest.mark.long(30)
+@pytest.mark.xdist_group("stormrun")
+def test_tests_of_times(packages: Packages) -> None:
+    """The tests of the packages that are about times."""
+    packages.test(*TIMED, race=True)
+
+
+@pytest.mark.long(30)
 @pytest.mark.postgres
 def test_tests_that_fill_a_server(packages: Packages) -> None:
-    """The tests of backend/postgres, with the race detector. Each process of pytest has a server of its own."""
-    packages.test(ALONE, tags="libsqlite3", race=True)
+    """The tests of backend/postgres. Each process of pytest has a server of its own."""
+    packages.test(ALONE, race=True)
 
 
 def but_osb(packages: Packages) -> list[str]:
-    return [it for it in packages("list", "-tags", "libsqlite3", "./...").split() if it != "pippinterm/osb"]
+    return [it for it in packages.all() if it != "pippinterm/osb"]
 
 
-def with_crash_points() -> list[str]:
-    """The packages with tests that need the build tag crashpoints."""
-    tests = [it for it in (TOP / "go").rglob("*_test.go") if "//go:build crashpoints" in it.read_text(encoding="utf-8")]
-    return sorted({f"./{it.parent.relative_to(TOP / 'go')}" for it in tests})
-
-
-@pytest.mark.long
+@pytest.mark.long(120)
 def test_crashes(packages: Packages, tmp_path: Path) -> None:
     """The broker is killed at each crash point, over a network that does its worst. After each event the platform's
     records, the broker's holdings and the resources are what the proved model says. The other packages that have tests
     of their crash points run these too.
     """
     walks = tmp_path / "walks"
-    packages.test(*with_crash_points(), tags=CRASHES, WALKS=str(walks), SEEDS=str(SEEDS), OSB_TEST_POSTGRESQL="")
+    these = packages_with("*_test.go", CRASHES)
+    packages.test(*these, tags=CRASHES, WALKS=str(walks), SEEDS=str(SEEDS), OSB_TEST_POSTGRESQL="")
     assert compared(walks) > 20 * SEEDS
 
 
+@pytest.mark.whole
+@pytest.mark.skipif(not WHOLE, reason="OSB_WHOLE isn't set")
+@pytest.mark.long(15)
 def test_crashes_with_the_race_detector(packages: Packages) -> None:
     """The broker is killed over the network, with the race detector."""
     network = ("-run", "^TestAnyNetwork$")

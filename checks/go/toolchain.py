@@ -1,14 +1,16 @@
 """Go over one library: in modules, and in GOPATH mode with Debian's packages."""
 from __future__ import annotations
 
-import fcntl
 import hashlib
 import os
+import re
 import shutil
 import subprocess
 from pathlib import Path
 
 import pytest
+from building import SHIPPED, building
+from whole import WHOLE
 
 TOP = Path(__file__).resolve().parents[2]
 SOURCES = Path("/usr/share/gocode")
@@ -16,6 +18,9 @@ SOURCES = Path("/usr/share/gocode")
 
 TOOLS = {"go": "golang-go", "gofmt": "golang-go", "pkg-config": "pkg-config", "cc": "gcc libc6-dev"}
 """The tools that all of this needs, and the Debian packages that have them."""
+
+SKIPPED = re.compile(r"^\s*--- SKIP: (\S+)", re.MULTILINE)
+"""What `go test -v` prints of a test that was skipped."""
 
 
 def run(line: list[str], folder: Path, **environment: str) -> str:
@@ -36,8 +41,7 @@ def run(line: list[str], folder: Path, **environment: str) -> str:
 class Go:
     """The command `go` and what works like it, over one library."""
 
-    def __init__(self, library: Path, lock: Path) -> None:
-        self._lock = lock
+    def __init__(self, library: Path) -> None:
         # Go's cache doesn't notice that a header outside of the module has changed, so a flag says which one it is.
         header = hashlib.sha256((TOP / "include" / "osb.h").read_bytes()).hexdigest()
         self.environment = {
@@ -55,9 +59,8 @@ class Go:
         }
 
     def __call__(self, folder: Path, *line: str, **environment: str) -> str:
-        """Runs a command in a module, one at a time: all processes of pytest fill the same cache."""
-        with open(self._lock, "w") as lock:
-            fcntl.flock(lock, fcntl.LOCK_EX)
+        """Runs a command in a module, one at a time."""
+        with building(race="-race" in line):
             return run(list(line), folder, **{**self.environment, **environment})
 
 
@@ -72,31 +75,43 @@ NEEDS = {
 
 
 class Packages:
-    """Commands of Go over the packages in go/, by scripts/go. One process of pytest at a time builds, so that no two
-    build the same; the tests that were built run beside each other.
+    """Commands of Go over the packages in go/, by scripts/go. One process at a time compiles. What uses the compiled
+    packages runs beside each other.
     """
 
-    def __init__(self, library: Path, lock: Path) -> None:
-        self._lock, self._library = lock, library
+    def __init__(self, library: Path) -> None:
+        self._library = library
 
-    def __call__(self, *line: str, **environment: str) -> str:
-        """Runs a command that must succeed, one at a time, and returns what it printed."""
-        with open(self._lock, "w") as lock:
-            fcntl.flock(lock, fcntl.LOCK_EX)
-            return self._run(*line, **environment)
+    def all(self) -> list[str]:
+        """The import path of each package."""
+        return self._run("list", "./...", GOFLAGS=_flags("", False)).split()
+
+    def look(self, by: str, *these: str, tags: str = "") -> str:
+        """Compiles these packages, runs a command that looks at them and must succeed, and returns what it printed."""
+        self._compile(*these, flags=_flags(tags, False))
+        return self._run(by, *these, GOFLAGS=_flags(tags, False))
 
     def test(
-        self, *these: str, tags: str, options: tuple[str, ...] = (), race: bool = False, **environment: str
+        self, *these: str, tags: str = "", options: tuple[str, ...] = (), race: bool = False, **environment: str
     ) -> None:
-        """Builds the packages, and then runs their tests, which must pass in ten minutes."""
-        build = ["-race"] * race + ["-tags", tags]
-        self("build", "-o", os.devnull, *build, *these)
-        self._run("test", "-count=1", "-timeout", "10m", *build, *options, *these, **environment)
+        """Compiles the packages, and then links and runs their tests, which must pass in ten minutes. None may be
+        skipped, but those of PostgreSQL if OSB_TEST_POSTGRESQL is empty. Nothing is linked for a debugger. `go vet`
+        looks at all tests by itself: test_vet. `race` has them run with the race detector, if WHOLE.
+        """
+        race = race and WHOLE
+        self._compile(*these, flags=_flags(tags, race), race=race)
+        how = ["-v", "-count=1", "-timeout", "10m", "-vet=off", "-ldflags=-w"]
+        told = self._run("test", *how, *options, *these, GOFLAGS=_flags(tags, race), **environment)
+        assert environment.get("OSB_TEST_POSTGRESQL") == "" or SKIPPED.findall(told) == []
+
+    def _compile(self, *these: str, flags: str, race: bool = False) -> None:
+        with building(race):
+            self._run("list", "-export", "-test", *these, GOFLAGS=flags)
 
     def _run(self, *line: str, **environment: str) -> str:
         ran = subprocess.run(
             [str(TOP / "scripts" / "go"), *line],
-            env={**os.environ, "LIBOSB_FOLDER": str(self._library), "GOFLAGS": "", **environment},
+            env={**os.environ, "LIBOSB_FOLDER": str(self._library), **environment},
             stdin=subprocess.DEVNULL,
             stdout=subprocess.PIPE,
             stderr=subprocess.STDOUT,
@@ -105,6 +120,11 @@ class Packages:
         )
         assert ran.returncode == 0, f"status {ran.returncode}: {line}\n{ran.stdout}"
         return ran.stdout
+
+
+def _flags(tags: str, race: bool) -> str:
+    """GOFLAGS for these build tags besides those of the programs. A flag has no blank, so commas separate the tags."""
+    return f"-tags={','.join([*SHIPPED.split(), *tags.split()])} {'-race' if race else '-trimpath'}"
 
 
 def needs(tools: dict[str, str]) -> None:

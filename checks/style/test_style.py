@@ -7,7 +7,7 @@ from pathlib import Path
 
 import pytest
 
-pytestmark = pytest.mark.slow
+pytestmark = [pytest.mark.slow, pytest.mark.whole]
 
 TOP = Path(__file__).resolve().parent.parent.parent
 NEEDED = {
@@ -19,6 +19,7 @@ NEEDED = {
 PACKAGES = {"gofmt": "golang-go"}
 
 
+@pytest.mark.long(20)
 @pytest.mark.parametrize("target", NEEDED)
 def test_make(target: str, library: Path) -> None:
     missing = [it for it in NEEDED[target] if not shutil.which(it)]
