@@ -10,9 +10,10 @@ import time
 from email.utils import formatdate
 from pathlib import Path
 
+from release import python_programs
 from release.archives import compressed
 from release.linked import Package, notices
-from release.sources import PROGRAMS, TOP, Sources, run
+from release.sources import PROGRAMS, SERVICES, TOP, Sources, run
 
 FILES = TOP / "release" / "deb"
 LIBRARIES = "usr/lib/x86_64-linux-gnu"
@@ -102,12 +103,11 @@ def _programs(sources: Sources, linked: list[Package], folder: Path) -> Tree:
     for it in sources.programs:
         tree.put(f"usr/bin/{it.name}", it, 0o755)
     tree.put("usr/bin/osb-replay", sources.replay, 0o755)
-    tree.put("usr/bin/osb-replay-log", FILES / "osb-replay-log", 0o755)
-    _replay_log(tree)
+    _python_programs(tree)
     tree.put(f"{LIBRARIES}/libosb.so.{sources.version}", sources.library / "libosb.so")
     tree.link(f"{LIBRARIES}/libosb.so.0", f"libosb.so.{sources.version}")
     _pages(tree, sources)
-    for name in PROGRAMS:
+    for name in SERVICES:
         tree.put(f"lib/systemd/system/{name}.service", TOP / "release" / "systemd" / f"{name}.service")
         tree.put(f"etc/default/{name}", FILES / f"{name}.default")
     (tree.folder / "etc" / "osb").mkdir()
@@ -126,12 +126,13 @@ def _programs(sources: Sources, linked: list[Package], folder: Path) -> Tree:
     return tree
 
 
-def _replay_log(tree: Tree) -> None:
-    """The modules of osb-replay-log, in a folder that no other program imports from."""
-    programs = TOP / "programs"
-    tree.put("usr/share/osb/run.py", programs / "run.py")
-    for it in sorted((programs / "osb_replay_log").rglob("*.py")):
-        tree.put(f"usr/share/osb/{it.relative_to(programs)}", it)
+def _python_programs(tree: Tree) -> None:
+    """The programs in Python. They find the library as every program does."""
+    for name in python_programs.NAMES:
+        text = python_programs.launcher(name, "/usr", "bin/osb-replay", "/usr/bin/python3")
+        tree.put(f"usr/bin/{name}", text, 0o755)
+    for name, file in python_programs.modules().items():
+        tree.put(f"usr/{python_programs.SHARE}/{name}", file)
 
 
 def _pages(tree: Tree, sources: Sources) -> None:

@@ -1,4 +1,4 @@
-"""An image for containers, in the layout of OCI: the static programs alone, without a shell.
+"""An image for containers, in the layout of OCI: the static programs that are services alone, without a shell.
 
 The layout has two references, osb-broker and osb-platform. Both have the one layer, and each starts its program.
 """
@@ -11,7 +11,7 @@ from pathlib import Path
 
 from release.archives import NOBODY, Entry, tar
 from release.linked import Package, notices
-from release.sources import PROGRAMS, TOP, Failed, Sources, run
+from release.sources import SERVICES, TOP, Failed, Sources, run
 
 AUTHORITIES = Path("/usr/share/ca-certificates/mozilla")
 """Debian's certificates of authorities, without those that the machine's administrator has added."""
@@ -25,7 +25,7 @@ def build(sources: Sources, linked: list[Package], folder: Path, into: Path) -> 
     layer, layout = folder / "layer.tar", folder / "layout"
     layer.write_bytes(tar(entries(sources, linked), sources.epoch))
     run("umoci", "init", "--layout", layout)
-    for name in PROGRAMS:
+    for name in SERVICES:
         _add(name, layer, layout, sources)
     run("umoci", "gc", "--layout", layout)
     made = into / f"osb-{sources.version}.oci.tar"
@@ -46,7 +46,7 @@ def entries(sources: Sources, linked: list[Package]) -> list[Entry]:
     return [
         *(Entry(it, None, 0o755) for it in folders),
         *(Entry(name, text, 0o644) for name, text in texts.items()),
-        *(Entry(f"usr/bin/{it.name}", it.read_bytes(), 0o755) for it in sources.programs),
+        *(Entry(f"usr/bin/{it}", (sources.built / it).read_bytes(), 0o755) for it in SERVICES),
         Entry("tmp", None, 0o1777),
         Entry("var", None, 0o755),
         Entry("var/lib", None, 0o755),

@@ -106,7 +106,7 @@ def licence(name: str, file: Path) -> str:
 def notices(found: list[Package]) -> str:
     """The copyright files of these packages, one after another."""
     begin = (
-        "osb-broker and osb-platform are linked with the packages of Debian below. Each has its name, its\n"
+        "The static programs are linked with the packages of Debian below. Each has its name, its\n"
         "version and its copyright file here. https://snapshot.debian.org has the sources.\n"
     )
     parts = [f"{it.name} {it.version}\n\n{it.copyright.read_text(encoding='utf-8').strip()}\n" for it in found]

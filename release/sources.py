@@ -10,7 +10,10 @@ from pathlib import Path
 from typing import NamedTuple
 
 TOP = Path(__file__).resolve().parents[1]
-PROGRAMS = ("osb-broker", "osb-platform")
+SERVICES = ("osb-broker", "osb-platform")
+"""The programs that run as services: each has a unit, and is in the image."""
+PROGRAMS = (*SERVICES, "osb-storm")
+"""The static programs."""
 TOOLS = {
     "dpkg-deb": "dpkg",
     "dpkg-shlibdeps": "dpkg-dev",

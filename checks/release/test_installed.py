@@ -13,7 +13,7 @@ from typing import Iterator
 
 import pytest
 import waiting
-from docs.pages import block, blocks, read
+from docs.pages import TOP, block, blocks, read
 
 from release import old_state
 from release.fresh import Fresh, fresh
@@ -62,7 +62,8 @@ def debian(tmp_path: Path) -> Iterator[Fresh]:
     shutil.rmtree(tmp_path / "debian")
 
 
-@pytest.mark.long
+@pytest.mark.whole
+@pytest.mark.long(170)
 def test_package(dist: Path, version: str, debian: Fresh, tmp_path: Path) -> None:
     before = files(debian)
     old = debian.put(older(dist / f"osb_{version}_amd64.deb", tmp_path), f"osb_{OLDER}_amd64.deb")
@@ -72,6 +73,8 @@ def test_package(dist: Path, version: str, debian: Fresh, tmp_path: Path) -> Non
     check_units(debian)
     check_readme(debian)
     check_replay(debian)
+    check_audit(debian)
+    check_storm(debian)
     with debian.booted():
         instance = check_services(debian)
         update(debian, new, version, instance)
@@ -92,14 +95,16 @@ def check_units(debian: Fresh) -> None:
 
 
 def check_readme(debian: Fresh) -> None:
-    """The first commands of README create an instance and delete it."""
+    """The first commands of README create an instance and delete it. The journals are as the model says."""
     commands = block("README.md", "OSB_BROKER_PASSWORD=secret ./osb-broker serve &\n").replace("./osb-", "osb-")
     assert "osb-platform create" in commands
-    quiet = commands.replace("serve &", "serve 2>/dev/null &").replace(
-        "platform run &", "platform run >/dev/null 2>&1 &"
+    quiet = commands.replace("serve &", "serve --journal journals/ 2>/dev/null &").replace(
+        "platform run &", "platform run --journal journals/ >/dev/null 2>&1 &"
     )
-    out = debian.run(f"{LOOPBACK}\ncd /tmp\n{quiet}\nls ~/.local/state/osb-broker/instances\nkill %2 %1; wait")
-    assert out == 'my-db\n{"state":"succeeded"}'
+    audit = "kill %2 %1; wait; echo; osb-audit journals"
+    out = debian.run(f"{LOOPBACK}\ncd /tmp\n{quiet}\nls ~/.local/state/osb-broker/instances\n{audit}")
+    first, _, audited = out.partition("\nSeen besides:\n")  # the Poll by curl
+    assert first == 'my-db\n{"state":"succeeded"}' and audited.endswith("\n1 instance, 14 events, 0 differences\n")
     # A state folder of root becomes that of the service, as docs/install.md says.
     debian.run("mv ~/.local/state/osb-broker /var/lib/osb-broker; rm -r ~/.local")
 
@@ -125,6 +130,28 @@ def check_replay(debian: Fresh) -> None:
     write = f"cd /tmp && printf '{events}' >log && mkdir -p osb_replay_log"
     assert debian.run(f"{write} && osb-replay replay <log") == wanted
     assert debian.run(f"{write} && osb-replay-log replay --engine processes --workers 2 log") == wanted
+
+
+def check_audit(debian: Fresh) -> None:
+    """osb-audit reports of the example what docs/audit.md shows."""
+    shutil.copytree(TOP / "examples" / "journals", debian.top / "packages" / "examples" / "journals")
+    command, _, report = block("docs/audit.md", "$ ./osb-audit examples/journals\n").partition("\n")
+    ran = command.replace("$ ./", "cd /packages && mkdir -p osb_audit osb && ")
+    assert debian.run(f"{ran} || echo $?") == f"{report}1\n"
+
+
+def check_storm(debian: Fresh) -> None:
+    """The installed osb-broker satisfies each MUST that osb-storm asks of any broker."""
+    printed = debian.run(
+        f"""{LOOPBACK}
+        cd /tmp
+        export OSB_BROKER_PASSWORD=secret
+        osb-broker serve --state state 2>/dev/null &
+        until curl -s http://127.0.0.1:8080/healthz >/dev/null; do sleep 0.1; done
+        osb-storm conform --url http://127.0.0.1:8080
+        kill %1; wait"""
+    )
+    assert re.search(r"^MUST: [4-9]\d passed, 0 failed, ", printed, re.MULTILINE), printed
 
 
 def client(command: str) -> str:

@@ -16,7 +16,7 @@ from pathlib import Path
 from typing import Any
 
 import pytest
-from docs.pages import TOP, read
+from docs.pages import TOP, block, read
 
 from release.making import make
 
@@ -58,6 +58,8 @@ def digest(file: Path) -> str:
     return hashlib.sha256(file.read_bytes()).hexdigest()
 
 
+@pytest.mark.whole
+@pytest.mark.long(45)
 def test_same_bytes_twice(dist: Path, version: str, tmp_path: Path, monkeypatch: pytest.MonkeyPatch) -> None:
     """Also if files of an earlier release are in the folder, and under another umask, time zone and language."""
     created = datetime.fromisoformat(bill(dist, version)["creationInfo"]["created"].replace("Z", "+00:00"))
@@ -88,15 +90,17 @@ def test_names_and_checksums(dist: Path, version: str) -> None:
     assert checked.returncode == 0 and {it.split(":")[0] for it in checked.stdout.splitlines()} == names
 
 
+@pytest.mark.long(15)
 def test_packages_satisfy_lintian(dist: Path) -> None:
     """Without an error or a warning, and each override in the package is one that lintian needs."""
     if shutil.which("lintian") is None:
         pytest.skip("lintian isn't installed (Debian: lintian)")
-    line = ["lintian", "--allow-root", "--fail-on", "error,warning", *sorted(map(str, dist.glob("*.deb")))]
+    line = ["lintian", "--allow-root", "--fail-on", "error,warning", "--display-info"]
+    line += sorted(map(str, dist.glob("*.deb")))
     ran = subprocess.run(line, capture_output=True, text=True, timeout=300)
-    assert (ran.returncode, ran.stdout) == (0, ""), ran.stdout + ran.stderr
-    info = subprocess.run([*line[:2], "--display-info", *line[4:]], capture_output=True, text=True, timeout=300).stdout
-    assert "unused-override" not in info and "mismatched-override" not in info
+    others = [it for it in ran.stdout.splitlines() if not it.startswith("I: ")]
+    assert (ran.returncode, others) == (0, []), ran.stdout + ran.stderr
+    assert "unused-override" not in ran.stdout and "mismatched-override" not in ran.stdout
 
 
 def test_files_of_the_package(dist: Path, version: str, tmp_path: Path) -> None:
@@ -106,7 +110,7 @@ def test_files_of_the_package(dist: Path, version: str, tmp_path: Path) -> None:
     assert os.readlink(library) == f"libosb.so.{version}"
     kept = {"libosb.so": digest(library), "osb-replay": digest(top / "usr/bin/osb-replay")}
     assert kept == {name: manifest()[name] for name in kept}
-    for program in ("osb-broker", "osb-platform"):
+    for program in ("osb-broker", "osb-platform", "osb-storm"):
         assert run(top / "usr/bin" / program, "--version") == f"{program} version {version} (libosb {version})\n"
         commands = re.findall(r"^  ([a-z]+) +[A-Z]", run(top / "usr/bin" / program, "--help"), re.MULTILINE)
         pages = {it.name for it in (top / "usr/share/man/man1").glob(f"{program}*.gz")}
@@ -132,7 +136,8 @@ def options(text: str) -> set[str]:
 
 
 @pytest.mark.parametrize(
-    ("name", "commands"), [("osb-replay", "replay trace"), ("osb-replay-log", "replay split merge")]
+    ("name", "commands"),
+    [("osb-replay", "replay trace network"), ("osb-replay-log", "replay split merge"), ("osb-audit", "")],
 )
 def test_manual_page_by_hand(name: str, commands: str, replay: Path) -> None:
     """The page has each option and each exit status of the help, and no other."""
@@ -154,7 +159,8 @@ def test_completion(dist: Path, version: str, tmp_path: Path) -> None:
     complete = f"{stand_in}; . {script}; {words}; COMP_TYPE=9; __start_osb-broker; echo ${{COMPREPLY[*]}}"
     found = run("bash", "-c", complete, PATH=f"{top}/usr/bin:{os.environ['PATH']}")
     assert found.split()[0] == "--listen"
-    assert (top / "usr/share/zsh/vendor-completions/_osb-platform").read_text().startswith("#compdef osb-platform\n")
+    for it in ("osb-platform", "osb-storm"):
+        assert (top / f"usr/share/zsh/vendor-completions/_{it}").read_text().startswith(f"#compdef {it}\n")
 
 
 def test_c_program_over_the_development_package(dist: Path, version: str, tmp_path: Path) -> None:
@@ -209,11 +215,33 @@ def test_library_of_the_wheel_fits_its_tag(dist: Path, tmp_path: Path) -> None:
     assert re.findall(r"\(NEEDED\).*\[(.*)\]", run("readelf", "-dW", library)) == ["libc.so.6"]
 
 
+JOURNALS = "examples/journals"
+
+
+def own(folder: Path, *line: str, status: int = 0) -> str:
+    """What a program prints in a folder, if its environment names nothing of this checkout."""
+    kept = {it: os.environ[it] for it in ("PATH", "HOME")}
+    ran = subprocess.run(line, cwd=folder, env=kept, stdin=subprocess.DEVNULL, capture_output=True, text=True)
+    assert (ran.returncode, ran.stderr) == (status, ""), ran
+    return ran.stdout
+
+
 def test_tarball(dist: Path, version: str, tmp_path: Path) -> None:
-    """Its programs need no file of the machine."""
+    """The static programs need no file of the machine. Those in Python need none but the tarball's own, also if one is
+    run by a link from another folder.
+    """
     top = unpacked(dist / f"osb-{version}-linux-amd64.tar.gz", tmp_path) / f"osb-{version}"
-    assert {it.name for it in top.iterdir()} == {"LICENSE", "README.md", "THIRD-PARTY", "osb-broker", "osb-platform"}
-    for program in ("osb-broker", "osb-platform"):
+    programs, in_python = {"osb-broker", "osb-platform", "osb-storm"}, {"osb-audit", "osb-replay-log"}
+    others = {"LICENSE", "README.md", "THIRD-PARTY", "osb-replay", "share"}
+    assert {it.name for it in top.iterdir()} == others | programs | in_python
+    assert digest(top / "osb-replay") == manifest()["osb-replay"]
+    for name in in_python:
+        (tmp_path / name).symlink_to(top / name)
+        assert own(tmp_path, f"./{name}", "--help").startswith(f"usage: {name} ")
+    shutil.copytree(TOP / JOURNALS, tmp_path / JOURNALS)
+    command, _, report = block("docs/audit.md", f"$ ./osb-audit {JOURNALS}\n").partition("\n")
+    assert own(tmp_path, *command.split()[1:], status=1) == report
+    for program in programs:
         assert "INTERP" not in run("readelf", "-lW", top / program)
         assert run(top / program, "--version").startswith(f"{program} version {version} ")
     notices = (top / "THIRD-PARTY").read_text()
