@@ -46,6 +46,16 @@ def packages(text: str) -> set[str]:
     return {name for _, names in found for name in names.split()}
 
 
+_COVERED: dict[str, set[str]] = {}
+
+
 def covers(page: str, *beginnings: str) -> pytest.MarkDecorator:
     """Give a test the texts of these blocks of a page."""
-    return pytest.mark.parametrize("texts", [[block(page, it) for it in beginnings]], ids=[page])
+    texts = [block(page, it) for it in beginnings]
+    _COVERED.setdefault(page, set()).update(texts)
+    return pytest.mark.parametrize("texts", [texts], ids=[page])
+
+
+def uncovered(page: str) -> list[str]:
+    """The blocks of a page that no test which was imported covers."""
+    return [it for it in blocks(page) if it not in _COVERED.get(page, ())]

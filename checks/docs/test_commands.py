@@ -185,6 +185,7 @@ def test_packages_of_go() -> None:
     assert {library: package for package, library in rows} == NEEDS
 
 
+@pytest.mark.long(15)
 @covers("docs/go.md", _BUILD, 'scripts/go build -o "$PWD/build/platform" ')
 def test_broker_and_platform_in_go(texts: list[str], workdir: Workdir, port: int) -> None:
     """The broker answers curl and the platform as the page says, twice, and has nothing left."""
@@ -197,6 +198,7 @@ def test_broker_and_platform_in_go(texts: list[str], workdir: Workdir, port: int
     assert (workdir.top / "build" / "state" / "holdings.sqlite").exists()
 
 
+@pytest.mark.long(10)
 @covers("docs/go.md", "mkdir -p build/own/src/example.org/folders\n")
 def test_go_program_of_a_reader(texts: list[str], workdir: Workdir, port: int) -> None:
     """It is built outside of the sources, needs no shared object of the library, and answers curl."""
@@ -211,6 +213,7 @@ def test_go_program_of_a_reader(texts: list[str], workdir: Workdir, port: int) -
     assert printed == read(f"{_EXAMPLE}/curl.out")
 
 
+@pytest.mark.long(15)
 @covers("docs/go.md", "scripts/go doc ", "scripts/go test ")
 def test_go_doc_and_crash_test(texts: list[str], workdir: Workdir) -> None:
     """The package's page, one name of it, and the example's tests with each crash point of the page's table."""
@@ -234,14 +237,17 @@ func main() { println(osb.Version() == osb.HeaderVersion) }
 
 @covers("docs/go.md", "go mod init ", "CGO_LDFLAGS=")
 def test_go_module_of_a_reader(texts: list[str], workdir: Workdir) -> None:
-    """In a folder beside the repository, a program is built that needs no shared object."""
+    """In a folder beside the repository, a program is built that needs no shared object. Go's cache is empty: it would
+    not see that the library has changed.
+    """
     needs_go()
     module, archive = texts
     (workdir.folder / "program").mkdir()
     (workdir.folder / "program" / "main.go").write_text(_PROGRAM, encoding="ascii")
     out = workdir.run(
         "./libosb build build\nexport PKG_CONFIG_PATH=$PWD/build GOFLAGS=-modcacherw\ncd ../program\n"
-        f"{module}{archive}ldd program\necho --\n./program 2>&1"
+        f"{module}{archive}ldd program\necho --\n./program 2>&1",
+        GOCACHE=str(workdir.folder / "cache"),
     )
     linked, _, printed = out.partition("--\n")
     assert "libosb" not in linked, "the program needs the shared object"

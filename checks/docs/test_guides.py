@@ -4,12 +4,11 @@ from __future__ import annotations
 import json
 import re
 import shlex
-import subprocess
 from functools import partial
 from typing import Callable
 
+import osb_audit.words
 import pytest
-import storm.arguments
 from docs.guides import BROKER, CREATE, healthy, moved, statuses
 from docs.pages import block, blocks, covers, packages, pages, read
 from docs.programs import help_of, is_read_by, options_of
@@ -35,8 +34,7 @@ def test_packages(texts: list[str]) -> None:
 
 def test_first_start(workdir: Workdir) -> None:
     """It builds the program, which the second start runs. Both print what they were asked for, and nothing else."""
-    cache = subprocess.run(["go", "env", "GOCACHE"], capture_output=True, text=True, check=True).stdout.strip()
-    given = {"OSB_BROKER": "", "GOCACHE": cache, "GOFLAGS": ""}
+    given = {"OSB_BROKER": "", "GOFLAGS": ""}
     assert re.fullmatch(r"[\w-]{43}\n", workdir.run("./osb-broker key", **given))
     assert workdir.errors().startswith("osb-broker: building the program ") and workdir.errors().count("\n") == 1
     assert re.fullmatch(r"[\w-]{43}\n", workdir.run("./osb-broker key", **given))
@@ -108,18 +106,21 @@ def test_log(texts: list[str], workdir: Workdir, port: int) -> None:
 READERS: dict[str, Callable[[list[str]], object]] = {
     "./osb-broker": partial(is_read_by, "osb-broker"),
     "./osb-platform": partial(is_read_by, "osb-platform"),
-    "checks/storm/run": storm.arguments.read,
+    "./osb-storm": partial(is_read_by, "osb-storm"),
+    "./osb-audit": osb_audit.words.read,
 }
-COMMAND = re.compile(rf"(?:^|[\s(])({'|'.join(map(re.escape, READERS))})((?: +[^\s&|;#)>]+)+)", re.MULTILINE)
+WORD = r"""(?:'[^']*'|"[^"]*"|[^\s&|;#)>'"])+"""
+COMMAND = re.compile(rf"(?:^|[\s(])({'|'.join(map(re.escape, READERS))})((?: +{WORD})+)", re.MULTILINE)
 
 
-@pytest.mark.usefixtures("platform")
+@pytest.mark.usefixtures("platform", "storm")
 @pytest.mark.parametrize("page", pages())
 def test_arguments(page: str) -> None:
     """The programs take the arguments of every command in the documents."""
     for text in blocks(page):
         for program, words in COMMAND.findall(text.replace("\\\n", " ")):
-            READERS[program](shlex.split(re.sub(r"\$\w+", FIRST, words)))
+            given = re.sub(r"\$\w+", FIRST, words).replace("--seed SEED", "--seed=1")
+            READERS[program](shlex.split(given))
 
 
 @pytest.mark.parametrize("arguments", ["serve --pass x", "serve --threads 0", "sell", "serve --listen"])

@@ -74,16 +74,18 @@ def test_first_steps(texts: list[str], workdir: Workdir, port: int) -> None:
 @covers(
     PLATFORM,
     "one=$(./osb-platform create ",
+    "app=$(./osb-platform bind ",
     "./osb-platform ask $one\n",
     "./osb-platform list --state gone --reasons\n",
 )
 def test_look(texts: list[str], workdir: Workdir, port: int) -> None:
-    """An instance under an id that was made up is seen at the broker, and by its reasons."""
-    create, look, reasons = (moved(it, port) for it in texts)
+    """An instance under an id that was made up is bound, seen at the broker, and by its reasons."""
+    create, bind, look, reasons = (moved(it, port) for it in texts)
     out = workdir.run(
-        f"{begun(port)}{started(block(PLATFORM, RUN))}{create}echo one $one\n{look}"
-        f"./osb-platform remove $one --wait\n{look}{reasons}{STOP}"
+        f"{begun(port)}{started(block(PLATFORM, RUN))}{create}echo one $one\n{bind}{look}"
+        f"./osb-platform unbind $app --wait\n./osb-platform remove $one --wait\n{look}{reasons}{STOP}"
     )
+    assert '"credentials":' in out
     found = re.search(r"^one (\S{36})$", out, re.MULTILINE)
     assert found is not None
     answers = [it.removeprefix("last operation ") for it in out.splitlines() if it.startswith("last operation s")]

@@ -1,4 +1,6 @@
-"""A copy of the repository, in which a reader's commands are run without anything of this shell's environment."""
+"""A copy of the repository, in which a reader's commands are run without anything of this shell's environment but the
+place of Go's cache.
+"""
 from __future__ import annotations
 
 import contextlib
@@ -15,10 +17,13 @@ from docs.pages import TOP
 _SECONDS = 240.0
 
 # What this shell has of Python, Go, pkg-config, PostgreSQL and the library, and a reader's hasn't.
-# OSB_BROKER and OSB_PLATFORM stay: all tests that use the fixtures `broker` and `platform` share one build.
+# OSB_BROKER, OSB_PLATFORM and OSB_STORM stay: all tests that use the fixtures of the programs share one build.
 _OWN = re.compile(
-    "LIBOSB|OSB_(?!BROKER$|PLATFORM$)|PYTHON|PKG_CONFIG|LD_|CGO_|GO[A-Z]|PG|PIP_|CC$|XDG_|DESTDIR|BROKER_|PORT$"
+    "LIBOSB|OSB_(?!BROKER$|PLATFORM$|STORM$)|PYTHON|PKG_CONFIG|LD_|CGO_|GO[A-Z]|PG|PIP_|CC$|XDG_|DESTDIR|BROKER_|PORT$"
 )
+
+# Where Go's cache is. scripts/go sees to it that no build takes what was built with another library.
+_CACHE = ("GOCACHE", "XDG_CACHE_HOME")
 
 # What Debian calls the package of a command, if the two names differ.
 _PACKAGES = {"go": "golang-go", "cc": "gcc"}
@@ -66,7 +71,7 @@ class Workdir:
         for name, text in _STAND_INS.items():
             _put(folder / "bin" / name, text)
         self._environment: dict[str, str] = {
-            **{name: value for name, value in os.environ.items() if not _OWN.match(name)},
+            **{name: value for name, value in os.environ.items() if name in _CACHE or not _OWN.match(name)},
             "PATH": f"{folder}/bin:{os.environ['PATH']}",
             "DESTDIR": f"{folder}/installed",
             "XDG_STATE_HOME": f"{folder}/state",
@@ -74,7 +79,6 @@ class Workdir:
             "GOENV": "off",
             "GOPROXY": "off",
             "GOFLAGS": "-modcacherw",
-            "GOCACHE": f"{folder}/go/cache",
             "GOPATH": f"{folder}/go/path",
         }
 
