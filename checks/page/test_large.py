@@ -42,9 +42,14 @@ def test_both_ends(large: Shown) -> None:
 
 @pytest.mark.parametrize("target", ["/", "/?page=last", "/?state=gone", "/?find=a"])
 def test_page_comes_within_a_second(large: Shown, target: str) -> None:
+    assert min(_seconds(large, target) for _ in range(5)) < 1.0
+
+
+def _seconds(large: Shown, target: str) -> float:
+    """How long a page takes. What else the machine does only adds to that, so the fewest of several times counts."""
     began = time.monotonic()
     assert get(large.url, target).ids()
-    assert time.monotonic() - began < 1.0
+    return time.monotonic() - began
 
 
 @pytest.mark.browser
