@@ -97,7 +97,7 @@ func TestHangingBroker(t *testing.T) {
 	if err != nil {
 		t.Fatal(err)
 	}
-	if took := time.Since(begun); took > 3*time.Second || !strings.Contains(report.Ended, "3 requests in a row") {
+	if took := time.Since(begun); took > 10*time.Second || !strings.Contains(report.Ended, "3 requests in a row") {
 		t.Errorf("%v, %q", took, report.Ended)
 	}
 	time.AfterFunc(50*time.Millisecond, func() { close(hangs) }) // now the creations arrive
@@ -126,7 +126,7 @@ func TestHangingDeletions(t *testing.T) {
 	defer cancel()
 	begun := time.Now()
 	left := r.CleanUp(within)
-	if took := time.Since(begun); took > 3*time.Second {
+	if took := time.Since(begun); took > 10*time.Second {
 		t.Errorf("it took %v", took)
 	}
 	if len(left) != exist || exist == 0 {

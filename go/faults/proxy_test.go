@@ -92,8 +92,10 @@ type got struct {
 	took   time.Duration
 }
 
-func put(p *Proxy, path string) got {
-	ctx, cancel := context.WithTimeout(context.Background(), requestTime)
+func put(p *Proxy, path string) got { return putWithin(p, path, requestTime) }
+
+func putWithin(p *Proxy, path string, limit time.Duration) got {
+	ctx, cancel := context.WithTimeout(context.Background(), limit)
 	defer cancel()
 	begun := time.Now()
 	sent, err := http.NewRequestWithContext(ctx, http.MethodPut, p.URL()+path, strings.NewReader(`{"plan_id": "a"}`))
@@ -269,9 +271,10 @@ func TestGarbledRequest(t *testing.T) {
 // A restart is run while the broker has the request, or once the platform has its answer.
 func TestRestarts(t *testing.T) {
 	for _, kind := range []Kind{RestartDuring, RestartAfter} {
-		broker := &counting{pause: 150 * time.Millisecond}
+		broker := &counting{pause: time.Second}
 		var at time.Time
 		p := between(t, broker, kind, func(c *Config) {
+			c.RequestTime = 20 * time.Second
 			c.Restart = func(context.Context) error { at = time.Now(); return errors.New("broken") }
 			c.Failed = func(err error) {
 				if err.Error() != "broken" {
@@ -280,7 +283,7 @@ func TestRestarts(t *testing.T) {
 			}
 		})
 		begun := time.Now()
-		g := put(p, path)
+		g := putWithin(p, path, 20*time.Second)
 		until(t, func() bool { return p.Pending() == 0 })
 		if isDuring := at.Sub(begun) < broker.pause; isDuring != (kind == RestartDuring) || g.status != 201 {
 			t.Errorf("%s: the broker was restarted after %v, and the platform got %+v", kind, at.Sub(begun), g)

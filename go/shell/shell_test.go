@@ -54,7 +54,7 @@ func TestRunEnds(t *testing.T) {
 		t.Error("a command that was killed has succeeded")
 	}
 	begun := time.Now()
-	if err := Run(context.Background(), "sleep 2 & true"); err != nil || time.Since(begun) > time.Second {
+	if err := Run(context.Background(), "sleep 20 & true"); err != nil || time.Since(begun) > 10*time.Second {
 		t.Errorf("%v after %v", err, time.Since(begun))
 	}
 }

@@ -24,7 +24,7 @@ func TestSilentConnectionToPage(t *testing.T) {
 		t.Fatal(err)
 	}
 	got, err := io.ReadAll(silent)
-	if took := time.Since(begun); err != nil || len(got) > 0 || took < pageSilence/2 || took > 2*pageSilence {
+	if took := time.Since(begun); err != nil || len(got) > 0 || took < pageSilence/2 || took > 5*pageSilence {
 		t.Errorf("it is closed after %v: %q, %v", took, got, err)
 	}
 	p.stop()
