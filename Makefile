@@ -13,12 +13,12 @@ STATICCHECK = $(CURDIR)/build/staticcheck
 help: ## print this list
 	@awk -F ':.*## ' '/^[a-z]+:.*## / { printf "make %-10s %s\n", $$1, $$2 }' $(MAKEFILE_LIST)
 
-quick: quick-format quick-rattle quick-lint quick-shell quick-go quick-types quick-tests ## format, lint, types, and tests that start no process: under a minute
+quick: quick-format quick-rattle quick-lint quick-shell quick-go quick-types quick-tests ## format, lint, types, and tests that start no process: half a minute
 
 test: ## the tests, over the prebuilt library: some minutes
 	./check --tests
 
-check: ## everything from nothing, proofs included: about an hour on four cores
+check: ## everything from nothing, proofs included: one to two hours on four cores
 	./check
 
 one: ## one test by its name or file: make one T=test_locks, make one T=... A="-x --pdb"
