@@ -70,29 +70,48 @@ const (
 )
 
 // advise chooses the advice. A deletion is advised only if the answers don't contradict each other, and if it can't
-// delete what another platform has, or the operator is told to look first. isFetched is whether a Fetch was answered,
-// isOwnID whether the id was made up here.
-func advise(last, fetch said, isFetched, hasTombstones, isOwnID bool) advice {
+// delete what another platform has, or the operator is told to look first.
+func advise(last, fetch said, known circumstances) advice {
 	switch {
 	case areContrary(last, fetch):
 		return askAboutContrary
 	case last == saysOther:
 		return leaveOrAbandon
 	case last == saysHeld || last == saysPending:
-		if isOwnID {
+		switch {
+		case known.isOwnID:
 			return removeYours
+		case known.isOthers:
+			return leaveOrAbandon
 		}
 		return removeIfYours
-	case isOwnID && last == saysNone:
+	case known.isOwnID && last == saysNone:
 		return removeNothing
-	case isOwnID:
+	case known.isOwnID:
 		return removeWhateverIs
-	case last == saysNothing || isFetched && fetch == saysNothing:
+	case last == saysNothing || known.isFetched && fetch == saysNothing:
 		return askOperator
-	case hasTombstones || fetch == saysNone:
+	case known.hasTombstones || fetch == saysNone:
 		return removeNothing
 	}
 	return askAboutGone
+}
+
+// circumstances are what else the advice depends on.
+type circumstances struct {
+	isFetched     bool // a Fetch was answered
+	hasTombstones bool // the broker never creates an id again
+	isOwnID       bool // the id was made up here
+	isOthers      bool // this order hasn't created what the broker holds
+}
+
+// isOthers is whether the creation was rejected because of what the broker held. A broker with tombstones answers a
+// repeated creation as it answered the first one, so a 409 is about something else. Another broker may answer 409 to its
+// own creation.
+func (q question) isOthers() bool {
+	failure := q.entry.Failure
+	return q.hasTombstones() && failure.Status == http.StatusConflict &&
+		(failure.Kind == "provision" || failure.Kind == "bind")
 }
 
 // advice is the sentence that leads on for a row that waits for a decision, or empty. fetched is nil if nothing was
@@ -101,9 +120,10 @@ func (q question) advice(last client.Told, fetched *client.Told) string {
 	if q.entry.State != platform.Unsettled || !q.entry.Rests() {
 		return ""
 	}
-	hasTombstones := q.hasTombstones()
-	chosen := advise(saidByLast(last, hasTombstones), saidByFetch(fetched), fetched != nil, hasTombstones,
-		q.entry.IsOwnID)
+	known := circumstances{
+		isFetched: fetched != nil, hasTombstones: q.hasTombstones(), isOwnID: q.entry.IsOwnID, isOthers: q.isOthers(),
+	}
+	chosen := advise(saidByLast(last, known.hasTombstones), saidByFetch(fetched), known)
 	id, remove := printable(idOf(q.entry)), "remove"
 	if q.entry.Key.IsBinding {
 		remove = "unbind"

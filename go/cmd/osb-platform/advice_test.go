@@ -21,7 +21,8 @@ var fetchAnswers = []*client.Told{
 }
 
 // What 'ask' advises after each answer about the last operation, each answer to the Fetch, with tombstones and without,
-// for an id that was chosen and for one that was made up here:
+// for an id that was chosen and for one that was made up here, after a creation that was rejected with 409 and after
+// another one:
 //
 //	Y  it exists: remove it if it is yours   O  it exists, and the id is our own: remove it
 //	N  nothing exists: remove it             W  remove whatever exists: the id is our own
@@ -38,19 +39,35 @@ func TestAdvice(t *testing.T) {
 		'!': "the answers contradict each other",
 		'L': "'osb-platform abandon one --because TEXT'",
 	}
+	conflict := platform.Reason{Kind: "provision", Status: 409}
+	polled := platform.Reason{Kind: "poll", Status: 409}
 	for _, it := range []struct {
 		hasTombstones, isOwnID bool
+		failure                platform.Reason
 		want                   []string // a row for each of lastAnswers, a letter for each of fetchAnswers
 	}{
-		{true, false, []string{"YY!!YY", "YYYYYY", "YYYYYY", "N!NN??", "LLLLLL", "??????", "??????", "??????", "??????"}},
-		{true, true, []string{"OO!!OO", "OOOOOO", "OOOOOO", "N!NNNN", "LLLLLL", "WWWWWW", "WWWWWW", "WWWWWW", "WWWWWW"}},
-		{false, false, []string{"YY!!YY", "YYYYYY", "YYYYYY", "g!NN??", "??????", "??????", "??????", "??????", "??????"}},
-		{false, true, []string{"OO!!OO", "OOOOOO", "OOOOOO", "N!NNNN", "WWWWWW", "WWWWWW", "WWWWWW", "WWWWWW", "WWWWWW"}},
+		{true, false, platform.Reason{},
+			[]string{"YY!!YY", "YYYYYY", "YYYYYY", "N!NN??", "LLLLLL", "??????", "??????", "??????", "??????"}},
+		{true, true, platform.Reason{},
+			[]string{"OO!!OO", "OOOOOO", "OOOOOO", "N!NNNN", "LLLLLL", "WWWWWW", "WWWWWW", "WWWWWW", "WWWWWW"}},
+		{false, false, platform.Reason{},
+			[]string{"YY!!YY", "YYYYYY", "YYYYYY", "g!NN??", "??????", "??????", "??????", "??????", "??????"}},
+		{false, true, platform.Reason{},
+			[]string{"OO!!OO", "OOOOOO", "OOOOOO", "N!NNNN", "WWWWWW", "WWWWWW", "WWWWWW", "WWWWWW", "WWWWWW"}},
+		// The broker has tombstones and has answered 409 to the creation: what it holds is somebody else's.
+		{true, false, conflict,
+			[]string{"LL!!LL", "LLLLLL", "LLLLLL", "N!NN??", "LLLLLL", "??????", "??????", "??????", "??????"}},
+		{true, true, conflict,
+			[]string{"OO!!OO", "OOOOOO", "OOOOOO", "N!NNNN", "LLLLLL", "WWWWWW", "WWWWWW", "WWWWWW", "WWWWWW"}},
+		{false, false, conflict,
+			[]string{"YY!!YY", "YYYYYY", "YYYYYY", "g!NN??", "??????", "??????", "??????", "??????", "??????"}},
+		{true, false, polled,
+			[]string{"YY!!YY", "YYYYYY", "YYYYYY", "N!NN??", "LLLLLL", "??????", "??????", "??????", "??????"}},
 	} {
 		for row, last := range lastAnswers {
 			for column, fetched := range fetchAnswers {
 				q := question{entry: platform.Entry{State: platform.Unsettled}}
-				q.entry.Names.Instance, q.entry.IsOwnID = "one", it.isOwnID
+				q.entry.Names.Instance, q.entry.IsOwnID, q.entry.Failure = "one", it.isOwnID, it.failure
 				q.broker.Catalogue = []byte(`{"services": []}`)
 				if it.hasTombstones {
 					q.broker.Catalogue = []byte(`{"services": [], "x-osb-tombstones": true}`)
@@ -58,8 +75,8 @@ func TestAdvice(t *testing.T) {
 				letter := it.want[row][column]
 				got := q.advice(last, fetched)
 				if !strings.Contains(got, letters[letter]) {
-					t.Errorf("tombstones %v, own id %v, last operation %+v, Fetch %+v: %q, want %c", it.hasTombstones,
-						it.isOwnID, last, fetched, got, letter)
+					t.Errorf("tombstones %v, own id %v, failure %+v, last operation %+v, Fetch %+v: %q, want %c",
+						it.hasTombstones, it.isOwnID, it.failure, last, fetched, got, letter)
 				}
 				if deletes := strings.Contains(got, "remove one"); deletes != strings.ContainsRune("YONW", rune(letter)) {
 					t.Errorf("last operation %+v, Fetch %+v: %q, want %c", last, fetched, got, letter)

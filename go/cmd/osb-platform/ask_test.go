@@ -79,8 +79,8 @@ func TestAsk(t *testing.T) {
 	check(t, store, []line{
 		{"ask one", 0, "id\tone\n" + head + "410\n" + said + "what to do\tthe broker has nothing. " +
 			"Run 'osb-platform remove one': the record becomes gone", ``},
-		{"ask two", 0, "id\ttwo\n" + head + "200\nlast operation state\tsucceeded\nwhat to do\tthe broker holds it. " +
-			"If it is yours, run 'osb-platform remove two': that deletes it at the broker", ``},
+		{"ask two", 0, "id\ttwo\n" + head + "200\nlast operation state\tsucceeded\nwhat to do\tthe broker holds " +
+			"something else under this id. Leave it, or end the record: 'osb-platform abandon two --because TEXT'", ``},
 		{"ask three", 0, "id\tthree\n" + head + "400\n" + said + "what to do\tthe broker holds something else under this " +
 			"id. Leave it, or end the record: 'osb-platform abandon three --because TEXT'", ``},
 		{"ask four", 1, ``, `osb-platform: the instance four is unknown`},
