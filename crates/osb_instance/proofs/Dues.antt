@@ -109,13 +109,6 @@ none_is_not_some : (w : Option Work) → None ≡ w → IsSome w → ⊥
 none_is_not_some None e s = cc
 none_is_not_some (Some w) e s = cc
 
--- where no work is due, the outcome doesn't matter, but for a Poll, and the row stays
-pub steady : (m : Option Mode) (b : Option BrokerRow) (r : Request) (o : Outcome) → (r.kind ≢ Poll) ⊎ (o ≡ Done)
-    → None ≡ work_due m b r → decided m b r Done ≡ decided m b r o
-steady m b r o (inr e) none = ap (decided m b r) (sym e)
-steady m b r o (inl k) none =
-    ⊎_elim (λ e. sym e.0) (λ s. absurd (none_is_not_some (work_due m b r) none s)) (told r.kind m b r k o)
-
 stays_as : (k : Kind) (m : Option Mode) (b : Option BrokerRow) (r : Request) → r.kind ≡ k → None ≡ work_due m b r
     → (decided_as k m b r Done).row ≡ b
 stays_as Poll m b r e none = refl

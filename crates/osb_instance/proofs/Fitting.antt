@@ -94,9 +94,6 @@ without_work : (m : Option Mode) (b : Option BrokerRow) (x v : Bool) (a : Digest
     → fits m (record { row = b; work = None; tombstone = x; waiting = v; attributes = a }) ≡ true
 without_work m b x v a h = both (row_fits m b) true h refl
 
-pub row_of_fits : (m : Option Mode) (held : Held) → fits m held ≡ true → row_fits m held.row ≡ true
-row_of_fits m held h = left _ _ h
-
 pub worked_fits : (m : Option Mode) (held : Held) (r : Request) (o : Outcome) (x v : Bool) (a : Digest)
     → fits m held ≡ true → fits m (record { row = (decided m held.row r o).row; work = None; tombstone = x; waiting = v; attributes = a }) ≡ true
 worked_fits m held r o x v a h = without_work m _ x v a (decided_fits_as r.kind m held.row r o (left _ _ h))
@@ -173,8 +170,3 @@ made_kind Deprovision m b r o e n h = cc
 right : (x y : Bool) → (x && y) ≡ true → y ≡ true
 right true y h = h
 right false y h = cc
-
-pub made_held : (m : Option Mode) (held : Held) (r : Request) (o : Outcome) → held.work ≡ Some r
-    → fits m held ≡ true → o ≢ Before → r.kind ≡ Provision → is_some (decided m held.row r o).row ≡ true
-made_held m held r o w h n e =
-    made_kind r.kind m held.row r o e n (subst (λ q. work_fits m held.row q ≡ true) w (right (row_fits m held.row) _ h))

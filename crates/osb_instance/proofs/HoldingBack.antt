@@ -154,9 +154,6 @@ can_be_sound_with (Some b) (Some r) false false a h =
 pub can_be_sound : (held : Held) → can_be held ≡ true → IsHeldSound held
 can_be_sound held h = can_be_sound_with held.row held.work held.tombstone held.waiting held.attributes h
 
-none_some : {A : Type 0} (x : A) → None ≡ Some x → ⊥
-none_some x e = cc
-
 sound_can_be_with : (b : Option BrokerRow) (k : Option Request) (x v : Bool) (a : Digest)
     → IsHeldSound (record { row = b; work = k; tombstone = x; waiting = v; attributes = a }) → can_be (record { row = b; work = k; tombstone = x; waiting = v; attributes = a }) ≡ true
 sound_can_be_with None None true false a h = is_same a (h.attributes refl refl)

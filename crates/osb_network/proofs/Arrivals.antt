@@ -94,9 +94,6 @@ provisioned_started o h b m =
 pub deprovisioned_failed : (h : Held) (n : ℕ) (b : Body) → 411 ≤ n → IsDeprovisioned h (record { status = n; body = b })
 deprovisioned_failed h n b x = record { deleted = λ z. absurd (grind arith); started = λ z. absurd (omega arith) }
 
-deprovisioned_refused : (h : Held) (b : Body) → IsDeprovisioned h (record { status = 400; body = b })
-deprovisioned_refused h b = record { deleted = λ z. absurd (grind arith); started = λ z. absurd (omega arith) }
-
 pub deprovisioned_ended : (h : Held) (a : Answer) → h.tombstone ≡ true → IsLeaving h → IsDeprovisioned h a
 deprovisioned_ended h a e l = record { deleted = λ z. e; started = λ z. l }
 

@@ -11,13 +11,6 @@ use Rattle.osb_network.specs.Possible.{IsEarly}
 use Rattle.osb_network.specs.Possible.{IsBefore, HeldByState}
 use Rattle.osb_network.specs.Possible.{ToldByState, IsLater}
 
-early_in : (o : Order) (s : State) (h : Held) (t : Resource) → HeldByState o s h t → IsBefore s → IsEarly h t
-early_in o Wanted h t holds b = holds
-early_in o Polling h t holds b = holds.0
-early_in o Ready h t holds b = holds.0
-early_in o Unsettled h t holds b = holds
-early_in o s h t holds b = absurd b
-
 pub holds_later : (o : Order) (s : State) (h : Held) (t : Resource) (g : Held) (u : Resource) → HeldByState o s h t
     → IsLater o s h t g u → HeldByState o s g u
 holds_later o Wanted h t g u holds l = l.early tt holds

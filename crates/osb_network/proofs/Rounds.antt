@@ -245,10 +245,6 @@ given_up c rec e h =
     ∙ given_up_out c rec rec.row.out refl e
     (λ n. stays rec.row.state (λ w. (let f = h.sound.wanted w in cc)))
 
-not_wanted : (s : State) → after_timeout s ≢ Wanted
-not_wanted Wanted = λ e. cc
-not_wanted s = λ e. cc
-
 -- ---- a request is done and answered
 
 -- what is held and answered once what was begun is done

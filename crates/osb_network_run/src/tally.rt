@@ -1,5 +1,5 @@
 //! A network, and how many events happened to it.
-ghost use Rattle.std.specs.Prelude.{◌≡◌, ◌+◌, ◌<◌, ◌≤◌, length, IfErr, IfOk, None, OnErr, OnOk};
+ghost use Rattle.std.specs.Prelude.{◌≡◌, ◌≢◌, ◌+◌, ◌<◌, ◌≤◌, length, IfErr, IfOk, None, OnErr, OnOk};
 ghost use Rattle.std.specs.FinMap as finite;
 ghost use Rattle.osb_language.specs.declared.replay_fault.ScheduleFault.TheVariants as Why;
 ghost use Rattle.osb_lines.specs.Sink.{IsLineFault};
@@ -36,6 +36,7 @@ pub fn judge_line(before: u32, line: &[u8]) -> Result<Option<NetworkEvent>, Sche
     requires few { before ≤ MOST_LINES }
     ensures said { IfOk result (IsJudgedAs before line.now) }
     ensures refused { IfErr result (IsLineFault (before + 1) (fault_of before line.now)) }
+    ensures no_memory { IfErr result (λ fault. fault ≢ Why.Memory) }
     ensures within { OnOk result ((before < MOST_LINES) × (length line.now ≤ LONGEST_LINE)) }
 {
     let number = before + 1;

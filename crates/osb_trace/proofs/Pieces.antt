@@ -121,15 +121,6 @@ stuck_in instance piece rest old now before after refused fault so_far refuses b
     (stuck_at instance (bytes ++ so_far.front) rest ended more now before after refused fault here tells
     (refuses (bytes ++ so_far.front) (ended ++ more) here))
 
--- what wasn't told explains why it is stuck
-pub untold_stuck : (instance : Option ℕ) (bytes : List ℕ) (ended : List (List ℕ)) (before after : Option (List ℕ))
-    (refused : Bool) (fault : ReplayFault)
-    → IsUntold refused fault → IsWhyStuck instance bytes ended before after refused fault
-untold_stuck instance bytes ended before after refused (Schedule line fault) why = absurd why
-untold_stuck instance bytes ended before after refused Read why = absurd why
-untold_stuck instance bytes ended before after refused Write why = why
-untold_stuck instance bytes ended before after refused Memory why = tt
-
 -- ---- one piece after another
 
 -- what was told of the lines so far
@@ -185,15 +176,6 @@ pub stopped_in : (instance : Option ℕ) (unread left first then last : Option (
 stopped_in instance unread left first then last input_refused output_refused bytes reader more fault consumed (ended, read, tells)
     stuck = stopped_by instance unread left first then last input_refused output_refused (bytes ++ more) ended fault consumed
     tells (stuck ended read)
-
--- nothing more was told
-pub untold_stopped : (instance : Option ℕ) (unread left before after : Option (List ℕ)) (input_refused refused : Bool)
-    (fault : ReplayFault)
-    → IsUntold refused fault → IsWhyStopped instance unread left input_refused before after refused fault
-untold_stopped instance unread left before after input_refused refused (Schedule line fault) why = absurd why
-untold_stopped instance unread left before after input_refused refused Read why = absurd why
-untold_stopped instance unread left before after input_refused refused Write why = why
-untold_stopped instance unread left before after input_refused refused Memory why = tt
 
 -- what is passed on stays told
 append_none : (known : Option (List ℕ)) → append_known known [] ≡ known

@@ -71,13 +71,6 @@ pub record IsRoundSoFar (id number : ℕ) (events : List RoundEvent) (old new : 
   pub world : HasCell old new id (steps (catalogue_of old) (cell_at old id) events)
   pub told : Appends before after (told_steps number (catalogue_of old) (cell_at old id) (map (spelled id) events))
 
-pub none_of_round : (id number : ℕ) (old : WorldState) (before : Option (List ℕ)) → Appends before before []
-    → IsRoundSoFar id number [] old old before before
-none_of_round id number old before none = record {
-  world = record { here = refl; others = λ other apart. refl; catalogue = refl };
-  told = none;
-}
-
 pub more_of_round : (id number : ℕ) (events : List RoundEvent) (of : RoundEvent) (old now new : WorldState)
     (before middle after : Option (List ℕ))
     → IsRoundSoFar id number events old now before middle

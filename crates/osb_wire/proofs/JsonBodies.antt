@@ -12,15 +12,6 @@ pub json_text : (body : List ℕ) → IsUtf8 body → json_in body ≡ document 
 unfolding json_in
 json_text body text = rw (is_utf8-from_IsUtf8 body text) refl
 
-pub json_no_text : (body : List ℕ) → ¬ (IsUtf8 body) → json_in body ≡ None
-unfolding json_in
-json_no_text body other =
-    elim (is_utf8 body) as (λ b. is_utf8 body ≡ b → cond b (document body) None ≡ None) [
-      | true ↦ λ e. absurd (other (IsUtf8-from_is_utf8 body e))
-      | false ↦ λ e. refl
-    ]
-    refl
-
 -- where the reader refuses, there is none: bytes that aren't UTF-8 have none either
 pub json_none : (body : List ℕ) → (IsUtf8 body → document body ≡ None) → json_in body ≡ None
 unfolding json_in
