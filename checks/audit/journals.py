@@ -29,7 +29,7 @@ import json
 from collections.abc import Callable, Mapping
 from dataclasses import dataclass, field
 from pathlib import Path
-from typing import Any, Optional
+from typing import Any
 
 INSTANCE = "00000000-0000-0000-0000-000000000001"
 BINDING = "00000000-0000-0000-0000-00000000000b"
@@ -175,7 +175,7 @@ class Journal:
     def _key(more: dict[str, Any]) -> dict[str, Any]:
         return {it: more[it] for it in ("instance", "binding") if it in more}
 
-    def _changed(self, who: str, more: dict[str, Any], after: str, before: Optional[str]) -> None:
+    def _changed(self, who: str, more: dict[str, Any], after: str, before: str | None) -> None:
         row = (who[0], more.get("binding", ""))
         self.changes[who] = self.changes.get(who, 0) + 1
         found = self.texts.get(row, "") if before is None else before

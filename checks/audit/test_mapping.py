@@ -6,7 +6,7 @@ In the events, I stands for the instance and B for its binding.
 from __future__ import annotations
 
 import json
-from typing import NamedTuple, Optional
+from typing import NamedTuple
 
 import pytest
 from audit.journals import BINDING, BOUND, CREATED, INSTANCE, PLANS, REMOVED, SERVICE, Journal, started
@@ -75,7 +75,7 @@ class Rule(NamedTuple):
     events: str
     plan: str = "sync"
     first_poll: bool = False
-    stop: Optional[str] = None
+    stop: str | None = None
     binding: str = "sync"
     retrievable: bool = True
 

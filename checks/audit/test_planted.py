@@ -7,7 +7,7 @@ from __future__ import annotations
 import json
 import subprocess
 from pathlib import Path
-from typing import Any, NamedTuple, Optional
+from typing import Any, NamedTuple
 
 import pytest
 from audit.conftest import TOP, Audit
@@ -127,7 +127,7 @@ def test_planted_in_storm(audit: Audit, storm: Path, tmp_path: Path) -> None:
 
 @pytest.mark.long(10)
 @pytest.mark.parametrize("name", [None, *SLIPS])
-def test_planted(audit: Audit, broker: Path, platform: Path, tmp_path: Path, name: Optional[str]) -> None:
+def test_planted(audit: Audit, broker: Path, platform: Path, tmp_path: Path, name: str | None) -> None:
     slip = SLIPS[name] if name else None
     at = address()
     with serving(built(slip, tmp_path) if slip else broker, tmp_path, at):

@@ -4,7 +4,6 @@ from __future__ import annotations
 
 from collections.abc import Iterator
 from dataclasses import dataclass, field
-from typing import Optional
 
 from binding.model import Binding, Life, Order, Rules, Tied, new_binding
 from network.model import Answer
@@ -47,7 +46,7 @@ def text_of(answer: Answer) -> str:
     return f"{answer.status}{BODIES.get(answer.body, f'-{answer.body}')}"
 
 
-def columns_of(life: Optional[Life]) -> list[str]:
+def columns_of(life: Life | None) -> list[str]:
     """What is recorded and held, the resource, and the credentials."""
     if life is None:
         return UNKNOWN
@@ -67,7 +66,7 @@ class Service:
     tied: Tied
     places: dict[str, int] = field(default_factory=dict)
 
-    def life(self, binding: str) -> Optional[Life]:
+    def life(self, binding: str) -> Life | None:
         if not binding:
             return self.tied.instance
         return self.tied.bindings[self.places[binding]] if binding in self.places else None
@@ -104,7 +103,7 @@ class World:
     applied: int = 0
     skipped: int = 0
 
-    def life(self, event: Event) -> Optional[Life]:
+    def life(self, event: Event) -> Life | None:
         service = self.services.get(event.instance)
         return service.life(event.binding) if service else None
 

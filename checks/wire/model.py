@@ -545,7 +545,3 @@ def id_texts(document: bytes) -> tuple[set[str], set[str]]:
     services = listed(top, "services", "")
     plans = [plan for service in services for plan in listed(service, "plans", "")]
     return {service["id"] for service in services}, {plan["id"] for plan in plans}
-
-
-def has_tombstones(document: bytes) -> bool:
-    return (members(document) or {}).get("x-osb-tombstones") is True

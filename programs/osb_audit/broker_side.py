@@ -1,8 +1,6 @@
 """Which events the lines of a broker are."""
 from __future__ import annotations
 
-from typing import Optional
-
 from osb_audit import naming, rules
 from osb_audit.events import ANSWER, CREDENTIALS, PHASE, RESOURCE, TOMBSTONE, WORK, Wanted, shown
 from osb_audit.lines import Line
@@ -38,7 +36,7 @@ class BrokerSide:
             self.open.append(visit)
             self._resolve(visit, line)
 
-    def _visit(self, line: Line) -> Optional[Visit]:
+    def _visit(self, line: Line) -> Visit | None:
         return self.known.visits.get(line.visit) if line.visit else None
 
     def _asked(self, visit: Visit, life: Life) -> Asked:
@@ -224,7 +222,7 @@ class BrokerSide:
     def _after(after: Held) -> Wanted:
         return (PHASE, after.phase), (WORK, after.work), (TOMBSTONE, "tombstone" if after.tombstone else "-")
 
-    def _number(self, line: Line, visit: Optional[Visit]) -> int:
+    def _number(self, line: Line, visit: Visit | None) -> int:
         """The number of the request that makes a change."""
         if visit is None:
             raise differs(line, "no request and no end of work makes this change", "no change", self._words(line))
@@ -239,13 +237,13 @@ class BrokerSide:
     def _words(line: Line) -> str:
         return f"{line.of['before'] or '-'} -> {line.of['after'] or '-'}"
 
-    def _begin(self, line: Line, life: Life, visit: Optional[Visit], after: Held, plan: Optional[rules.Plan]) -> None:
+    def _begin(self, line: Line, life: Life, visit: Visit | None, after: Held, plan: rules.Plan | None) -> None:
         attempt = self._number(line, visit)
         self.known.order(line, life, plan)
         self.known.emit(line, life, f"arrive {attempt}", *self._after(after), (ANSWER, "-"))
         life.worker = line.visit
 
-    def _change_at_once(self, line: Line, life: Life, visit: Optional[Visit], after: Held) -> None:
+    def _change_at_once(self, line: Line, life: Life, visit: Visit | None, after: Held) -> None:
         before = life.held
         if visit is None and (before.phase, after.phase) == ("waiting", "failed"):
             self.known.emit(line, life, "give-up-waiting", *self._after(after))
@@ -267,7 +265,7 @@ class BrokerSide:
             return ()
         return ((CREDENTIALS, str(life.number_of(line.of.get("credentials", "")))),)
 
-    def _end(self, line: Line, life: Life, visit: Optional[Visit], after: Held) -> None:
+    def _end(self, line: Line, life: Life, visit: Visit | None, after: Held) -> None:
         found = rules.ends(life.held, self.known.mode(life, life.plan), after)
         if not found:
             raise differs(line, "no end of the pending work leaves this", "another row", self._words(line))

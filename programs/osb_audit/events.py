@@ -1,7 +1,7 @@
 """The events of the proved model that the lines of an instance are, with what the trace has to show after each."""
 from __future__ import annotations
 
-from typing import NamedTuple, Optional, Tuple
+from typing import NamedTuple
 
 from osb_audit.lines import Place
 from osb_audit.rules import Said
@@ -17,7 +17,7 @@ _BODIES = {
     "other-error": "-Other",
 }
 
-Wanted = Tuple[Tuple[int, str], ...]
+Wanted = tuple[tuple[int, str], ...]
 """The columns that count, and what stands in them."""
 
 
@@ -51,7 +51,7 @@ class Story(NamedTuple):
 
     instance: str
     events: list[Event]
-    stop: Optional[Stop]
+    stop: Stop | None
     disagreements: list[str]
     """What both sides disagree about at the end."""
     notes: dict[str, int]

@@ -4,7 +4,7 @@ events, and compares what the program traces with the journal.
 from __future__ import annotations
 
 from collections import Counter
-from typing import Iterator, Mapping, NamedTuple, Optional, Sequence
+from typing import Iterator, Mapping, NamedTuple, Sequence
 
 from osb_audit.events import COLUMNS, STEP, Event, Stop, Story
 from osb_audit.lines import INSTANCE, BadLine, Line, Place, read
@@ -69,7 +69,7 @@ class Judged(NamedTuple):
     unjudged: tuple[tuple[str, Place, str, bool], ...]
     """The instance, from where on, why, and whether nothing of it was judged."""
     notes: Mapping[str, int]
-    bad: Optional[tuple[Place, str]] = None
+    bad: tuple[Place, str] | None = None
 
 
 class _Batch:
@@ -84,7 +84,7 @@ class _Batch:
         self.stories.append(story_)
         self.size += len(story_.events)
 
-    def judged(self) -> Iterator[tuple[Story, Optional[Difference]]]:
+    def judged(self) -> Iterator[tuple[Story, Difference | None]]:
         """Each story with its first difference, if it has one."""
         trace = self._trace() if self.size else iter(())
         for it in self.stories:
@@ -106,7 +106,7 @@ class _Batch:
         return iter(lines[1:])
 
 
-def _difference(story_: Story, lines: Sequence[str]) -> Optional[Difference]:
+def _difference(story_: Story, lines: Sequence[str]) -> Difference | None:
     for at, (event, line) in enumerate(zip(story_.events, lines)):
         columns = line.split(TAB)
         for column, wanted in event.wanted:
@@ -156,7 +156,7 @@ class _Judge:
         self.disagreements: list[tuple[str, str]] = []
         self.unjudged: list[tuple[str, Place, str, bool]] = []
         self.notes: Counter[str] = Counter()
-        self.bad: Optional[tuple[Place, str]] = None
+        self.bad: tuple[Place, str] | None = None
 
     def judged(self) -> Judged:
         batch = _Batch(self.bucket)
@@ -196,7 +196,7 @@ class _Judge:
                 found.setdefault(instance[1].decode(), []).append(line)
         return found
 
-    def _story(self, instance: str, texts: list[bytes]) -> Optional[Story]:
+    def _story(self, instance: str, texts: list[bytes]) -> Story | None:
         """What the lines of an instance have come to; None if one of them can't be read."""
         lines = []
         for text in texts:

@@ -4,12 +4,12 @@ resource, and what the proved model will number.
 from __future__ import annotations
 
 from dataclasses import dataclass, field
-from typing import NamedTuple, Optional, Tuple
+from typing import NamedTuple
 
 from osb_audit.lines import Line
 from osb_audit.rules import NO_TERMS, NOTHING, UNKNOWN, Held, Plan, Recorded, Said, Terms
 
-VisitName = Tuple[str, int]
+VisitName = tuple[str, int]
 """A process, and the number of one of its visits."""
 
 
@@ -26,7 +26,7 @@ class Sent(NamedTuple):
     key: str
     attempt: int
     kind: str
-    plan: Optional[Plan]
+    plan: Plan | None
 
 
 def plan_of(line: Line) -> Plan | None:
@@ -40,14 +40,14 @@ class Visit:
     """A request at a broker."""
 
     arrived: Line
-    answered: Optional[Line] = None
+    answered: Line | None = None
     changes: int = 0
     """How many changes of its own life are still to come."""
     is_resolved: bool = False
     """Whether the model has answered it, or nothing more is asked of it."""
     has_found: bool = False
     """Whether the rows were once as its answer has seen them, since it has arrived."""
-    attempt: Optional[int] = None
+    attempt: int | None = None
     """The number of the request, once it is asked for."""
     may_conflict: bool = False
     """Whether its answer is right if it has other attributes than what was held, which an older journal doesn't say."""
@@ -102,15 +102,15 @@ class Life:
     name: str
     """As the language of schedules has it."""
     is_ordered: bool = False
-    ordered: Optional[Plan] = None
+    ordered: Plan | None = None
     """What was ordered, which the model has."""
     record: Recorded = UNKNOWN
     record_text: str = ""
-    record_line: Optional[Line] = None
+    record_line: Line | None = None
     is_abandoned: bool = False
     held: Held = NOTHING
     held_text: str = ""
-    held_line: Optional[Line] = None
+    held_line: Line | None = None
     terms: Terms = NO_TERMS
     """Of what is held."""
     resource: str = "absent"
@@ -128,7 +128,7 @@ class Life:
     """How many answers the model has given."""
     fetched: list[VisitName] = field(default_factory=list)
     """The visits whose Fetch was answered with credentials."""
-    worker: Optional[VisitName] = None
+    worker: VisitName | None = None
     """The visit that waits for the end of its work."""
     sender: str = ""
     """The process that has sent the request that is out."""

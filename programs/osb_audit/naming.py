@@ -5,8 +5,6 @@ that began it, as long as it is held. So a trace shows none of them, and they ar
 """
 from __future__ import annotations
 
-from typing import Optional
-
 from osb_audit.lines import Line
 from osb_audit.lives import Life, Sent, Visit, plan_of
 from osb_audit.rules import NO_ATTRIBUTES, Held, Plan, Terms
@@ -35,14 +33,14 @@ def _differs(line: Line, why: str, model: tuple[object, ...], journal: tuple[obj
     )
 
 
-def _parts(plan: Optional[Plan], *more: object) -> tuple[object, ...]:
+def _parts(plan: Plan | None, *more: object) -> tuple[object, ...]:
     return (*(plan or ("-", "-")), *more)
 
 
 # ---- a broker
 
 
-def check_held(line: Line, life: Life, visit: Optional[Visit], after: Held, terms: Terms) -> None:
+def check_held(line: Line, life: Life, visit: Visit | None, after: Held, terms: Terms) -> None:
     """Raises `Stopped` if what is held after a change isn't what was held before, or what the request asks for that
     began it.
     """
@@ -61,7 +59,7 @@ def check_held(line: Line, life: Life, visit: Optional[Visit], after: Held, term
         _check_work(line, life, visit, after, terms)
 
 
-def _check_work(line: Line, life: Life, visit: Optional[Visit], after: Held, terms: Terms) -> None:
+def _check_work(line: Line, life: Life, visit: Visit | None, after: Held, terms: Terms) -> None:
     """The pending work is the request that began it: about the same life, with the plan of the row."""
     is_begun = visit is not None and life.held.work == "-"
     plan, accepts = terms.plan, after.accepts
@@ -82,7 +80,7 @@ def check_request(line: Line, known: Known, visit: Visit) -> None:
 # ---- a platform
 
 
-def check_record(line: Line, known: Known, life: Life, plan: Optional[Plan]) -> None:
+def check_record(line: Line, known: Known, life: Life, plan: Plan | None) -> None:
     """Raises `Stopped` if a record hasn't the plan of its order, or that of a binding the plan of its instance."""
     of_instance = known.lives[""].ordered if life.is_binding else None
     for why, wanted in ((RECORDED, plan_of(line)), (RECORDED, life.ordered), (OF_INSTANCE, of_instance)):

@@ -2,11 +2,11 @@
 from __future__ import annotations
 
 from bisect import bisect
-from typing import Iterable, Iterator, Optional, Sequence, Tuple
+from typing import Iterable, Iterator, Sequence
 
 from osb_audit.lines import Line
 
-Row = Tuple[str, str]
+Row = tuple[str, str]
 """A row of one side's store: the side, and the binding, or empty for the instance."""
 
 
@@ -87,7 +87,7 @@ def _chained(lines: list[Line]) -> list[Line]:
     return found
 
 
-def _fitting(lines: Iterable[Line], line: Line, text: str, done: set[Line]) -> Optional[Line]:
+def _fitting(lines: Iterable[Line], line: Line, text: str, done: set[Line]) -> Line | None:
     """The first change of the same row by another process that has found this."""
     for it in lines:
         if it.event == "changed" and it not in done and row_of(it) == row_of(line) and it.process != line.process:
@@ -126,7 +126,7 @@ def _seen(line: Line) -> Iterator[tuple[Row, str]]:
         yield (line.side, ""), line.of["saw_instance"]
 
 
-def _unseen(lines: Sequence[Line], changes: Sequence[int], begun: int, end: int, saw: str) -> Optional[int]:
+def _unseen(lines: Sequence[Line], changes: Sequence[int], begun: int, end: int, saw: str) -> int | None:
     """The change before a request's arrival that the request hasn't seen, or None if it has seen another one."""
     behind = bisect(changes, begun)
     if behind == 0 or lines[changes[behind - 1]].of["after"] == saw:

@@ -1,8 +1,6 @@
 """Which events the lines of a platform are."""
 from __future__ import annotations
 
-from typing import Optional
-
 from osb_audit import naming, rules
 from osb_audit.events import ATTEMPT, OUT, RECORDED, STATE, Wanted, shown
 from osb_audit.lines import Line
@@ -76,7 +74,7 @@ class PlatformSide:
             wanted += ((RECORDED, str(life.number_of(line.of.get("credentials", life.recorded)))),)
         return wanted
 
-    def _step(self, line: Line, life: Life, after: Recorded, events: Optional[tuple[str, ...]]) -> None:
+    def _step(self, line: Line, life: Life, after: Recorded, events: tuple[str, ...] | None) -> None:
         """The platform goes on by itself."""
         if events is None:
             raise differs(
@@ -114,7 +112,7 @@ class PlatformSide:
         self.known.emit(line, life, event, *self._after(line, life, after))
         life.sender = ""
 
-    def _effect(self, life: Life, said: Optional[Said]) -> Optional[Recorded]:
+    def _effect(self, life: Life, said: Said | None) -> Recorded | None:
         if said is None:
             return None
         return rules.taken(life.record, said, life.is_binding, self._is_retrievable(life))
@@ -123,7 +121,7 @@ class PlatformSide:
         plan = rules.recorded_in(life.record_text)[1]
         return self.known.sold(plan).is_retrievable
 
-    def _event(self, line: Line, life: Life, attempt: int, said: Optional[Said], after: Recorded) -> str:
+    def _event(self, line: Line, life: Life, attempt: int, said: Said | None, after: Recorded) -> str:
         if said is None:
             return self._unheard(life, after)
         if life.is_binding and (life.record.state, life.record.out, said) == ("polling", "poll", (200, "succeeded")):
@@ -172,7 +170,7 @@ class PlatformSide:
         raise differs(line, "the platform took an answer that no broker has given", answers, shown(said))
 
 
-def _said(line: Line) -> Optional[Said]:
+def _said(line: Line) -> Said | None:
     """What came back, or None if nothing that counts did."""
     if "lost" in line.of:
         return None

@@ -7,7 +7,7 @@ from __future__ import annotations
 
 import json
 from functools import lru_cache
-from typing import NamedTuple, Optional, Tuple
+from typing import NamedTuple
 
 from osb.enums import Body, Kind, Mode, Outcome, Phase, State
 from osb.errors import OsbError
@@ -16,9 +16,9 @@ from osb.ids import Id
 from osb.messages import Answer, BrokerRow, Request
 from osb.record import Record
 
-Said = Tuple[int, str]
+Said = tuple[int, str]
 """An answer: its status, and the name of its body."""
-Plan = Tuple[str, str]
+Plan = tuple[str, str]
 """The numbers of a service and of a plan."""
 NO_ATTRIBUTES = "0" * 64
 """The digest of no attributes."""
@@ -75,11 +75,11 @@ NOTHING = Held()
 class Terms(NamedTuple):
     """What a text of a holding names."""
 
-    plan: Optional[Plan] = None
+    plan: Plan | None = None
     """Of the row, or of the pending work if there is no row."""
     attributes: str = NO_ATTRIBUTES
     """The digest of those of the row and of the pending work."""
-    work_plan: Optional[Plan] = None
+    work_plan: Plan | None = None
     work_id: str = ""
 
 
@@ -145,7 +145,7 @@ class Asked(NamedTuple):
 
 
 @lru_cache(maxsize=1 << 14)
-def begun(held: Held, asked: Asked, is_bound: bool, instance: Optional[Held]) -> tuple[Held, Said | None]:
+def begun(held: Held, asked: Asked, is_bound: bool, instance: Held | None) -> tuple[Held, Said | None]:
     """What is held after a request, and the answer, or None if its work is pending then.
 
     `instance` is what is held of the instance of a binding, and None of an instance. `is_bound` is whether one of the

@@ -2,7 +2,7 @@
 from __future__ import annotations
 
 import json
-from typing import Any, Mapping, NamedTuple, Optional
+from typing import Any, Mapping, NamedTuple
 
 from osb_audit.lines import BadLine
 from osb_audit.rules import Plan
@@ -22,7 +22,7 @@ class Settings(NamedTuple):
     first_poll: bool
     plans: Mapping[Plan, Sold]
 
-    def sold(self, plan: Optional[Plan]) -> Sold:
+    def sold(self, plan: Plan | None) -> Sold:
         """How the plan is sold, if it is."""
         return self.plans.get(plan, Sold()) if plan else Sold()
 

@@ -5,7 +5,7 @@ In a bucket, each line has the number of its stretch and its own number there be
 from __future__ import annotations
 
 import json
-from typing import Iterator, NamedTuple, Optional
+from typing import Iterator, NamedTuple
 from zlib import crc32
 
 from osb_audit.lines import HEAD, INSTANCE, OF_INSTANCES, is_torn, newer, plain
@@ -60,7 +60,7 @@ class Split(NamedTuple):
     """Whether its first line is `started` or `lost`."""
     ends_torn: bool
     """Whether its last line was cut off."""
-    bad: Optional[tuple[int, str]]
+    bad: tuple[int, str] | None
     """The first line that is no line of a journal, and why."""
 
 
@@ -79,7 +79,7 @@ class _Splitter:
         """Begins with another spool file."""
         self.buckets = [[] for _ in range(self.many)]
 
-    def split(self, lines: Iterator[list[bytes]]) -> Optional[tuple[int, str]]:
+    def split(self, lines: Iterator[list[bytes]]) -> tuple[int, str] | None:
         """Adds each line to its bucket. Returns the first that is no line of a journal."""
         for block in lines:
             for text in block:
@@ -89,7 +89,7 @@ class _Splitter:
                     return self.lines - 1, why
         return None
 
-    def _add(self, text: bytes) -> Optional[str]:
+    def _add(self, text: bytes) -> str | None:
         head = HEAD.match(text)
         if head is None or not text.endswith(b"}"):
             line = plain(text)
@@ -121,7 +121,7 @@ class _Splitter:
         self.time = int(time)
         return None
 
-    def _odd(self, text: bytes) -> Optional[str]:
+    def _odd(self, text: bytes) -> str | None:
         """A line that was cut off may stand at the end, or before a line `started` or `lost`."""
         if self.odd or not is_torn(text):
             return "it is no line of a journal"

@@ -5,7 +5,7 @@ broker_side and platform_side have the tables: which line is which event. This m
 from __future__ import annotations
 
 from collections import Counter
-from typing import Mapping, Optional, Sequence
+from typing import Mapping, Sequence
 
 from osb_audit.events import STEP, Event, Stop, Story
 from osb_audit.lines import Line
@@ -68,7 +68,7 @@ class Known:
 
     # ---- requests
 
-    def request_of(self, visit: Visit) -> Optional[Sent]:
+    def request_of(self, visit: Visit) -> Sent | None:
         """What a platform has sent, or None if no journal of a platform has the request."""
         sent = self.sent.get(visit.request)
         return sent if sent and sent.key == visit.key and sent.kind == visit.kind else None
@@ -103,11 +103,11 @@ class Known:
         """Whether one of the bindings is held."""
         return any(it.held.is_held for it in self.lives.values() if it.is_binding)
 
-    def sold(self, plan: Optional[Plan]) -> Sold:
+    def sold(self, plan: Plan | None) -> Sold:
         """How a plan is sold."""
         return self.settings.sold(plan)
 
-    def mode(self, life: Life, plan: Optional[Plan]) -> str:
+    def mode(self, life: Life, plan: Plan | None) -> str:
         """How the plan creates such a life."""
         sold = self.sold(plan)
         return sold.binding if life.is_binding else sold.mode
@@ -120,7 +120,7 @@ class Known:
         text = f"{verb} {life.name} {rest}" if rest else f"{verb} {life.name}"
         self.events.append(Event(text, line.place, ((STEP, "applied"), *wanted)))
 
-    def order(self, line: Line, life: Life, plan: Optional[Plan]) -> None:
+    def order(self, line: Line, life: Life, plan: Plan | None) -> None:
         """Takes a life in, once."""
         if life.is_ordered:
             return
@@ -148,7 +148,7 @@ class Known:
         """Whether somebody has asked for it whose journal isn't there."""
         return any(it.key == key and it.request not in self.sent for it in self.visits.values())
 
-    def story(self, stop: Optional[Stop]) -> Story:
+    def story(self, stop: Stop | None) -> Story:
         """What the lines have come to."""
         ends = self.disagreements() if stop is None or stop.is_difference else []
         return Story(self.instance, self.events, stop, ends, dict(self.notes))

@@ -4,7 +4,7 @@ from __future__ import annotations
 import os
 from collections import Counter
 from itertools import accumulate
-from typing import Iterator, Mapping, NamedTuple, Optional, Sequence
+from typing import Iterator, Mapping, NamedTuple, Sequence
 
 from osb_audit.judging import LOST, RECENT, Bucket, Difference, Gap, Judged, judge
 from osb_audit.lines import BadLine, Place
@@ -35,7 +35,7 @@ class Work(NamedTuple):
     chunk: int
     """How many bytes of a journal a worker takes at once."""
     progress: Progress
-    until: Optional[int] = None
+    until: int | None = None
     """The time of the last lines that count, if the programs go on while their journals are read."""
 
 
@@ -113,7 +113,7 @@ def audit(work: Work, engine: Engine) -> Audited:
     return Audited(judged, _processes(headings), sum(map(_lost, headings)), torn, places)
 
 
-def _gaps(headings: Sequence[Heading], until: Optional[int]) -> Iterator[Gap]:
+def _gaps(headings: Sequence[Heading], until: int | None) -> Iterator[Gap]:
     for it in headings:
         if it.event == "lost":
             yield Gap(it.before, it.time, LOST)
