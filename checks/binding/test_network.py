@@ -14,6 +14,7 @@ import pytest
 from binding.cases import of_ways, rules_of, written, written_of
 from binding.walks import services
 from crate_programs import Tell, told_by
+from shortest import shortest
 
 pytestmark = pytest.mark.slow
 
@@ -29,13 +30,19 @@ def tell() -> Tell:
 
 
 def compare(tell: Tell, lines: list[str], wanted: list[str]) -> None:
-    """The program writes what is wanted. If not, the lines that lead to the first difference are shown."""
+    """The program writes what is wanted. If not, the fewest lines are shown that lead to the first difference."""
     told = tell(lines).splitlines()
     different = next((at for at, (one, other) in enumerate(zip(told, wanted)) if one != other), None)
     if different is not None:
         start = max(at for at in range(different + 1) if lines[at].startswith(("service ", "run ")))
-        assert told[different] == wanted[different], "\n".join(lines[start : different + 1])
+        begun = lines[start]
+        rest = shortest(lines[start + 1 : different + 1], lambda it: is_different(tell, [begun, *it]))
+        assert told[different] == wanted[different], "\n".join([begun, *rest])
     assert len(told) == len(wanted)
+
+
+def is_different(tell: Tell, lines: list[str]) -> bool:
+    return tell(lines).splitlines() != list(written_of(lines))
 
 
 def test_ways(tell: Tell) -> None:

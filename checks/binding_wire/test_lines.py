@@ -1,9 +1,9 @@
 """Compares what the library reads and writes with Python's json and urllib, for requests and answers of bindings.
 
-Each test takes whole texts that hypothesis makes, and of each some others with an edit or two.
+Each test takes whole texts that hypothesis makes, and of each some others with an edit or two. In ./check it takes a
+hundred times as many: 100,000 requests, and as many bodies.
 
-OSB_EXAMPLES=100 compares a hundred times as many, drawn at random (checks/generated.py): 100,000 requests, and as many
-bodies.
+OSB_EXAMPLES=100 compares a hundred times as many in `make test`, too, drawn at random (checks/generated.py).
 """
 
 from __future__ import annotations
@@ -16,6 +16,10 @@ from binding_wire.library import read
 from binding_wire.lines import LINES
 from generated import examples
 from hypothesis import given
+from whole import WHOLE
+
+TIMES = 100 if WHOLE else 1
+"""How many times as many examples are taken."""
 
 pytestmark = pytest.mark.slow
 
@@ -37,7 +41,7 @@ def test_cases() -> None:
 def test_lines(what: str) -> None:
     lines, count = LINES[what]
 
-    @examples(count)
+    @examples(TIMES * count)
     @given(some=lines)
     def compared(some: list[str]) -> None:
         for line in some:

@@ -32,7 +32,7 @@ def run(line: list[str], folder: Path, **environment: str) -> str:
         stdin=subprocess.DEVNULL,
         capture_output=True,
         text=True,
-        timeout=600,
+        timeout=1800,
     )
     assert (ran.returncode, ran.stderr) == (0, ""), f"status {ran.returncode}: {line}\n{ran.stdout}{ran.stderr}"
     return ran.stdout
@@ -94,13 +94,13 @@ class Packages:
     def test(
         self, *these: str, tags: str = "", options: tuple[str, ...] = (), race: bool = False, **environment: str
     ) -> None:
-        """Compiles the packages, and then links and runs their tests, which must pass in ten minutes. None may be
+        """Compiles the packages, and then links and runs their tests, which must pass in 20 minutes. None may be
         skipped, but those of PostgreSQL if OSB_TEST_POSTGRESQL is empty. Nothing is linked for a debugger. `go vet`
         looks at all tests by itself: test_vet. `race` has them run with the race detector, if WHOLE.
         """
         race = race and WHOLE
         self._compile(*these, flags=_flags(tags, race), race=race)
-        how = ["-v", "-count=1", "-timeout", "10m", "-vet=off", "-ldflags=-w"]
+        how = ["-v", "-count=1", "-timeout", "20m", "-vet=off", "-ldflags=-w"]
         told = self._run("test", *how, *options, *these, GOFLAGS=_flags(tags, race), **environment)
         assert environment.get("OSB_TEST_POSTGRESQL") == "" or SKIPPED.findall(told) == []
 
@@ -116,7 +116,7 @@ class Packages:
             stdout=subprocess.PIPE,
             stderr=subprocess.STDOUT,
             text=True,
-            timeout=900,
+            timeout=1800,
         )
         assert ran.returncode == 0, f"status {ran.returncode}: {line}\n{ran.stdout}"
         return ran.stdout

@@ -14,6 +14,7 @@ from network_replay.language import FIELDS, MOST_LINES, LineFault, read
 from network_replay.reference import HEADER, report, trace
 from network_replay.schedules import FAULTS, filled, guid, schedule
 from replay.running import Ran, run
+from shortest import shortest
 from whole import WHOLE
 
 SCHEDULES = (10_000 if WHOLE else 1000) * max(int(os.environ.get("OSB_EXAMPLES", "0")), 1)
@@ -156,8 +157,34 @@ def test_program_on_faults(replay: Path, is_binding: bool) -> None:
 def test_program_on_random_schedules(replay: Path, first: int) -> None:
     for seed in range(first, first + CHUNK):
         text = schedule(seed)
-        assert run(replay, "network", given=text) == Ran(*report(text)), seed
-        assert run(replay, "network", "--settle", given=text) == Ran(*report(text, settle=True)), seed
         instance = guid(int(text[9:17], 16)) if seed % 3 == 0 and text.startswith(b"instance ") else ""
-        options = ["--instance", instance] if instance else []
-        assert run(replay, "network", "--trace", *options, given=text) == Ran(*trace(text, instance)), seed
+        if differences(replay, text, instance):
+            lines = shortest(text.splitlines(True), lambda it: bool(differences(replay, b"".join(it), instance)))
+            found = differences(replay, b"".join(lines), instance)
+            pytest.fail("\n".join([f"seed {seed}:", *(it.decode().rstrip() for it in lines), *found]))
+
+
+def differences(program: Path, text: bytes, instance: str) -> list[str]:
+    """What the program does otherwise than the reference, with each option."""
+    traced = ["--trace", "--instance", instance] if instance else ["--trace"]
+    wanted = {
+        (): report(text),
+        ("--settle",): report(text, settle=True),
+        tuple(traced): trace(text, instance),
+    }
+    ran = {options: run(program, "network", *options, given=text) for options in wanted}
+    return [f"{options}: {ran[options]}, not {it}" for options, it in wanted.items() if ran[options] != Ran(*it)]
+
+
+class TestDifference:
+    """A program that is wrong about one event is shown by the shortest schedule that has the event."""
+
+    def test_shortest_schedule(self, replay: Path, tmp_path: Path) -> None:
+        program, given = tmp_path / "wrong", tmp_path / "given"
+        wrong = f"cat >{given}; ! grep -q '^send' {given} || exit 9; exec {replay} \"$@\" <{given}"
+        program.write_text(f"#!/bin/sh\n{wrong}\n")
+        program.chmod(0o755)
+        with pytest.raises(pytest.fail.Exception) as failed:
+            test_program_on_random_schedules(program, 0)
+        seed, line, *found = str(failed.value).splitlines()
+        assert seed.startswith("seed ") and line.startswith("send ") and all(it.startswith("(") for it in found)

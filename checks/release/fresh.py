@@ -188,7 +188,7 @@ def fresh(folder: Path, *packages: str) -> Fresh:
     if os.geteuid() != 0:
         pytest.skip("only root may make a Debian in a folder")
     line = ["debootstrap", "--variant=minbase", f"--include={','.join(packages)}", SUITE, str(folder), mirror()]
-    ran = subprocess.run(line, stdout=subprocess.PIPE, stderr=subprocess.STDOUT, text=True, timeout=600)
+    ran = subprocess.run(line, stdout=subprocess.PIPE, stderr=subprocess.STDOUT, text=True, timeout=1800)
     if ran.returncode != 0:
         pytest.skip(f"debootstrap can't make a Debian here: {ran.stdout.strip().splitlines()[-1]}")
     return Fresh(folder)
