@@ -100,7 +100,7 @@ def test_platform_abandons_nothing(storm: Path, platform: Path, replay: Path, tm
         with it.running():
             for plan in ("at-once", "by-worker", "bindings-by-worker") * 5:
                 assert it.run("create", "--service", "osb-storm", "--plan", plan).returncode == 0
-            until(lambda: len(it.ids("--state", "ready")) >= 3, 20)
+            until(lambda: len(it.ids("--state", "ready")) >= 3, 60)
             for id in it.ids("--state", "ready")[:3]:
                 it.run("bind", id)
             for id in it.ids()[::2]:
