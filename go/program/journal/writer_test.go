@@ -4,6 +4,7 @@ import (
 	"encoding/json"
 	"errors"
 	"fmt"
+	"io"
 	"os"
 	"os/signal"
 	"path/filepath"
@@ -406,5 +407,88 @@ func TestDigest(t *testing.T) {
 	}
 	if got := Digest(nil); got != "" {
 		t.Errorf("of nothing: %q", got)
+	}
+}
+
+// A disk that hangs holds nobody up: the lines that aren't written in time are lost, and the others after it.
+func TestDiskHangs(t *testing.T) {
+	var failures []string
+	path := filepath.Join(t.TempDir(), "journal")
+	w, err := Open(Options{Path: path, Side: "broker", Most: 1 << 30, Failed: func(err error) {
+		failures = append(failures, err.Error())
+	}})
+	if err != nil {
+		t.Fatal(err)
+	}
+	disk, read := full(t)
+	w.patience, w.file = 50*time.Millisecond, disk
+	begun := time.Now()
+	for n := 1; n <= 100; n++ {
+		w.Write("made", member{n, ""})
+	}
+	if took := time.Since(begun); took < w.patience || took > 20*w.patience {
+		t.Errorf("100 lines took %v", took)
+	}
+	if w.Lost() != 100 || len(failures) != 1 || !strings.Contains(failures[0], "the disk doesn't answer") {
+		t.Errorf("%d lines are lost: %q", w.Lost(), failures)
+	}
+	w.patience = 10 * time.Second
+	rest := make(chan string, 1)
+	go func() { rest <- read() }()
+	for end := time.Now().Add(10 * time.Second); ; time.Sleep(time.Millisecond) { // until a line isn't lost
+		lost := w.Lost()
+		if w.Write("made", member{101, ""}); w.Lost() == lost || time.Now().After(end) {
+			break
+		}
+	}
+	w.Close()
+	_ = disk.Close()
+	text := <-rest
+	events := strings.Split(strings.TrimLeft(text, "x"), "\n")
+	if !strings.Contains(events[0], `"number":1}`) || !strings.Contains(text, `"event":"lost"`) ||
+		!strings.Contains(text, `"number":101}`) || !strings.Contains(text, `"event":"stopped"`) {
+		t.Errorf("%q", events)
+	}
+}
+
+// A journal is closed although its disk hangs.
+func TestCloseAtADiskThatHangs(t *testing.T) {
+	w, err := Open(Options{Path: filepath.Join(t.TempDir(), "journal"), Side: "broker", Most: 1 << 30, Failed: func(error) {}})
+	if err != nil {
+		t.Fatal(err)
+	}
+	disk, read := full(t)
+	w.patience, w.file = 50*time.Millisecond, disk
+	begun := time.Now()
+	w.Close()
+	if took := time.Since(begun); took > 20*w.patience {
+		t.Errorf("it took %v", took)
+	}
+	go read()
+	<-w.ended
+}
+
+// full returns a file that takes nothing until somebody reads it, which read does until the file is closed.
+func full(t *testing.T) (file *os.File, read func() string) {
+	t.Helper()
+	reader, writer, err := os.Pipe()
+	if err != nil {
+		t.Fatal(err)
+	}
+	if err := writer.SetWriteDeadline(time.Now().Add(100 * time.Millisecond)); err != nil {
+		t.Fatal(err)
+	}
+	for block := []byte(strings.Repeat("x", 4096)); ; {
+		if _, err := writer.Write(block); errors.Is(err, os.ErrDeadlineExceeded) {
+			break
+		}
+	}
+	if err := writer.SetWriteDeadline(time.Time{}); err != nil {
+		t.Fatal(err)
+	}
+	return writer, func() string {
+		text, _ := io.ReadAll(reader)
+		_ = reader.Close()
+		return string(text)
 	}
 }
