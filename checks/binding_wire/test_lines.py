@@ -37,6 +37,7 @@ def test_cases() -> None:
         assert read(line) == wanted(line), line
 
 
+@pytest.mark.long(100)
 @pytest.mark.parametrize("what", LINES)
 def test_lines(what: str) -> None:
     lines, count = LINES[what]
