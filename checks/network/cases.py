@@ -27,6 +27,17 @@ def many(line: str) -> str:
     return "\n".join(f"  {at}: {instance.told(0)}" for at, instance in instances.items()).removeprefix("  ")
 
 
+def run_alone(rest: str) -> Alone:
+    """A broker alone after a list of events. Its last step is the line itself."""
+    begun, _, events = rest.partition(": ")
+    one, other, first = begun.split(" ")
+    walk = Alone(alone.Seen(), (one, other), first == "first-poll")
+    for event in events.split(", "):
+        walk.happen(event)
+    walk.steps.append(Step(f"run-alone {rest}", f"new: {walk.told()}"))
+    return walk
+
+
 def of_network(lines: Iterable[str]) -> Iterator[Step]:
     """Each line, with what stands behind it. Those of `instances` are left out."""
     walk: Walk | Alone | None = None
@@ -42,6 +53,8 @@ def of_network(lines: Iterable[str]) -> Iterator[Step]:
             poll = first == "first-poll"
             walk = Walk(Seen(), one, other == "accepts", poll) if word == "order" else None
             walk = walk or Alone(alone.Seen(), (one, other), poll)
+        elif word == "run-alone":
+            walk = run_alone(rest)
         else:
             assert walk is not None
             walk.happen(line)

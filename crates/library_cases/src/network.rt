@@ -3,7 +3,8 @@
 //! line is an event that happens to it, or `settle`. A line `many MODE accepts|refuses first-poll|-: ID EVENT, ..` has
 //! three instances, with the ids 1 to 3, and lets a list of events happen to them. A line `instances COUNT` has as
 //! many, and asks how many exist. A line `alone MODE MODE first-poll|-` begins an instance at a broker alone
-//! (`network/alone.rt`). Behind each line stands what has become of the event, and all that exists then.
+//! (`network/alone.rt`). A line `run-alone MODE MODE first-poll|-: EVENT, ..` lets a list of events happen to one.
+//! Behind each line stands what has become of the event, and all that exists then.
 //!
 //! What exists: the platform's record, as its state, the kind of the request that is out, and the number of the latest
 //! request; the broker's holding, as its row's phase, the kind of the pending work, and its tombstone; the resource;
@@ -54,8 +55,7 @@ fn order(rt: &impl Print, alloc: Global, words: &str) -> Result<Begun> {
     Ok(Begun::Ordered(instance))
 }
 
-fn begin_alone(rt: &impl Print, alloc: Global, words: &str) -> Result<Begun> {
-    let any = alone::begin(alloc, words)?;
+fn begin_alone(rt: &impl Print, any: AnyPlatform) -> Result<Begun> {
     print!(rt; "  new: ")?;
     alone::tell(rt, &any)?;
     Ok(Begun::Alone(any))
@@ -95,7 +95,10 @@ pub(crate) fn tell(rt: &impl Print, alloc: Global, begun: Begun, line: &str) -> 
         return order(rt, alloc, words);
     }
     if let Some(words) = line.strip_prefix("alone ") {
-        return begin_alone(rt, alloc, words);
+        return begin_alone(rt, alone::begin(alloc, words)?);
+    }
+    if let Some(words) = line.strip_prefix("run-alone ") {
+        return begin_alone(rt, alone::run_through(alloc, words)?);
     }
     step(rt, alloc, begun, line)
 }

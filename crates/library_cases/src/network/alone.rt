@@ -12,7 +12,7 @@ use crate::words::{accepts, first, kind, mode, work_outcome};
 use anyhow::{Context, Result};
 use osb_instance::{Digest, Holding};
 use osb_message::{Catalogue, InstanceId, PlanId, Request, ServiceId};
-use osb_network::{AnyPlatform, BrokerEvent, Told};
+use osb_network::{AnyPlatform, BrokerEvent, Told, run_any};
 use std::alloc::Global;
 
 // Adds a plan, unless it isn't on sale.
@@ -23,14 +23,31 @@ fn add(catalogue: &mut Catalogue, plan: u128, word: &str) -> Result<()> {
     Ok(())
 }
 
-// The instance of a line `MODE MODE first-poll|-`.
-pub(crate) fn begin(alloc: Global, words: &str) -> Result<AnyPlatform> {
+// The catalogue of `MODE MODE first-poll|-`, and whether the broker has the rule of the first Poll.
+fn sold(alloc: Global, words: &str) -> Result<(Catalogue, bool)> {
     let (third, rest) = first(words);
     let (fourth, first_poll) = first(rest);
     let mut catalogue = Catalogue::new(alloc);
     add(&mut catalogue, 3, third)?;
     add(&mut catalogue, 4, fourth)?;
-    Ok(AnyPlatform::new(catalogue, has_first_poll(first_poll)?))
+    Ok((catalogue, has_first_poll(first_poll)?))
+}
+
+// The instance of a line `MODE MODE first-poll|-`.
+pub(crate) fn begin(alloc: Global, words: &str) -> Result<AnyPlatform> {
+    let (catalogue, first_poll) = sold(alloc, words)?;
+    Ok(AnyPlatform::new(catalogue, first_poll))
+}
+
+// What a list of events makes of the instance of a line `MODE MODE first-poll|-: EVENT, ..`.
+pub(crate) fn run_through(alloc: Global, words: &str) -> Result<AnyPlatform> {
+    let (begun, events) = words.split_once(": ").context("no events")?;
+    let (catalogue, first_poll) = sold(alloc, begun)?;
+    let mut happening = Vec::new(alloc);
+    for line in events.split(", ") {
+        happening.push(event(line)?)?;
+    }
+    Ok(run_any(alloc, catalogue, first_poll, happening.as_slice())?)
 }
 
 // The event of `KIND accepts|refuses PLAN ATTRIBUTES`.
