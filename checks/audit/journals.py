@@ -268,6 +268,11 @@ B arrive 2 b1 provision of binding; B change 2 pending-provision of binding; B l
 B create @c1 of binding; B look whole of binding; B change 2 ready @c1 of binding; B answer 2 201 of binding
 P hear b1 201 @c1 of binding; P take 1 ready/1 @c1 of binding
 """
+BOUND_BY_OTHERS = f"""{CREATED}
+B arrive 5 x1 provision of binding; B change 5 pending-provision of binding; B look absent of binding
+B create @c1 of binding; B look whole of binding; B change 5 ready @c1 of binding; B answer 5 201 of binding
+"""
+"""Another client creates the binding."""
 REMOVED = f"""{CREATED}
 P claim cleaning/2/deprovision; P send r2 deprovision 2
 B arrive 2 r2 deprovision; B change 2 ready+deprovision; B look whole; B delete; B look absent; B change 2 tombstone

@@ -9,7 +9,7 @@ import json
 from typing import NamedTuple
 
 import pytest
-from audit.journals import BINDING, BOUND, CREATED, INSTANCE, PLANS, REMOVED, SERVICE, Journal, started
+from audit.journals import BINDING, BOUND, BOUND_BY_OTHERS, CREATED, INSTANCE, PLANS, REMOVED, SERVICE, Journal, started
 from osb_audit.broker_side import ALTERED, FOREIGN, UNCOMPARED, UNRECORDED
 from osb_audit.events import Story
 from osb_audit.lines import Place, read
@@ -287,6 +287,15 @@ RULES = {
     "another client's creation with other parameters": Rule(
         CREATED + "B arrive 2 x provision attributes=5; B answer 2 409 other-error", MADE
     ),
+    "another client's binding": Rule(
+        BOUND_BY_OTHERS
+        + """B arrive 6 x2 deprovision of binding; B change 6 ready+deprovision @c1 of binding; B look whole of binding
+             B delete of binding; B look absent of binding; B change 6 tombstone of binding; B answer 6 200 of binding
+             P claim cleaning/2/deprovision; P send r2 deprovision 2; B arrive 2 r2 deprovision
+             B change 2 ready+deprovision; B look whole; B delete; B look absent; B change 2 tombstone; B answer 2 200
+             P hear r2 200; P take 2 gone/2""",
+        f"{MADE}; remove I; send I; arrive I 2; work I part; work I absent; end I done; take I 1",
+    ),
     "a Bind with other parameters": Rule(
         BOUND + "B arrive 3 x provision attributes=5 of binding; B answer 3 409 other-error of binding", BINDING_MADE
     ),
@@ -386,6 +395,23 @@ UNJUDGED = {
         CREATED + "B arrive 2 x deprovision; B change 2 ready+deprovision",
         "no journal of a platform",
         7,
+    ),
+    "of an instance that has a binding of another client": (
+        BOUND_BY_OTHERS
+        + "P claim cleaning/2/deprovision; P send r2 deprovision 2; B arrive 2 r2 deprovision; "
+        + "B answer 2 422 concurrency-error",
+        "another client has a binding of it",
+        9,
+    ),
+    "of a binding that another client had created": (
+        BOUND_BY_OTHERS + "P claim wanted/1/provision of binding",
+        "a platform has ordered what another client had created",
+        7,
+    ),
+    "of a binding of the platform, changed by another client": (
+        BOUND + "B arrive 6 x2 deprovision of binding; B change 6 ready+deprovision @c1 of binding",
+        "no journal of a platform",
+        14,
     ),
     "of a last deletion": (
         CREATED + "P send r3 deprovision 0; B arrive 3 r3 deprovision; B change 3 ready+deprovision",

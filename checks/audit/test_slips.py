@@ -7,7 +7,19 @@ from typing import Any, NamedTuple
 
 import pytest
 from audit.conftest import audited
-from audit.journals import BINDING, BOUND, CREATED, INSTANCE, OTHER, PLANS, REMOVED, SERVICE, Journal, held_text
+from audit.journals import (
+    BINDING,
+    BOUND,
+    BOUND_BY_OTHERS,
+    CREATED,
+    INSTANCE,
+    OTHER,
+    PLANS,
+    REMOVED,
+    SERVICE,
+    Journal,
+    held_text,
+)
 
 pytestmark = pytest.mark.slow
 
@@ -26,6 +38,7 @@ class Slip(NamedTuple):
 
 ASKED = "P claim wanted/1/provision; P send r1 provision 1; B arrive 1 r1 provision; "
 SKIPPED = "the event can't happen here"
+OF_THE_TABLES = "a request changes the row otherwise than the tables"
 ELSE = "after the event, the model has something else"
 SLIPS = {
     "an answer before the commit": Slip(
@@ -60,6 +73,35 @@ SLIPS = {
         SKIPPED,
         "step skipped",
         "step applied",
+    ),
+    "a binding of another client whose instance is being created": Slip(
+        ASKED
+        + "B change 1 pending-provision; B arrive 2 x1 provision of binding; B change 2 pending-provision of binding",
+        ("broker", 5),
+        "",
+        OF_THE_TABLES,
+        "none, -, -",
+        "",
+    ),
+    "a deletion beside a binding of another client": Slip(
+        BOUND_BY_OTHERS
+        + "P claim cleaning/2/deprovision; P send r2 deprovision 2; B arrive 2 r2 deprovision; "
+        + "B change 2 ready+deprovision",
+        ("broker", 23),
+        "",
+        OF_THE_TABLES,
+        "ready, -, -",
+        "",
+    ),
+    "a tombstone that is lost, of another client's binding": Slip(
+        BOUND_BY_OTHERS
+        + """B arrive 6 x2 deprovision of binding; B change 6 ready+deprovision @c1 of binding; B look whole of binding
+             B delete of binding; B look absent of binding; B change 6 - of binding""",
+        ("broker", 30),
+        "",
+        "no end of the pending work leaves this",
+        "another row",
+        "",
     ),
     "end twice": Slip(
         ASKED

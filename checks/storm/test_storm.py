@@ -34,9 +34,10 @@ def run(line: list[str], **variables: str) -> subprocess.CompletedProcess[str]:
     )
 
 
-def storming(storm: Path, replay: Path, programs: list[str], folder: Path, *arguments: str) -> str:
-    """Run a storm, which succeeds, and return what osb-audit prints about its journals: it judges each instance to its
-    end. pytest shows the storm's seed and counts if it fails; `osb-storm both --seed` repeats the faults.
+def storming(storm: Path, replay: Path, programs: list[str], folder: Path, *arguments: str, unjudged: str = "0") -> str:
+    """Run a storm, which succeeds, and return what osb-audit prints about its journals. It judges each instance to its
+    end, except for so many percent. pytest shows the storm's seed and counts if it fails; `osb-storm both --seed`
+    repeats the faults.
     """
     line = [str(storm), "both", *programs, *arguments, "--journal", str(folder)]
     print(" ".join(line))
@@ -44,7 +45,7 @@ def storming(storm: Path, replay: Path, programs: list[str], folder: Path, *argu
     print(ran.stdout[-20_000:], ran.stderr)
     assert ran.returncode == 0
     journals = str(folder / "broker"), str(folder / "platform")
-    audited = run([str(TOP / "osb-audit"), "--unjudged", "0", *journals], OSB_REPLAY=str(replay))
+    audited = run([str(TOP / "osb-audit"), "--unjudged", unjudged, *journals], OSB_REPLAY=str(replay))
     assert audited.returncode in (0, 1), audited.stdout + audited.stderr
     return audited.stdout
 
@@ -86,6 +87,17 @@ def test_without_pending_work(storm: Path, replay: Path, programs: list[str], tm
     """
     counts = "--seconds", "30", "--instances", "150", "--settle-seconds", "20", "--crash-points=some"
     told = storming(storm, replay, programs, tmp_path, *counts, "--without", "work")
+    assert _DIFFERS.search(told), told
+
+
+@pytest.mark.whole
+@pytest.mark.long(40)
+@pytest.mark.xdist_group("storm that is shrunk")
+@pytest.mark.parametrize("part", ["available", "held", "busy"])
+def test_without_a_rule(storm: Path, replay: Path, programs: list[str], tmp_path: Path, part: str) -> None:
+    """A storm finds what a broker leaves behind without a rule, and the journals differ from the model."""
+    counts = "--seconds", "15", "--instances", "100", "--settle-seconds", "20", "--crash-points=some", "--without", part
+    told = storming(storm, replay, programs, tmp_path, *counts, unjudged="100")
     assert _DIFFERS.search(told), told
 
 

@@ -12,6 +12,7 @@ FAILED = "requests that a broker answered 5xx and didn't carry out: judged as lo
 FOREIGN = "requests that no journal of a platform has: judged by the tables alone"
 ALTERED = "requests that have the id of a platform's request, and aren't that one: judged by the tables alone"
 UNCOMPARED = "answers 409 to creations: not judged, because the journal is of a version that doesn't write attributes"
+BOUND_BY_OTHERS = "another client has a binding of it, which keeps it from being deleted"
 UNRECORDED = "requests that no record has, such as last deletions and osb-storm's own: judged by the tables alone"
 
 
@@ -72,6 +73,8 @@ class BrokerSide:
             return self._resolve_fetch(visit, life, line)
         after, said = self._begun(visit, life)
         if after == life.held and said == visit.said:
+            if self.known.attempt(visit) and self._meets_others(visit, life):
+                raise unjudged(line, BOUND_BY_OTHERS)
             self._close(visit)
             self._arrive(visit, life, line, said)
         elif self._may_conflict(visit, life):
@@ -222,24 +225,49 @@ class BrokerSide:
     def _after(after: Held) -> Wanted:
         return (PHASE, after.phase), (WORK, after.work), (TOMBSTONE, "tombstone" if after.tombstone else "-")
 
-    def _number(self, line: Line, visit: Visit | None) -> int:
+    def _number(self, line: Line, life: Life, visit: Visit | None, after: Held) -> int:
         """The number of the request that makes a change."""
         if visit is None:
             raise differs(line, "no request and no end of work makes this change", "no change", self._words(line))
         naming.check_request(line, self.known, visit)
         attempt = self.known.attempt(visit)
         if not attempt:
+            self._check_by_tables(line, life, visit, after)
+            self._leave_to_others(line, life, visit)
+        elif self._meets_others(visit, life):
+            self._check_by_tables(line, life, visit, after)
+            raise unjudged(line, BOUND_BY_OTHERS)
+        return attempt
+
+    def _leave_to_others(self, line: Line, life: Life, visit: Visit) -> None:
+        """The model doesn't have the request. It can do without a binding that no platform has ordered."""
+        if not life.is_binding or life.is_ordered:
             whose = "record" if visit.request in self.known.sent else "journal of a platform"
             raise unjudged(line, f"a request has changed it that no {whose} has")
-        return attempt
+        life.is_others = True
+
+    def _meets_others(self, visit: Visit, life: Life) -> bool:
+        """Whether a request of an instance is put off because of a binding that the model doesn't have."""
+        if life.is_binding or not self.known.is_bound_by_others:
+            return False
+        asked = self._asked(visit, life)
+        return rules.begun(life.held, asked, False, None) != rules.begun(life.held, asked, True, None)
+
+    def _check_by_tables(self, line: Line, life: Life, visit: Visit, after: Held) -> None:
+        """What a request changes is compared with the tables alone."""
+        wanted, _ = self._begun(visit, life)
+        if wanted != after:
+            expected = f"{wanted.phase}, {wanted.work}, {'tombstone' if wanted.tombstone else '-'}"
+            raise differs(line, "a request changes the row otherwise than the tables", expected, self._words(line))
 
     @staticmethod
     def _words(line: Line) -> str:
         return f"{line.of['before'] or '-'} -> {line.of['after'] or '-'}"
 
     def _begin(self, line: Line, life: Life, visit: Visit | None, after: Held, plan: rules.Plan | None) -> None:
-        attempt = self._number(line, visit)
-        self.known.order(line, life, plan)
+        attempt = self._number(line, life, visit, after)
+        if attempt:
+            self.known.order(line, life, plan)
         self.known.emit(line, life, f"arrive {attempt}", *self._after(after), (ANSWER, "-"))
         life.worker = line.visit
 
@@ -252,7 +280,7 @@ class BrokerSide:
         if how is not None and visit is None:
             self.known.emit(line, life, f"finish {how}", *self._after(after), *self._credentials(line, life, after))
             return
-        self._number(line, visit)
+        self._number(line, life, visit, after)
         assert visit is not None
         _, said = self._begun(visit, life)
         self._close(visit)

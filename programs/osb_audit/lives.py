@@ -108,6 +108,8 @@ class Life:
     record_text: str = ""
     record_line: Line | None = None
     is_abandoned: bool = False
+    is_others: bool = False
+    """Whether another client has created it. The model doesn't have it: it is judged by the tables alone."""
     held: Held = NOTHING
     held_text: str = ""
     held_line: Line | None = None

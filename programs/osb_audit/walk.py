@@ -103,6 +103,11 @@ class Known:
         """Whether one of the bindings is held."""
         return any(it.held.is_held for it in self.lives.values() if it.is_binding)
 
+    @property
+    def is_bound_by_others(self) -> bool:
+        """Whether a binding of another client is held, which the model doesn't have."""
+        return any(it.held.is_held for it in self.lives.values() if it.is_others)
+
     def sold(self, plan: Plan | None) -> Sold:
         """How a plan is sold."""
         return self.settings.sold(plan)
@@ -115,7 +120,9 @@ class Known:
     # ---- events
 
     def emit(self, line: Line, life: Life, words: str, *wanted: tuple[int, str]) -> None:
-        """Has an event of a life happen. Its id comes behind the first word."""
+        """Has an event of a life happen, if the model has it. Its id comes behind the first word."""
+        if life.is_others:
+            return
         verb, _, rest = words.partition(" ")
         text = f"{verb} {life.name} {rest}" if rest else f"{verb} {life.name}"
         self.events.append(Event(text, line.place, ((STEP, "applied"), *wanted)))
@@ -124,6 +131,8 @@ class Known:
         """Takes a life in, once."""
         if life.is_ordered:
             return
+        if life.is_others:
+            raise unjudged(line, "a platform has ordered what another client had created")
         life.is_ordered, life.ordered = True, life.ordered or plan
         sold, accepts = self.sold(plan), "yes" if self.accepts.get(life.key, True) else "no"
         rule = "first-poll" if self.settings.first_poll else "at-once"
