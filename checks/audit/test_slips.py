@@ -290,6 +290,7 @@ SLIPS = {
 
 # ---- a platform that sends before it writes, or takes what hasn't come
 
+STATES = "the state of the change isn't that of its record"
 NOT_OUT, NOT_COME = "a request is sent that the record doesn't have in flight", "takes an answer that has not come"
 SLIPS |= {
     "a creation that is sent before its claim": Slip(
@@ -384,6 +385,31 @@ SLIPS |= {
     ),
     "an answer that is taken though it was lost": Slip(
         CREATED.replace("P hear r1 201", "P lose r1"), ("platform", 5), "", NOT_COME, "-", "201"
+    ),
+    "a state that isn't the record's": Slip(
+        CREATED.replace("P take 1 ready/1", "P take 1 ready/1 state=gone"),
+        ("platform", 5),
+        "",
+        STATES,
+        "state ready or abandoned",
+        "state gone",
+    ),
+    "a state of a claim that isn't the record's": Slip(
+        CREATED + "P claim cleaning/2/deprovision state=ready", ("platform", 6), "", STATES, "", "state ready"
+    ),
+    "an order that is ready": Slip(
+        "P command - state=ready; B arrive 9 x poll",
+        ("platform", 2),
+        "",
+        STATES,
+        "state ordered or withdrawn",
+        "state ready",
+    ),
+    "an order that was never sent and is abandoned": Slip(
+        "P command - state=abandoned; B arrive 9 x poll", ("platform", 2), "", STATES, "", "state abandoned"
+    ),
+    "an order that is withdrawn after it was sent": Slip(
+        CREATED + "P command ready/1 state=withdrawn", ("platform", 6), "", STATES, "", "state withdrawn"
     ),
     "an answer that comes before its request": Slip(
         "P claim wanted/1/provision; P hear r1 502 malformed; P send r1 provision 1; P take 1 cleaning/1; "

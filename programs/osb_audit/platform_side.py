@@ -14,6 +14,7 @@ DROPPED = "answers that came and that the platform took for none"
 BRIDGED = "changes of a record that no journal has, and that a platform may have made"
 NOT_GIVEN = "answers below 500 that no broker gave: judged as those of a gateway, by which nothing is known"
 LATE = "requests that were sent after another claim had given them up: judged as delayed"
+STATES = "the state of the change isn't that of its record"
 NOT_COME = "the platform takes an answer that has not come"
 BEGUN = "the journal of the platform begins in the middle of its life"
 
@@ -78,6 +79,7 @@ class PlatformSide:
     def _changed(self, line: Line) -> None:
         life = self.known.life(line.key)
         life.is_abandoned = life.is_abandoned or line.of.get("state") == "abandoned"
+        _check_state(line)
         if line.of["before"] != life.record_text:
             self._bridge(line, life, line.of["before"])
         if line.of["before"] != line.of["after"]:
@@ -225,6 +227,16 @@ class PlatformSide:
             raise unjudged(line, "the platform took a 409 that isn't judged: the broker's journal has no attributes")
         answers = ", ".join(shown(it.said) for it in visits if it.said and not self.known.is_altered(it)) or "-"
         raise differs(line, "the platform took an answer that no broker has given", answers, shown(said))
+
+
+def _check_state(line: Line) -> None:
+    """The state is that of the record. Without a record, an order is new or withdrawn. An operator can abandon what is
+    recorded, and the record stays.
+    """
+    state, (record, _) = line.of.get("state"), rules.recorded_in(line.of["after"])
+    states = ("ordered", "withdrawn") if record == rules.UNKNOWN else (record.state, "abandoned")
+    if state is not None and state not in states:
+        raise differs(line, STATES, f"state {' or '.join(states)}", f"state {state}")
 
 
 def _words(line: Line) -> str:
