@@ -229,10 +229,55 @@ BAD = {
     "no instance": (f'{HEAD}"arrived","visit":1}}', "arrived names no instance"),
     "no JSON": (f'{HEAD}"answered",{KEY},"status":}}', "it is no object of JSON with the members of a line: "),
     "a missing member": (f'{HEAD}"answered",{KEY},"visit":1,"status":200}}', "answered of a broker has no body"),
-    "no plans": (f'{HEAD}"started","plans":[{{"mode":"sync"}}]}}', "it is no line `started` of a broker: "),
+    "no plans": (
+        f'{HEAD}"started","plans":[{{"mode":"sync"}}]}}',
+        "a plan in started of a broker has no service_number or no plan_number",
+    ),
     "no mode": (
-        f'{HEAD}"started","plans":[{{"service_number":"a","plan_number":"b","mode":"slow"}}]}}',
-        "'slow' is no mode of a plan",
+        f'{HEAD}"started","plans":[{{"service_number":"{INSTANCE}","plan_number":"{INSTANCE}","mode":"slow"}}]}}',
+        'mode of a plan in started of a broker has to be one of sync, async, none, and is "slow"',
+    ),
+    "plans that are none": (f'{HEAD}"started","plans":7}}', "plans of started of a broker has to be a list, and is 7"),
+    "a rule that is a text": (
+        f'{HEAD}"started","first_poll":"no"}}',
+        'first_poll of started of a broker has to be true or false, and is "no"',
+    ),
+    "a number of lost lines that is a list": (
+        f'{HEAD}"lost","count":[]}}',
+        "count of lost of a broker has to be a number from 0 to 2^64 - 1, and is []",
+    ),
+    "a request that is a list": (
+        f'{HEAD}"arrived",{KEY},"visit":1,"request":[],"kind":"poll"}}',
+        "request of arrived of a broker has to be a text, and is []",
+    ),
+    "a binding that is an object": (
+        f'{HEAD}"arrived",{KEY},"binding":{{}},"visit":1,"request":"r","kind":"poll"}}',
+        "binding of arrived of a broker has to be a GUID in lower case, and is {}",
+    ),
+    "a status that is a text": (
+        f'{HEAD}"answered",{KEY},"visit":1,"status":"","body":"empty"}}',
+        'status of answered of a broker has to be a number from 100 to 999, and is ""',
+    ),
+    "a kind that is an object": (
+        f'{HEAD}"arrived",{KEY},"visit":1,"request":"r","kind":{{}}}}',
+        "kind of arrived of a broker has to be one of provision, poll, deprovision, fetch, and is {}",
+    ),
+    "a state that is a number": (
+        f'{HEAD.replace("broker", "platform")}"changed",{KEY},"change":1,"before":"","after":"","cause":"claim",'
+        f'"state":{10**30}}}',
+        f"state of changed of a platform has to be a text, and is {10**30}",
+    ),
+    "too large a number": (
+        f'{HEAD}"arrived",{KEY},"visit":{1 << 64},"request":"r","kind":"poll"}}',
+        f"visit of arrived of a broker has to be a number from 0 to 2^64 - 1, and is {1 << 64}",
+    ),
+    "a member twice": (
+        f'{HEAD}"arrived",{KEY},"visit":1,"request":"r","kind":"poll","side":7}}',
+        "it has a member twice",
+    ),
+    "a member that is too deep": (
+        f'{HEAD}"arrived",{KEY},"visit":1,"request":"r","kind":"poll","more":{"[" * 50_000}{"]" * 50_000}}}',
+        "it is no object of JSON with the members of a line: ",
     ),
 }
 

@@ -249,4 +249,4 @@ def _said(line: Line) -> Said | None:
     """What came back, or None if nothing that counts did."""
     if "lost" in line.of:
         return None
-    return line.of["status"], line.of["body"]
+    return line.of["status"], line.of.get("body", "malformed")  # only the answer to what has no attempt has none

@@ -110,7 +110,7 @@ def audit(work: Work, engine: Engine) -> Audited:
     buckets = (Bucket(work.room, number, counts, work.program, settings, gaps) for number in range(many))
     judged = _judge(work, engine, buckets, sum(it.events for it in splits), places)
     torn = ["{}:{}".format(*places.told(Place(it.number, line))) for it in splits for line in it.torn]
-    return Audited(judged, _processes(headings), sum(map(_lost, headings)), torn, places)
+    return Audited(judged, _processes(headings), sum(it.missing for it in headings), torn, places)
 
 
 def _gaps(headings: Sequence[Heading], until: int | None) -> Iterator[Gap]:
@@ -166,10 +166,6 @@ def _settings(splits: Sequence[Split], places: Places) -> dict[str, Settings]:
 
 def _processes(headings: Sequence[Heading]) -> Counter[str]:
     return Counter(side for side, _ in {(it.side, it.process) for it in headings})
-
-
-def _lost(heading: Heading) -> int:
-    return heading.missing if heading.event == "lost" else 0
 
 
 def _judge(work: Work, engine: Engine, buckets: Iterator[Bucket], lines: int, places: Places) -> list[Judged]:
