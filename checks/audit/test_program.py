@@ -125,6 +125,44 @@ def test_a_line_that_was_cut_off(audit: Audit, tmp_path: Path) -> None:
     assert ran == Ran(2, "", f"osb-audit: {broker}: line 13: the line before it is no line of a journal\n")
 
 
+ZEROS = b"\0" * 4096
+
+
+@pytest.mark.parametrize(
+    "tail",
+    [
+        ZEROS,
+        b'{"time":1800000000000000,"process":"00000000' + ZEROS,
+        b"{" + ZEROS,
+        b'{"time":1700000000001000,"process":"0000000000004201","side":"broker","event":"stopped"}' + ZEROS,
+        ZEROS * 512,
+    ],
+    ids=["alone", "after a part of a line", "after a byte", "in place of a line feed", "more than a line may have"],
+)
+def test_zeros_after_a_power_cut(audit: Audit, tmp_path: Path, tail: bytes) -> None:
+    """A file system may have written the length of a file, and not what stands there. The process that goes on with the
+    file ends that line first.
+    """
+    broker, platform = sorted(journals_in(tmp_path, CREATED))
+    whole = broker.read_bytes()
+    told = f"{broker}:12: the line was cut off\n1 instance, 7 events, 0 differences\n"
+    for following in (b"", b"\n" + whole.split(b"\n")[0] + b"\n"):
+        broker.write_bytes(whole + tail + following)
+        assert audit(broker, platform, options=TEXT) == Ran(0, told, "")
+    broker.write_bytes(whole + tail + b"\n" + whole.split(b"\n")[1] + b"\n")
+    ran = audit(broker, platform, options=TEXT)
+    assert (ran.status, ran.out) == (2, "") and ran.err.endswith("it is no line of a journal\n"), ran
+
+
+def test_zeros_before_a_line(audit: Audit, tmp_path: Path) -> None:
+    """Zeros at another place are none that a power cut leaves."""
+    broker, platform = sorted(journals_in(tmp_path, CREATED))
+    lines = broker.read_bytes().splitlines(keepends=True)
+    broker.write_bytes(b"".join([*lines[:5], ZEROS, *lines[5:]]))
+    ran = audit(broker, platform, options=TEXT)
+    assert ran == Ran(2, "", f"osb-audit: {broker}: line 6: it is no line of a journal\n")
+
+
 @pytest.mark.parametrize(("event", "status"), [("started", 0), ("lost", 0), ("stopped", 2)])
 def test_a_line_that_was_cut_off_between_stretches(audit: Audit, tmp_path: Path, event: str, status: int) -> None:
     """Each stretch of a file is read by itself: one ends with half a line, and the next begins with this event."""

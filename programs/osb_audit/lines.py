@@ -240,7 +240,11 @@ def plain(text: bytes) -> bytes | None:
 
 
 def is_torn(text: bytes) -> bool:
-    """Whether it may be the beginning of a line that was cut off, and is no whole object of JSON."""
+    """Whether it may be the beginning of a line that was cut off, and is no whole object of JSON. A power cut can leave
+    zeros behind that beginning, or alone.
+    """
+    if not text.strip(b"\0"):
+        return True
     if not b"{".startswith(text.lstrip()[:1]):
         return False
     try:
