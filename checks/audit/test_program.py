@@ -25,9 +25,18 @@ STRETCH = 1 << 16
 """The least that a worker reads at once."""
 
 
-def journals_in(folder: Path, story: str, instance: str = INSTANCE) -> list[Path]:
+BEGIN = 1_700_000_000_000_000
+"""The time before the first line of a story."""
+
+
+def journals_in(folder: Path, story: str, instance: str = INSTANCE, time: int = BEGIN) -> list[Path]:
     folder.mkdir(exist_ok=True)
-    return Journal(instance=instance).tell(story).files(folder)
+    return Journal(instance=instance, time=time).tell(story).files(folder)
+
+
+def at(line: bytes, time: int) -> bytes:
+    """A line as it would have been written at another time."""
+    return re.sub(rb'"time":\d+', b'"time":%d' % time, line)
 
 
 # ---- reports
@@ -85,7 +94,8 @@ def test_folders_and_rotated_and_compressed_files(audit: Audit, tmp_path: Path) 
     broker, platform = sorted(journals_in(tmp_path / "journals", REMOVED))
     lines = broker.read_text().splitlines(keepends=True)
     broker.write_text("".join(lines[:9]))
-    Path(f"{broker}.1").write_text("".join([lines[0], *lines[9:]]))
+    again = at(lines[0].encode(), json.loads(lines[9])["time"] - 1).decode()
+    Path(f"{broker}.1").write_text("".join([again, *lines[9:]]))
     with gzip.open(f"{platform}.gz", "wt") as file:
         file.write(platform.read_text())
     platform.unlink()
@@ -118,7 +128,7 @@ def test_a_line_that_was_cut_off(audit: Audit, tmp_path: Path) -> None:
     broker.write_bytes(whole + torn)
     told = f"{broker}:12: the line was cut off\n1 instance, 7 events, 0 differences\n"
     assert audit(broker, platform, options=TEXT) == Ran(0, told, "")
-    broker.write_bytes(whole + torn + b"\n" + whole.split(b"\n")[0] + b"\n")
+    broker.write_bytes(whole + torn + b"\n" + at(whole.split(b"\n")[0], 2 * BEGIN) + b"\n")
     assert audit(broker, platform, options=TEXT) == Ran(0, told, "")
     broker.write_bytes(whole + torn + b"\n" + whole.split(b"\n")[1] + b"\n")
     ran = audit(broker, platform, options=TEXT)
@@ -146,7 +156,7 @@ def test_zeros_after_a_power_cut(audit: Audit, tmp_path: Path, tail: bytes) -> N
     broker, platform = sorted(journals_in(tmp_path, CREATED))
     whole = broker.read_bytes()
     told = f"{broker}:12: the line was cut off\n1 instance, 7 events, 0 differences\n"
-    for following in (b"", b"\n" + whole.split(b"\n")[0] + b"\n"):
+    for following in (b"", b"\n" + at(whole.split(b"\n")[0], 2 * BEGIN) + b"\n"):
         broker.write_bytes(whole + tail + following)
         assert audit(broker, platform, options=TEXT) == Ran(0, told, "")
     broker.write_bytes(whole + tail + b"\n" + whole.split(b"\n")[1] + b"\n")
@@ -170,10 +180,12 @@ def test_a_line_that_was_cut_off_between_stretches(audit: Audit, tmp_path: Path,
     whole = broker.read_bytes()
     head = whole.split(b"\n")[0] + b"\n"
     torn = b'{"time":' + b"1" * len(head)
-    front = whole + head * ((STRETCH - len(whole) - 1) // len(head))
+    many = (STRETCH - len(whole) - 1) // len(head)
+    front = whole + b"".join(at(head, 2 * BEGIN + number) for number in range(many))
     assert len(front) < STRETCH < len(front) + len(torn)
-    following = re.sub(rb'"event":"started"', b'"event":"%s"' % event.encode(), head)
-    broker.write_bytes(front + torn + b"\n" + following + head)
+    last = at(head, 3 * BEGIN)
+    following = at(re.sub(rb'"event":"started"', b'"event":"%s"' % event.encode(), head), 3 * BEGIN - 1)
+    broker.write_bytes(front + torn + b"\n" + following + last)
     ran = audit(broker, platform, options=TEXT)
     line = front.count(b"\n") + 1
     if status == 0:
@@ -196,6 +208,27 @@ def test_room(audit: Audit, tmp_path: Path) -> None:
     assert (done.returncode, done.stdout) == (4, ""), done
     assert re.fullmatch(f"osb-audit: {room}/osb-audit-\\w+: write failed: File too large\n", done.stderr), done
     assert list(room.iterdir()) == []
+
+
+def test_a_journal_under_two_names(audit: Audit, tmp_path: Path) -> None:
+    """A file counts once, and a copy of it is an error."""
+    broker, platform = sorted(journals_in(tmp_path / "journals", CREATED))
+    (tmp_path / "linked").symlink_to(tmp_path / "journals")
+    (tmp_path / "link.jsonl").symlink_to(broker)
+    told = Ran(0, "1 instance, 7 events, 0 differences\n", "")
+    names = broker, tmp_path / "link.jsonl", tmp_path / "linked" / platform.name, tmp_path / "journals"
+    assert audit(*names, tmp_path / "linked", options=TEXT) == told
+    assert audit(*names[::-1], options=TEXT) == told
+    copy = tmp_path / "copy.jsonl"
+    copy.write_bytes(broker.read_bytes())
+    why = "is the same line `started`: one is a copy of the other. Name each journal once"
+    ran = audit(platform, broker, copy, options=TEXT)
+    assert ran == Ran(2, "", f"osb-audit: {broker}: line 1: {copy}, line 1 {why}\n")
+    copy.unlink()
+    with gzip.open(f"{platform}.gz", "wb") as file:
+        file.write(platform.read_bytes())
+    ran = audit(tmp_path / "journals", options=TEXT)
+    assert ran == Ran(2, "", f"osb-audit: {platform}: line 1: {platform}.gz, line 1 {why}\n")
 
 
 # ---- the form of a line
@@ -383,7 +416,8 @@ def test_lost_lines(audit: Audit, tmp_path: Path) -> None:
 def test_too_many_unjudged(audit: Audit, tmp_path: Path, allowed: str, status: int) -> None:
     """One of two instances isn't judged to its end."""
     whole = journals_in(tmp_path / "one", CREATED, OTHER)
-    rest = journals_in(tmp_path / "other", f"{CREATED}; B arrive 2 x deprovision; B change 2 ready+deprovision")
+    more = f"{CREATED}; B arrive 2 x deprovision; B change 2 ready+deprovision"
+    rest = journals_in(tmp_path / "other", more, time=BEGIN + 1_000_000_000)
     ran = audit(*whole, *rest, options=("--unjudged", allowed))
     told = f"Not judged to their end: 50 percent of the instances. --unjudged allows {allowed} percent.\n"
     assert (ran.status, told in ran.out, ran.err) == (status, status == 3, ""), ran

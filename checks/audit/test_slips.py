@@ -606,7 +606,9 @@ def report(replay: Path, library: Path, tmp_path_factory: pytest.TempPathFactory
     for name, story in STORIES.items():
         folder = top / INSTANCES[name]
         folder.mkdir()
-        Journal(SLIPS[name].plan if name in SLIPS else "sync", INSTANCES[name]).tell(story).files(folder)
+        begun = 1_700_000_000_000_000 + int(INSTANCES[name][-3:], 16) * 1_000_000_000
+        journal = Journal(SLIPS[name].plan if name in SLIPS else "sync", INSTANCES[name], time=begun)
+        journal.tell(story).files(folder)
     ran = audited("--json", "--jobs", "1", *map(str, sorted(top.iterdir())))
     assert (ran.status, ran.err) == (1, ""), ran
     return ran.report

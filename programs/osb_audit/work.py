@@ -75,20 +75,23 @@ def files_in(paths: Sequence[str]) -> dict[Log, str]:
     end with .jsonl or .jsonl.gz in it, or with a number behind that. Raises `Unreplayed` if one can't be read, and if
     there is none in a folder.
     """
-    logs: dict[Log, str] = {}
+    logs: dict[str, tuple[Log, str]] = {}
     for path in paths:
-        if not os.path.isdir(path):
-            logs.setdefault(found(path), path)
-            continue
-        try:
-            names = sorted(it.path for it in os.scandir(path) if it.is_file() and _is_journal(it.name))
-        except OSError as error:
-            raise Unreplayed(REFUSED_WORDS, f"{path}: it can't be read: {reason(error)}") from error
-        if not names:
-            raise Unreplayed(REFUSED_WORDS, f"{path}: no file in it ends with .jsonl: name the folder of --journal")
-        for name in names:
-            logs.setdefault(found(name), name)
-    return logs
+        for name in _journals_in(path) if os.path.isdir(path) else [path]:
+            log = found(name)._replace(path=os.path.realpath(name))
+            logs.setdefault(log.path, (log, name))
+    return dict(logs.values())
+
+
+def _journals_in(folder: str) -> list[str]:
+    """The journals in a folder."""
+    try:
+        names = sorted(it.path for it in os.scandir(folder) if it.is_file() and _is_journal(it.name))
+    except OSError as error:
+        raise Unreplayed(REFUSED_WORDS, f"{folder}: it can't be read: {reason(error)}") from error
+    if not names:
+        raise Unreplayed(REFUSED_WORDS, f"{folder}: no file in it ends with .jsonl: name the folder of --journal")
+    return names
 
 
 def _is_journal(name: str) -> bool:
@@ -103,6 +106,7 @@ def audit(work: Work, engine: Engine) -> Audited:
     splits = _split(work, engine, body, many)
     places = Places(body, splits, work.names)
     _check(body, splits, places)
+    _check_copies(splits, places)
     headings = [it for split_ in splits for it in split_.headings]
     settings = _settings(splits, places)
     gaps = tuple(_gaps(headings, work.until))
@@ -144,6 +148,23 @@ def _check(body: Sequence[Stretch], splits: Sequence[Split], places: Places) -> 
         is_within = stretch.log == following.log and other.lines > 0
         if is_within and one.ends_torn and not other.begins_anew:
             raise unusable(places, Place(one.number, one.torn[-1]), "it is no line of a journal")
+
+
+def _check_copies(splits: Sequence[Split], places: Places) -> None:
+    """Raises `Unreplayed` if two lines `started` are the same: each process has a name of its own, and each file begins
+    with a line of another time.
+    """
+    seen: dict[tuple[str, int], Place] = {}
+    for split_ in splits:
+        for it in split_.headings:
+            place = Place(split_.number, it.line)
+            first = seen.setdefault((it.process, it.time), place) if it.event == "started" else place
+            if first != place:
+                (one, line), (other, again) = places.told(first), places.told(place)
+                why = "one is a copy of the other. Name each journal once"
+                raise Unreplayed(
+                    REFUSED_WORDS, f"{one}: line {line}: {other}, line {again} is the same line `started`: {why}"
+                )
 
 
 def unusable(places: Places, place: Place, why: str) -> Unreplayed:
