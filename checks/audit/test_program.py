@@ -6,6 +6,7 @@ import gzip
 import json
 import os
 import re
+import shlex
 import subprocess
 import time
 from collections.abc import Callable
@@ -367,10 +368,29 @@ def test_unusable_files(audit: Audit, tmp_path: Path) -> None:
     ran = audit(tmp_path / "missing", options=TEXT)
     assert ran == Ran(2, "", f"osb-audit: {tmp_path}/missing: read failed: No such file or directory\n")
     (tmp_path / "empty").mkdir()
-    why = "no file in it ends with .jsonl: name the folder of --journal"
+    (tmp_path / "empty" / "more").mkdir()
+    why = "no file in it ends with .jsonl or .jsonl.gz: name the folder of --journal"
     assert audit(tmp_path / "empty", options=TEXT) == Ran(2, "", f"osb-audit: {tmp_path}/empty: {why}\n")
     ran = audit("/dev/null", options=TEXT)
     assert ran == Ran(2, "", "osb-audit: /dev/null: read failed: it isn't a file\n")
+
+
+def test_the_folder_of_a_storm(audit: Audit, tmp_path: Path) -> None:
+    """`osb-storm both --journal FOLDER` writes the journals of each side to a folder in it."""
+    broker, platform = sorted(journals_in(tmp_path, CREATED))
+    folder = tmp_path / "of a storm"
+    for name in ("broker", "notes", "platform"):
+        (folder / name).mkdir(parents=True)
+    broker.rename(folder / "broker" / "one.jsonl.1")
+    with gzip.open(folder / "platform" / "two.jsonl.gz", "wb") as file:
+        file.write(platform.read_bytes())
+    (folder / "notes" / "notes.txt").touch()
+    why = "no file in it ends with .jsonl or .jsonl.gz. Name its folders: osb-audit"
+    names = f"'{folder}/broker' '{folder}/platform'"
+    ran = audit(folder, options=TEXT)
+    assert ran == Ran(2, "", f"osb-audit: {folder}: {why} {names}\n")
+    words = shlex.split(ran.err.partition("Name its folders: osb-audit ")[2])
+    assert audit(*words, options=TEXT) == Ran(0, "1 instance, 7 events, 0 differences\n", "")
 
 
 @pytest.mark.parametrize("options", [["--jobs", "0"], ["--jobs"], ["--fast"], [], ["--unjudged", "100.5", "journals"]])

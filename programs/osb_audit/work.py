@@ -2,6 +2,7 @@
 from __future__ import annotations
 
 import os
+import shlex
 from collections import Counter
 from itertools import accumulate
 from typing import Iterator, Mapping, NamedTuple, Sequence
@@ -10,6 +11,7 @@ from osb_audit.judging import LOST, RECENT, Bucket, Difference, Gap, Judged, jud
 from osb_audit.lines import BadLine, Place
 from osb_audit.settings import Settings, settings_in
 from osb_audit.splitting import Heading, Split, Splitting, split
+from osb_audit.words import PROGRAM
 from osb_replay_log.engines import Engine
 from osb_replay_log.faults import REFUSED_WORDS, Unreplayed, reason
 from osb_replay_log.logs import Log, Stretch, found, stretches
@@ -85,13 +87,33 @@ def files_in(paths: Sequence[str]) -> dict[Log, str]:
 
 def _journals_in(folder: str) -> list[str]:
     """The journals in a folder."""
+    names, folders = _scanned(folder)
+    if names:
+        return names
+    why = f"{folder}: no file in it ends with .jsonl or .jsonl.gz"
+    below = " ".join(shlex.quote(it) for it in folders if _has_journals(it))
+    if below:
+        raise Unreplayed(REFUSED_WORDS, f"{why}. Name its folders: {PROGRAM} {below}")
+    raise Unreplayed(REFUSED_WORDS, f"{why}: name the folder of --journal")
+
+
+def _scanned(folder: str) -> tuple[list[str], list[str]]:
+    """The paths of the journals in a folder, and of its folders."""
     try:
-        names = sorted(it.path for it in os.scandir(folder) if it.is_file() and _is_journal(it.name))
+        with os.scandir(folder) as entries:
+            found_here = sorted(entries, key=lambda it: it.path)
     except OSError as error:
         raise Unreplayed(REFUSED_WORDS, f"{folder}: it can't be read: {reason(error)}") from error
-    if not names:
-        raise Unreplayed(REFUSED_WORDS, f"{folder}: no file in it ends with .jsonl: name the folder of --journal")
-    return names
+    journals = [it.path for it in found_here if it.is_file() and _is_journal(it.name)]
+    return journals, [it.path for it in found_here if it.is_dir()]
+
+
+def _has_journals(folder: str) -> bool:
+    """Whether a folder has journals, as far as it can be read."""
+    try:
+        return bool(_scanned(folder)[0])
+    except Unreplayed:
+        return False
 
 
 def _is_journal(name: str) -> bool:
