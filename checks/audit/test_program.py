@@ -402,16 +402,34 @@ def test_rejected_arguments(options: list[str]) -> None:
 # ---- what can't be judged
 
 
+MISSING = "There is no journal of a {} among these: what the other side did can't be judged without it"
+NOTHING = "Nothing could be judged."
+
+
 def test_one_side_only(audit: Audit, tmp_path: Path) -> None:
     broker, platform = sorted(journals_in(tmp_path, CREATED))
     ran = audit(platform, options=TEXT)
     why = "no journal of a broker was given"
-    assert ran.status == 2 and ran.err == "" and ran.out.endswith("1 instance, 0 events, 0 differences\n")
+    assert ran.status == 2 and ran.err == ""
     assert f"  1 instance, nothing of 1: {why}. The first is {INSTANCE}, from {platform}, line 2 on.\n" in ran.out
-    assert "There is no journal of a broker among these" in ran.out and "Nothing could be judged.\n" in ran.out
+    end = f"{MISSING.format('broker')}\n{NOTHING}\n1 instance, 0 events, 0 differences\n"
+    assert ran.out.endswith(end), ran
     ran = audit(broker, options=TEXT)
     assert ran.status == 2 and "a request has changed it that no journal of a platform has" in ran.out
-    assert "There is no journal of a platform among these" in ran.out
+    assert f"{MISSING.format('platform')}\n{NOTHING}\n" in ran.out
+
+
+def test_remarks_in_json(audit: Audit, tmp_path: Path) -> None:
+    """The report in JSON says as well why nothing, or too little, was judged."""
+    broker, platform = sorted(journals_in(tmp_path, CREATED))
+    assert audit(broker, platform).report["remarks"] == []
+    for one, other in ((broker, "platform"), (platform, "broker")):
+        ran = audit(one)
+        assert (ran.status, ran.report["remarks"]) == (2, [MISSING.format(other), NOTHING])
+    story = f"{CREATED}; B arrive 2 x deprovision; B change 2 ready+deprovision"
+    ran = audit(*journals_in(tmp_path, story), options=("--json", "--unjudged", "9"))
+    told = "Not judged to their end: 100 percent of the instances. --unjudged allows 9 percent."
+    assert (ran.status, ran.report["remarks"]) == (3, [told])
 
 
 def test_lost_lines(audit: Audit, tmp_path: Path) -> None:
