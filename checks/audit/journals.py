@@ -19,8 +19,9 @@ word `!undone` or `!doubtful` behind a change has the line `undone` follow. Each
 nothing else, is a line of no journal.
 
 What a line names is that of the story, unless one of these words follows: `plan=sync|async`, `service=other`,
-`attributes=DIGIT` (the digest that consists of this digit; `attributes=-` of an arrival is none), `accepts=no`. Of a
-change at the broker, `work-plan=sync|async` and `work-id=other` are of the pending work alone.
+`attributes=DIGIT` (the digest that consists of this digit; `attributes=-` of an arrival is none), `accepts=no`,
+`state=STATE` (of a change at the platform; else it is that of the record). Of a change at the broker,
+`work-plan=sync|async` and `work-id=other` are of the pending work alone. `P command - state=ordered` is a new order.
 """
 
 from __future__ import annotations
@@ -36,7 +37,7 @@ BINDING = "00000000-0000-0000-0000-00000000000b"
 SERVICE = "00000000-0000-0000-0000-0000000000a0"
 OTHER = "00000000-0000-0000-0000-0000000000ff"
 PLANS = {"sync": "00000000-0000-0000-0000-0000000000b1", "async": "00000000-0000-0000-0000-0000000000b2"}
-NAMED = "plan", "service", "attributes", "accepts", "work-plan", "work-id"
+NAMED = "plan", "service", "attributes", "accepts", "work-plan", "work-id", "state"
 """What a line may name in another way than its story does."""
 EMPTY: Mapping[str, str] = {}
 
@@ -187,7 +188,7 @@ class Journal:
     def _record(self, who: str, verb: str, rest: list[str], more: dict[str, Any]) -> None:
         before = record_text(rest[2], self.plan, self.named) if rest[1:2] == ["from"] else None
         is_abandoned = verb == "abandon"
-        state = "abandoned" if is_abandoned else rest[0].partition("/")[0]
+        state = "abandoned" if is_abandoned else self.named.get("state", rest[0].partition("/")[0])
         more = {**more, "cause": "command" if is_abandoned else verb, "broker": "default", "state": state}
         more |= ids_of(self.plan, {})
         self._changed(who, more, record_text(rest[0], self.plan, self.named), before)

@@ -10,9 +10,10 @@ from typing import NamedTuple
 
 import pytest
 from audit.journals import BINDING, BOUND, BOUND_BY_OTHERS, CREATED, INSTANCE, PLANS, REMOVED, SERVICE, Journal, started
-from osb_audit.broker_side import ALTERED, FOREIGN, UNCOMPARED, UNRECORDED
+from osb_audit.broker_side import ALTERED, FAILED, FOREIGN, UNCOMPARED, UNRECORDED
 from osb_audit.events import Story
 from osb_audit.lines import Place, read
+from osb_audit.platform_side import BRIDGED, LATE
 from osb_audit.settings import settings_in
 from osb_audit.story import story
 
@@ -279,6 +280,9 @@ RULES = {
         f"{BEGUN}; crash I platform; timeout I; expire I; send I",
         "async",
     ),
+    "an order, and its record": Rule(f"P command - state=ordered; {CREATED}", MADE),
+    "an order that is withdrawn": Rule("P command - state=ordered; P command - state=withdrawn; B arrive 9 x poll", ""),
+    "a record that is abandoned": Rule(CREATED + "P command ready/1 state=abandoned", MADE),
     "the last deletion": Rule(
         REMOVED + "P send r3 deprovision 0; B arrive 3 r3 deprovision; B answer 3 410 other-error",
         f"{MADE}; remove I; send I; arrive I 2; work I part; work I absent; end I done; take I 1",
@@ -334,8 +338,28 @@ def test_rule(name: str) -> None:
     rule = RULES[name]
     of_broker = started(rule.first_poll, rule.binding, rule.retrievable)
     found = story_of(Journal(rule.plan, of_broker=of_broker).tell(rule.story))
-    assert events_of(found) == rule.events.split("; ")
+    assert events_of(found) == (rule.events.split("; ") if rule.events else [])
     assert (found.stop, found.disagreements) == (None, [])
+
+
+def test_a_request_that_is_sent_late() -> None:
+    """A worker that was paused for longer than its lease can have written the line, or has another clock. In the model,
+    the request is delayed.
+    """
+    asks = "P claim wanted/1/provision; P2 claim cleaning/2/deprovision; P send r1 provision 1; "
+    found = story_of(Journal().tell(asks + "P lose r1; P2 send r2 deprovision 2; B arrive 9 x poll"))
+    assert events_of(found) == "create I; crash I platform; timeout I; send I".split("; ")
+    assert (found.stop, found.notes) == (None, {LATE: 1})
+
+
+def test_a_request_whose_claim_no_journal_has() -> None:
+    """A worker's older file may be missing that has the claim. What the next change has found shows the claim."""
+    asks = "P2 send r2 deprovision 2; B arrive 2 r2 deprovision; B change 2 ready+deprovision; B answer 2 503 malformed"
+    more = "P2 hear r2 503 malformed; P2 take 2 cleaning/2 from cleaning/2/deprovision; P claim cleaning/3/deprovision"
+    found = story_of(Journal().tell(f"{CREATED}; {asks}; {more}"))
+    events = "remove I; send I; arrive I 2; crash I broker; gateway I 503; send I"
+    assert events_of(found) == f"{MADE}; {events}".split("; ")
+    assert (found.stop, found.notes) == (None, {BRIDGED: 1, FAILED: 1})
 
 
 def test_requests_without_a_record() -> None:
@@ -421,6 +445,12 @@ UNJUDGED = {
     "begun before, at the broker": ("B arrive 1 r1 poll; B change 1 making from waiting", "begins in the middle", 0),
     "begun before, at the platform": (
         "B arrive 1 x poll; P claim cleaning/2 from cleaning/1",
+        "begins in the middle",
+        0,
+    ),
+    "begun before its first request": ("B arrive 9 x poll; P send r2 deprovision 2", "begins in the middle", 0),
+    "begun before its first request, and goes on": (
+        "B arrive 9 x poll; P send r2 deprovision 2; P lose r2; P take 2 cleaning/2 from cleaning/2/deprovision",
         "begins in the middle",
         0,
     ),

@@ -6,6 +6,7 @@ import gzip
 import json
 import os
 import re
+import shlex
 import subprocess
 import time
 from collections.abc import Callable
@@ -25,9 +26,18 @@ STRETCH = 1 << 16
 """The least that a worker reads at once."""
 
 
-def journals_in(folder: Path, story: str, instance: str = INSTANCE) -> list[Path]:
+BEGIN = 1_700_000_000_000_000
+"""The time before the first line of a story."""
+
+
+def journals_in(folder: Path, story: str, instance: str = INSTANCE, time: int = BEGIN) -> list[Path]:
     folder.mkdir(exist_ok=True)
-    return Journal(instance=instance).tell(story).files(folder)
+    return Journal(instance=instance, time=time).tell(story).files(folder)
+
+
+def at(line: bytes, time: int) -> bytes:
+    """A line as it would have been written at another time."""
+    return re.sub(rb'"time":\d+', b'"time":%d' % time, line)
 
 
 # ---- reports
@@ -85,7 +95,8 @@ def test_folders_and_rotated_and_compressed_files(audit: Audit, tmp_path: Path) 
     broker, platform = sorted(journals_in(tmp_path / "journals", REMOVED))
     lines = broker.read_text().splitlines(keepends=True)
     broker.write_text("".join(lines[:9]))
-    Path(f"{broker}.1").write_text("".join([lines[0], *lines[9:]]))
+    again = at(lines[0].encode(), json.loads(lines[9])["time"] - 1).decode()
+    Path(f"{broker}.1").write_text("".join([again, *lines[9:]]))
     with gzip.open(f"{platform}.gz", "wt") as file:
         file.write(platform.read_text())
     platform.unlink()
@@ -118,11 +129,49 @@ def test_a_line_that_was_cut_off(audit: Audit, tmp_path: Path) -> None:
     broker.write_bytes(whole + torn)
     told = f"{broker}:12: the line was cut off\n1 instance, 7 events, 0 differences\n"
     assert audit(broker, platform, options=TEXT) == Ran(0, told, "")
-    broker.write_bytes(whole + torn + b"\n" + whole.split(b"\n")[0] + b"\n")
+    broker.write_bytes(whole + torn + b"\n" + at(whole.split(b"\n")[0], 2 * BEGIN) + b"\n")
     assert audit(broker, platform, options=TEXT) == Ran(0, told, "")
     broker.write_bytes(whole + torn + b"\n" + whole.split(b"\n")[1] + b"\n")
     ran = audit(broker, platform, options=TEXT)
     assert ran == Ran(2, "", f"osb-audit: {broker}: line 13: the line before it is no line of a journal\n")
+
+
+ZEROS = b"\0" * 4096
+
+
+@pytest.mark.parametrize(
+    "tail",
+    [
+        ZEROS,
+        b'{"time":1800000000000000,"process":"00000000' + ZEROS,
+        b"{" + ZEROS,
+        b'{"time":1700000000001000,"process":"0000000000004201","side":"broker","event":"stopped"}' + ZEROS,
+        ZEROS * 512,
+    ],
+    ids=["alone", "after a part of a line", "after a byte", "in place of a line feed", "more than a line may have"],
+)
+def test_zeros_after_a_power_cut(audit: Audit, tmp_path: Path, tail: bytes) -> None:
+    """A file system may have written the length of a file, and not what stands there. The process that goes on with the
+    file ends that line first.
+    """
+    broker, platform = sorted(journals_in(tmp_path, CREATED))
+    whole = broker.read_bytes()
+    told = f"{broker}:12: the line was cut off\n1 instance, 7 events, 0 differences\n"
+    for following in (b"", b"\n" + at(whole.split(b"\n")[0], 2 * BEGIN) + b"\n"):
+        broker.write_bytes(whole + tail + following)
+        assert audit(broker, platform, options=TEXT) == Ran(0, told, "")
+    broker.write_bytes(whole + tail + b"\n" + whole.split(b"\n")[1] + b"\n")
+    ran = audit(broker, platform, options=TEXT)
+    assert (ran.status, ran.out) == (2, "") and ran.err.endswith("it is no line of a journal\n"), ran
+
+
+def test_zeros_before_a_line(audit: Audit, tmp_path: Path) -> None:
+    """Zeros at another place are none that a power cut leaves."""
+    broker, platform = sorted(journals_in(tmp_path, CREATED))
+    lines = broker.read_bytes().splitlines(keepends=True)
+    broker.write_bytes(b"".join([*lines[:5], ZEROS, *lines[5:]]))
+    ran = audit(broker, platform, options=TEXT)
+    assert ran == Ran(2, "", f"osb-audit: {broker}: line 6: it is no line of a journal\n")
 
 
 @pytest.mark.parametrize(("event", "status"), [("started", 0), ("lost", 0), ("stopped", 2)])
@@ -132,10 +181,12 @@ def test_a_line_that_was_cut_off_between_stretches(audit: Audit, tmp_path: Path,
     whole = broker.read_bytes()
     head = whole.split(b"\n")[0] + b"\n"
     torn = b'{"time":' + b"1" * len(head)
-    front = whole + head * ((STRETCH - len(whole) - 1) // len(head))
+    many = (STRETCH - len(whole) - 1) // len(head)
+    front = whole + b"".join(at(head, 2 * BEGIN + number) for number in range(many))
     assert len(front) < STRETCH < len(front) + len(torn)
-    following = re.sub(rb'"event":"started"', b'"event":"%s"' % event.encode(), head)
-    broker.write_bytes(front + torn + b"\n" + following + head)
+    last = at(head, 3 * BEGIN)
+    following = at(re.sub(rb'"event":"started"', b'"event":"%s"' % event.encode(), head), 3 * BEGIN - 1)
+    broker.write_bytes(front + torn + b"\n" + following + last)
     ran = audit(broker, platform, options=TEXT)
     line = front.count(b"\n") + 1
     if status == 0:
@@ -158,6 +209,27 @@ def test_room(audit: Audit, tmp_path: Path) -> None:
     assert (done.returncode, done.stdout) == (4, ""), done
     assert re.fullmatch(f"osb-audit: {room}/osb-audit-\\w+: write failed: File too large\n", done.stderr), done
     assert list(room.iterdir()) == []
+
+
+def test_a_journal_under_two_names(audit: Audit, tmp_path: Path) -> None:
+    """A file counts once, and a copy of it is an error."""
+    broker, platform = sorted(journals_in(tmp_path / "journals", CREATED))
+    (tmp_path / "linked").symlink_to(tmp_path / "journals")
+    (tmp_path / "link.jsonl").symlink_to(broker)
+    told = Ran(0, "1 instance, 7 events, 0 differences\n", "")
+    names = broker, tmp_path / "link.jsonl", tmp_path / "linked" / platform.name, tmp_path / "journals"
+    assert audit(*names, tmp_path / "linked", options=TEXT) == told
+    assert audit(*names[::-1], options=TEXT) == told
+    copy = tmp_path / "copy.jsonl"
+    copy.write_bytes(broker.read_bytes())
+    why = "is the same line `started`: one is a copy of the other. Name each journal once"
+    ran = audit(platform, broker, copy, options=TEXT)
+    assert ran == Ran(2, "", f"osb-audit: {broker}: line 1: {copy}, line 1 {why}\n")
+    copy.unlink()
+    with gzip.open(f"{platform}.gz", "wb") as file:
+        file.write(platform.read_bytes())
+    ran = audit(tmp_path / "journals", options=TEXT)
+    assert ran == Ran(2, "", f"osb-audit: {platform}: line 1: {platform}.gz, line 1 {why}\n")
 
 
 # ---- the form of a line
@@ -229,10 +301,55 @@ BAD = {
     "no instance": (f'{HEAD}"arrived","visit":1}}', "arrived names no instance"),
     "no JSON": (f'{HEAD}"answered",{KEY},"status":}}', "it is no object of JSON with the members of a line: "),
     "a missing member": (f'{HEAD}"answered",{KEY},"visit":1,"status":200}}', "answered of a broker has no body"),
-    "no plans": (f'{HEAD}"started","plans":[{{"mode":"sync"}}]}}', "it is no line `started` of a broker: "),
+    "no plans": (
+        f'{HEAD}"started","plans":[{{"mode":"sync"}}]}}',
+        "a plan in started of a broker has no service_number or no plan_number",
+    ),
     "no mode": (
-        f'{HEAD}"started","plans":[{{"service_number":"a","plan_number":"b","mode":"slow"}}]}}',
-        "'slow' is no mode of a plan",
+        f'{HEAD}"started","plans":[{{"service_number":"{INSTANCE}","plan_number":"{INSTANCE}","mode":"slow"}}]}}',
+        'mode of a plan in started of a broker has to be one of sync, async, none, and is "slow"',
+    ),
+    "plans that are none": (f'{HEAD}"started","plans":7}}', "plans of started of a broker has to be a list, and is 7"),
+    "a rule that is a text": (
+        f'{HEAD}"started","first_poll":"no"}}',
+        'first_poll of started of a broker has to be true or false, and is "no"',
+    ),
+    "a number of lost lines that is a list": (
+        f'{HEAD}"lost","count":[]}}',
+        "count of lost of a broker has to be a number from 0 to 2^64 - 1, and is []",
+    ),
+    "a request that is a list": (
+        f'{HEAD}"arrived",{KEY},"visit":1,"request":[],"kind":"poll"}}',
+        "request of arrived of a broker has to be a text, and is []",
+    ),
+    "a binding that is an object": (
+        f'{HEAD}"arrived",{KEY},"binding":{{}},"visit":1,"request":"r","kind":"poll"}}',
+        "binding of arrived of a broker has to be a GUID in lower case, and is {}",
+    ),
+    "a status that is a text": (
+        f'{HEAD}"answered",{KEY},"visit":1,"status":"","body":"empty"}}',
+        'status of answered of a broker has to be a number from 100 to 999, and is ""',
+    ),
+    "a kind that is an object": (
+        f'{HEAD}"arrived",{KEY},"visit":1,"request":"r","kind":{{}}}}',
+        "kind of arrived of a broker has to be one of provision, poll, deprovision, fetch, and is {}",
+    ),
+    "a state that is a number": (
+        f'{HEAD.replace("broker", "platform")}"changed",{KEY},"change":1,"before":"","after":"","cause":"claim",'
+        f'"state":{10**30}}}',
+        f"state of changed of a platform has to be a text, and is {10**30}",
+    ),
+    "too large a number": (
+        f'{HEAD}"arrived",{KEY},"visit":{1 << 64},"request":"r","kind":"poll"}}',
+        f"visit of arrived of a broker has to be a number from 0 to 2^64 - 1, and is {1 << 64}",
+    ),
+    "a member twice": (
+        f'{HEAD}"arrived",{KEY},"visit":1,"request":"r","kind":"poll","side":7}}',
+        "it has a member twice",
+    ),
+    "a member that is too deep": (
+        f'{HEAD}"arrived",{KEY},"visit":1,"request":"r","kind":"poll","more":{"[" * 50_000}{"]" * 50_000}}}',
+        "it is no object of JSON with the members of a line: ",
     ),
 }
 
@@ -251,10 +368,29 @@ def test_unusable_files(audit: Audit, tmp_path: Path) -> None:
     ran = audit(tmp_path / "missing", options=TEXT)
     assert ran == Ran(2, "", f"osb-audit: {tmp_path}/missing: read failed: No such file or directory\n")
     (tmp_path / "empty").mkdir()
-    why = "no file in it ends with .jsonl: name the folder of --journal"
+    (tmp_path / "empty" / "more").mkdir()
+    why = "no file in it ends with .jsonl or .jsonl.gz: name the folder of --journal"
     assert audit(tmp_path / "empty", options=TEXT) == Ran(2, "", f"osb-audit: {tmp_path}/empty: {why}\n")
     ran = audit("/dev/null", options=TEXT)
     assert ran == Ran(2, "", "osb-audit: /dev/null: read failed: it isn't a file\n")
+
+
+def test_the_folder_of_a_storm(audit: Audit, tmp_path: Path) -> None:
+    """`osb-storm both --journal FOLDER` writes the journals of each side to a folder in it."""
+    broker, platform = sorted(journals_in(tmp_path, CREATED))
+    folder = tmp_path / "of a storm"
+    for name in ("broker", "notes", "platform"):
+        (folder / name).mkdir(parents=True)
+    broker.rename(folder / "broker" / "one.jsonl.1")
+    with gzip.open(folder / "platform" / "two.jsonl.gz", "wb") as file:
+        file.write(platform.read_bytes())
+    (folder / "notes" / "notes.txt").touch()
+    why = "no file in it ends with .jsonl or .jsonl.gz. Name its folders: osb-audit"
+    names = f"'{folder}/broker' '{folder}/platform'"
+    ran = audit(folder, options=TEXT)
+    assert ran == Ran(2, "", f"osb-audit: {folder}: {why} {names}\n")
+    words = shlex.split(ran.err.partition("Name its folders: osb-audit ")[2])
+    assert audit(*words, options=TEXT) == Ran(0, "1 instance, 7 events, 0 differences\n", "")
 
 
 @pytest.mark.parametrize("options", [["--jobs", "0"], ["--jobs"], ["--fast"], [], ["--unjudged", "100.5", "journals"]])
@@ -266,16 +402,34 @@ def test_rejected_arguments(options: list[str]) -> None:
 # ---- what can't be judged
 
 
+MISSING = "There is no journal of a {} among these: what the other side did can't be judged without it"
+NOTHING = "Nothing could be judged."
+
+
 def test_one_side_only(audit: Audit, tmp_path: Path) -> None:
     broker, platform = sorted(journals_in(tmp_path, CREATED))
     ran = audit(platform, options=TEXT)
     why = "no journal of a broker was given"
-    assert ran.status == 2 and ran.err == "" and ran.out.endswith("1 instance, 0 events, 0 differences\n")
+    assert ran.status == 2 and ran.err == ""
     assert f"  1 instance, nothing of 1: {why}. The first is {INSTANCE}, from {platform}, line 2 on.\n" in ran.out
-    assert "There is no journal of a broker among these" in ran.out and "Nothing could be judged.\n" in ran.out
+    end = f"{MISSING.format('broker')}\n{NOTHING}\n1 instance, 0 events, 0 differences\n"
+    assert ran.out.endswith(end), ran
     ran = audit(broker, options=TEXT)
     assert ran.status == 2 and "a request has changed it that no journal of a platform has" in ran.out
-    assert "There is no journal of a platform among these" in ran.out
+    assert f"{MISSING.format('platform')}\n{NOTHING}\n" in ran.out
+
+
+def test_remarks_in_json(audit: Audit, tmp_path: Path) -> None:
+    """The report in JSON says as well why nothing, or too little, was judged."""
+    broker, platform = sorted(journals_in(tmp_path, CREATED))
+    assert audit(broker, platform).report["remarks"] == []
+    for one, other in ((broker, "platform"), (platform, "broker")):
+        ran = audit(one)
+        assert (ran.status, ran.report["remarks"]) == (2, [MISSING.format(other), NOTHING])
+    story = f"{CREATED}; B arrive 2 x deprovision; B change 2 ready+deprovision"
+    ran = audit(*journals_in(tmp_path, story), options=("--json", "--unjudged", "9"))
+    told = "Not judged to their end: 100 percent of the instances. --unjudged allows 9 percent."
+    assert (ran.status, ran.report["remarks"]) == (3, [told])
 
 
 def test_lost_lines(audit: Audit, tmp_path: Path) -> None:
@@ -300,7 +454,8 @@ def test_lost_lines(audit: Audit, tmp_path: Path) -> None:
 def test_too_many_unjudged(audit: Audit, tmp_path: Path, allowed: str, status: int) -> None:
     """One of two instances isn't judged to its end."""
     whole = journals_in(tmp_path / "one", CREATED, OTHER)
-    rest = journals_in(tmp_path / "other", f"{CREATED}; B arrive 2 x deprovision; B change 2 ready+deprovision")
+    more = f"{CREATED}; B arrive 2 x deprovision; B change 2 ready+deprovision"
+    rest = journals_in(tmp_path / "other", more, time=BEGIN + 1_000_000_000)
     ran = audit(*whole, *rest, options=("--unjudged", allowed))
     told = f"Not judged to their end: 50 percent of the instances. --unjudged allows {allowed} percent.\n"
     assert (ran.status, told in ran.out, ran.err) == (status, status == 3, ""), ran

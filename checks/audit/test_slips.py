@@ -330,6 +330,141 @@ SLIPS = {
 }
 
 
+# ---- a platform that sends before it writes, or takes what hasn't come
+
+STATES = "the state of the change isn't that of its record"
+NOT_OUT, NOT_COME = "a request is sent that the record doesn't have in flight", "takes an answer that has not come"
+SLIPS |= {
+    "a creation that is sent before its claim": Slip(
+        CREATED.replace(
+            "P claim wanted/1/provision; P send r1 provision 1", "P send r1 provision 1; P claim WANTED"
+        ).replace("WANTED", "wanted/1/provision"),
+        ("platform", 2),
+        "",
+        NOT_OUT,
+        "- -",
+        "provision 1",
+    ),
+    "a creation that is sent between its order and its claim": Slip(
+        "P2 command - state=ordered; P send r1 provision 1; P claim wanted/1/provision; B arrive 1 r1 provision",
+        ("platform", 2),
+        "",
+        NOT_OUT,
+        "- -",
+        "provision 1",
+    ),
+    "a creation that is sent and never claimed": Slip(
+        "P2 command - state=ordered; P send r1 provision 1; B arrive 1 r1 provision",
+        ("platform", 2),
+        "",
+        NOT_OUT,
+        "- -",
+        "provision 1",
+    ),
+    "a deletion that is sent before its claim": Slip(
+        REMOVED.replace(
+            "P claim cleaning/2/deprovision; P send r2 deprovision 2", "P send r2 deprovision 2; P claim X"
+        ).replace("X", "cleaning/2/deprovision"),
+        ("platform", 6),
+        "",
+        NOT_OUT,
+        "- 1",
+        "deprovision 2",
+    ),
+    "a request of another kind than the record's": Slip(
+        "P claim wanted/1/provision; P send r1 deprovision 1; B arrive 1 r1 deprovision",
+        ("platform", 3),
+        "",
+        NOT_OUT,
+        "provision 1",
+        "deprovision 1",
+    ),
+    "a request that is sent though its claim was undone": Slip(
+        "P claim wanted/1/provision !undone; P send r1 provision 1; B arrive 1 r1 provision; "
+        "P claim wanted/1/provision from -",
+        ("platform", 4),
+        "",
+        NOT_OUT,
+        "- -",
+        "provision 1",
+    ),
+    "a request that is sent after it was given up": Slip(
+        "P claim wanted/1/provision; P take 1 cleaning/1; P send r1 provision 1; B arrive 1 r1 provision",
+        ("platform", 4),
+        "",
+        NOT_OUT,
+        "- 1",
+        "provision 1",
+    ),
+    "an answer that is taken before it has come": Slip(
+        CREATED.replace("P hear r1 201; P take 1 ready/1", "P take 1 ready/1; P hear r1 201"),
+        ("platform", 4),
+        "",
+        NOT_COME,
+        "-",
+        "201",
+    ),
+    "a timeout that is taken before the answer has come": Slip(
+        "P claim wanted/1/provision; P send r1 provision 1; P take 1 cleaning/1; P hear r1 502 malformed; "
+        "B arrive 1 r1 provision",
+        ("platform", 4),
+        "",
+        NOT_COME,
+        "-",
+        "502-malformed",
+    ),
+    "a timeout that is taken before a Fetch is answered": Slip(
+        """P claim wanted/1/provision; P send r1 provision 1; B arrive 1 r1 provision; B change 1 pending-provision
+           B create; B look whole; B change 1 ready; B answer 1 201; P hear r1 201; P take 1 ready/1
+           P claim wanted/1/provision of binding; P send b1 provision 1 of binding; P lose b1 of binding
+           P take 1 cleaning/1 of binding; P claim cleaning/2/deprovision of binding; P send b2 fetch of binding
+           P take 2 cleaning/2 of binding; P lose b2 of binding""",
+        ("platform", 12),
+        "",
+        NOT_COME,
+        "-",
+        "lost",
+    ),
+    "an answer that is taken though it was lost": Slip(
+        CREATED.replace("P hear r1 201", "P lose r1"), ("platform", 5), "", NOT_COME, "-", "201"
+    ),
+    "a state that isn't the record's": Slip(
+        CREATED.replace("P take 1 ready/1", "P take 1 ready/1 state=gone"),
+        ("platform", 5),
+        "",
+        STATES,
+        "state ready or abandoned",
+        "state gone",
+    ),
+    "a state of a claim that isn't the record's": Slip(
+        CREATED + "P claim cleaning/2/deprovision state=ready", ("platform", 6), "", STATES, "", "state ready"
+    ),
+    "an order that is ready": Slip(
+        "P command - state=ready; B arrive 9 x poll",
+        ("platform", 2),
+        "",
+        STATES,
+        "state ordered or withdrawn",
+        "state ready",
+    ),
+    "an order that was never sent and is abandoned": Slip(
+        "P command - state=abandoned; B arrive 9 x poll", ("platform", 2), "", STATES, "", "state abandoned"
+    ),
+    "an order that is withdrawn after it was sent": Slip(
+        CREATED + "P command ready/1 state=withdrawn", ("platform", 6), "", STATES, "", "state withdrawn"
+    ),
+    "an answer that comes before its request": Slip(
+        "P claim wanted/1/provision; P hear r1 502 malformed; P send r1 provision 1; P take 1 cleaning/1; "
+        "B arrive 1 r1 provision",
+        ("platform", 3),
+        "",
+        "a request is answered before it is sent",
+        "no answer yet",
+        "502-malformed",
+    ),
+}
+
+
 # ---- what a row, pending work, a request or a record names
 
 
@@ -513,7 +648,9 @@ def report(replay: Path, library: Path, tmp_path_factory: pytest.TempPathFactory
     for name, story in STORIES.items():
         folder = top / INSTANCES[name]
         folder.mkdir()
-        Journal(SLIPS[name].plan if name in SLIPS else "sync", INSTANCES[name]).tell(story).files(folder)
+        begun = 1_700_000_000_000_000 + int(INSTANCES[name][-3:], 16) * 1_000_000_000
+        journal = Journal(SLIPS[name].plan if name in SLIPS else "sync", INSTANCES[name], time=begun)
+        journal.tell(story).files(folder)
     ran = audited("--json", "--jobs", "1", *map(str, sorted(top.iterdir())))
     assert (ran.status, ran.err) == (1, ""), ran
     return ran.report

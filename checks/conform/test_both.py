@@ -76,38 +76,58 @@ def test_calm(storm: Path, broker: Path, platform: Path, replay: Path, tmp_path:
     assert audited(journal, replay)["instances"] >= 20
 
 
+# Storms with a planted fault. All three faults are in what starts the broker, and no program breaks a rule. So an audit
+# finds no difference, and judges each instance to its end.
+
+
 @pytest.mark.long(20)
-def test_false_records(storm: Path, broker: Path, platform: Path, tmp_path: Path) -> None:
-    """A broker that loses its instances when it is started again leaves false records."""
+def test_false_records(storm: Path, broker: Path, platform: Path, replay: Path, tmp_path: Path) -> None:
+    """A broker that loses its instances when it is started again leaves false records.
+
+    The audit can't see it: it knows a resource by what the calls of the backend return, and nothing calls the backend
+    for a resource that is ready. The next deletion finds the resource absent, which the model allows while work is
+    pending.
+    """
     loses = script(tmp_path / "loses", f'{_STATE}rm -rf "$instances"/*-*\nexec {broker} "${{words[@]}}"')
-    ran = both(storm, loses, platform, "--json", str(tmp_path / "json"), "--fault-percent", "0")
+    journal, files = tmp_path / "journal", ("--json", str(tmp_path / "json"), "--fault-percent", "0")
+    ran = both(storm, loses, platform, *files, "--journal", str(journal))
     assert ran.returncode == 1, ran.stdout + ran.stderr
     report = json.loads((tmp_path / "json").read_text())
     assert len(report["false_records"]) > 0
     assert f"FALSE RECORD: instance {report['false_records'][0]['number']} (" in ran.stdout
+    assert audited(journal, replay)["instances"] > 30
 
 
 @pytest.mark.long(20)
-def test_lost(storm: Path, broker: Path, platform: Path, tmp_path: Path) -> None:
-    """A broker that has deleted instances back when it is started again leaves them to nobody."""
+def test_lost(storm: Path, broker: Path, platform: Path, replay: Path, tmp_path: Path) -> None:
+    """A broker that has deleted instances back when it is started again leaves them to nobody.
+
+    The audit can't see it: after the deletion, there is a tombstone, and nothing calls the backend any more.
+    """
     saved = tmp_path / "saved"
     saved.mkdir()
     text = f'mkdir -p "$instances"\ncp -rn "$instances"/*-* {saved}\ncp -rn {saved}/*-* "$instances"'
     keeps = script(tmp_path / "keeps", f'{_STATE}{text}\nexec {broker} "${{words[@]}}" 2>/dev/null')
-    ran = both(storm, keeps, platform, "--json", str(tmp_path / "json"), "--fault-percent", "0")
+    journal, files = tmp_path / "journal", ("--json", str(tmp_path / "json"), "--fault-percent", "0")
+    ran = both(storm, keeps, platform, *files, "--journal", str(journal))
     assert ran.returncode == 1, ran.stdout + ran.stderr
     report = json.loads((tmp_path / "json").read_text())
     assert any("it exists, and its record says" in it["what"] for it in report["lost"])
+    assert audited(journal, replay)["instances"] > 30
 
 
 @pytest.mark.long(20)
-def test_odd_end(storm: Path, broker: Path, platform: Path, tmp_path: Path) -> None:
-    """An end of a program that nobody had a hand in is reported."""
-    count = tmp_path / "count"
+def test_odd_end(storm: Path, broker: Path, platform: Path, replay: Path, tmp_path: Path) -> None:
+    """An end of a program that nobody had a hand in is reported.
+
+    The audit can't see it: the broker that ends has no journal yet, and every process may end at any time.
+    """
+    count, journal = tmp_path / "count", tmp_path / "journal"
     ends = script(tmp_path / "ends", f'echo x >>{count}\n[ $(wc -l <{count}) = 3 ] && exit 9\nexec {broker} "$@"')
-    ran = both(storm, ends, platform)
+    ran = both(storm, ends, platform, "--journal", str(journal))
     assert ran.returncode == 1, ran.stdout + ran.stderr
     assert f"\nODD: broker: {ends} has ended by itself: exit status 9\n" in ran.stdout
+    assert audited(journal, replay)["instances"] > 30
 
 
 def test_signal(storm: Path, broker: Path, platform: Path, tmp_path: Path) -> None:

@@ -3,13 +3,13 @@ from __future__ import annotations
 
 import json
 import re
-from typing import Any, NamedTuple
+from typing import Any, Container, Mapping, NamedTuple, Optional
 
 HEAD = re.compile(
     rb'\{"time":(\d{1,18}),"process":"([0-9a-f]{16})","side":"(broker|platform)","event":"(\w{1,40})"[,}]'
 )
 """What each line begins with that osb-broker or osb-platform has written. `plain` gives other lines this form."""
-INSTANCE = re.compile(rb'[{,]"instance":"([0-9a-f-]{36})"')
+INSTANCE = re.compile(rb'[{,]"instance":"([0-9a-f]{8}(?:-[0-9a-f]{4}){3}-[0-9a-f]{12})"')
 """A name in quotes stands in no text of a journal, where quotes are escaped."""
 
 _FIRST = "time", "process", "side", "event"
@@ -62,6 +62,99 @@ class BadLine(Exception):
     """Why a line is no line of a journal."""
 
 
+# ---- the members of a line, and what each has to be
+
+
+class _Guids:
+    """All texts that are GUIDs, as a journal has them."""
+
+    _form = re.compile(r"[0-9a-f]{8}(?:-[0-9a-f]{4}){3}-[0-9a-f]{12}")
+
+    def __contains__(self, text: Any) -> bool:
+        return self._form.fullmatch(text) is not None
+
+
+GUIDS = _Guids()
+_LONGEST = 60
+"""How much of a value is reported at most."""
+MOST = (1 << 64) - 1
+"""The greatest number of a request, a change or a visit."""
+
+
+class _Value(NamedTuple):
+    """What a member has to be: its type, which values it may have, or None for all, and how that is said."""
+
+    type: type
+    values: Optional[Container[Any]]
+    said: str
+
+
+def _one_of(*texts: str) -> _Value:
+    return _Value(str, frozenset(texts), f"one of {', '.join(texts)}")
+
+
+_TEXT, _TRUTH = _Value(str, None, "a text"), _Value(bool, None, "true or false")
+_GUID = _Value(str, GUIDS, "a GUID in lower case")
+_NUMBER = _Value(int, range(MOST + 1), "a number from 0 to 2^64 - 1")
+_STATUS = _Value(int, range(100, 1000), "a number from 100 to 999")
+_KIND = _one_of("provision", "poll", "deprovision", "fetch")
+_BODY = _one_of(
+    "malformed", "empty", "in-progress", "succeeded", "failed", "async-required", "concurrency-error", "other-error"
+)
+_PLAN = {"service": _TEXT, "plan": _TEXT}
+_OF_LIFE = {
+    "time": _NUMBER,
+    "process": _TEXT,
+    "instance": _GUID,
+    "binding": _GUID,
+    "instance_id": _TEXT,
+    "binding_id": _TEXT,
+}
+_CHANGED = {"change": _NUMBER, "before": _TEXT, "after": _TEXT, "credentials": _TEXT}
+_ANSWERED = {"request": _TEXT, "status": _STATUS, "body": _BODY, "credentials": _TEXT}
+_WORK = {
+    "call": _one_of("look", "create", "delete", "credentials"),
+    "stage": _one_of("begun", "ended"),
+    "result": _one_of("done", "failed", "rejected"),
+    "found": _one_of("absent", "part", "whole"),
+}
+_UNDONE: Mapping[str, _Value] = {**_OF_LIFE, "change": _NUMBER, "doubtful": _TRUTH}
+MEMBERS: Mapping[tuple[str, str], Mapping[str, _Value]] = {
+    ("broker", "arrived"): {
+        **_OF_LIFE,
+        **_PLAN,
+        "visit": _NUMBER,
+        "request": _TEXT,
+        "kind": _KIND,
+        "accepts": _TRUTH,
+        "attributes": _TEXT,
+    },
+    ("broker", "changed"): {**_OF_LIFE, **_CHANGED, "visit": _NUMBER, "life": _NUMBER, "life_before": _NUMBER},
+    ("broker", "undone"): _UNDONE,
+    ("broker", "work"): {**_OF_LIFE, **_WORK, "visit": _NUMBER, "credentials": _TEXT},
+    ("broker", "answered"): {**_OF_LIFE, **_ANSWERED, "visit": _NUMBER, "saw": _TEXT, "saw_instance": _TEXT},
+    ("platform", "changed"): {
+        **_OF_LIFE,
+        **_CHANGED,
+        **_PLAN,
+        "broker": _TEXT,
+        "cause": _TEXT,
+        "state": _TEXT,
+        "attempt": _NUMBER,
+    },
+    ("platform", "undone"): _UNDONE,
+    ("platform", "sent"): {
+        **_OF_LIFE,
+        **_PLAN,
+        "request": _TEXT,
+        "broker": _TEXT,
+        "kind": _KIND,
+        "attempt": _NUMBER,
+        "accepts": _TRUTH,
+    },
+    ("platform", "answered"): {**_OF_LIFE, **_ANSWERED, "broker": _TEXT, "kind": _KIND, "lost": _TEXT},
+}
+"""The members of each event that an audit knows."""
 NEEDED = {
     ("broker", "arrived"): ("visit", "request", "kind"),
     ("broker", "changed"): ("change", "before", "after"),
@@ -74,18 +167,62 @@ NEEDED = {
     ("platform", "answered"): ("request", "kind"),
 }
 """The members without which nothing can be said of an event."""
+OF_LOST = {"count": _NUMBER}
+"""The members of the line `lost`."""
+OF_STARTED = {"first_poll": _TRUTH, "plans": _Value(list, None, "a list")}
+"""Those of the line `started` of a broker, as far as an audit needs them."""
+OF_SOLD = {
+    "service_number": _GUID,
+    "plan_number": _GUID,
+    "mode": _one_of("sync", "async", "none"),
+    "binding": _one_of("sync", "async", "none"),
+    "retrievable": _TRUTH,
+}
+"""Those of a plan in it."""
+
+
+def members_of(text: bytes) -> dict[str, Any]:
+    """The members of a line. Raises `BadLine`."""
+    try:
+        found = json.loads(text.decode())
+        if isinstance(found, dict):
+            return found
+        error: object = "it is none"
+    except (ValueError, RecursionError) as raised:
+        error = raised
+    raise BadLine(f"it is no object of JSON with the members of a line: {error}")
+
+
+def check(members: Mapping[str, Any], known: Mapping[str, _Value], of: str) -> None:
+    """Raises `BadLine` if one of the members that are known has another type or value than it has to have."""
+    for name, value in members.items():
+        wanted = known.get(name)
+        if wanted is not None and (
+            value.__class__ is not wanted.type or wanted.values is not None and value not in wanted.values
+        ):
+            given = json.dumps(value)
+            given = given if len(given) <= _LONGEST else f"{given[:_LONGEST]}.."
+            raise BadLine(f"{name} of {of} has to be {wanted.said}, and is {given}")
 
 
 def read(place: Place, text: bytes) -> Line:
     """Reads a line that names an instance. Raises `BadLine`."""
+    members = members_of(text)
     try:
-        line = Line(place, json.loads(text.decode()))
-    except (ValueError, TypeError, KeyError) as error:
-        raise BadLine(f"it is no object of JSON with the members of a line: {error}") from error
-    missing = [it for it in NEEDED[line.side, line.event] if it not in line.of]
-    if missing:
-        raise BadLine(f"{line.event} of a {line.side} has no {missing[0]}")
-    return line
+        side, event = members["side"], members["event"]
+        known = MEMBERS[side, event]
+    except (KeyError, TypeError) as error:  # HEAD has found others, so there are two of one of them
+        raise BadLine("it has a member twice") from error
+    check(members, known, f"{event} of a {side}")
+    needed = NEEDED[side, event]
+    if event == "work" and (members.get("call"), members.get("result")) == ("look", "done"):
+        needed += ("found",)
+    elif (side, event) == ("platform", "answered") and "lost" not in members:
+        needed += ("status",)
+    for it in needed:
+        if it not in members:
+            raise BadLine(f"{event} of a {side} has no {it}")
+    return Line(place, members)
 
 
 def plain(text: bytes) -> bytes | None:
@@ -103,7 +240,11 @@ def plain(text: bytes) -> bytes | None:
 
 
 def is_torn(text: bytes) -> bool:
-    """Whether it may be the beginning of a line that was cut off, and is no whole object of JSON."""
+    """Whether it may be the beginning of a line that was cut off, and is no whole object of JSON. A power cut can leave
+    zeros behind that beginning, or alone.
+    """
+    if not text.strip(b"\0"):
+        return True
     if not b"{".startswith(text.lstrip()[:1]):
         return False
     try:

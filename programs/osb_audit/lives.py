@@ -110,6 +110,10 @@ class Life:
     is_abandoned: bool = False
     is_others: bool = False
     """Whether another client has created it. The model doesn't have it: it is judged by the tables alone."""
+    claimed: dict[int, str] = field(default_factory=dict)
+    """The kind of each request that the record has had in flight, by its number."""
+    taken: set[int] = field(default_factory=set)
+    """The numbers of the requests whose answer or timeout was taken."""
     held: Held = NOTHING
     held_text: str = ""
     held_line: Line | None = None
@@ -153,6 +157,12 @@ class Life:
     def number_of(self, digest: str) -> int:
         """The number that stands for these credentials; 0 for none."""
         return self.numbers.setdefault(digest, len(self.numbers) + 1) if digest else 0
+
+    def come(self, record: Recorded) -> None:
+        """The platform has another record."""
+        self.record = record
+        if record.out != "-":
+            self.claimed[record.attempt] = record.out
 
     def give(self, attempt: int, said: Said) -> None:
         """The model has answered the request of this number."""

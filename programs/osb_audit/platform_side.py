@@ -1,6 +1,8 @@
 """Which events the lines of a platform are."""
 from __future__ import annotations
 
+from typing import Sequence
+
 from osb_audit import naming, rules
 from osb_audit.events import ATTEMPT, OUT, RECORDED, STATE, Wanted, shown
 from osb_audit.lines import Line
@@ -11,6 +13,10 @@ from osb_audit.walk import Known, differs, unjudged
 DROPPED = "answers that came and that the platform took for none"
 BRIDGED = "changes of a record that no journal has, and that a platform may have made"
 NOT_GIVEN = "answers below 500 that no broker gave: judged as those of a gateway, by which nothing is known"
+LATE = "requests that were sent after another claim had given them up: judged as delayed"
+STATES = "the state of the change isn't that of its record"
+NOT_COME = "the platform takes an answer that has not come"
+BEGUN = "the journal of the platform begins in the middle of its life"
 
 
 class PlatformSide:
@@ -18,28 +24,64 @@ class PlatformSide:
 
     def __init__(self, known: Known) -> None:
         self.known = known
+        self.left: set[str] = set()
+        """The requests that were sent so far."""
 
     def step(self, line: Line) -> None:
         """Goes through a line."""
         {"changed": self._changed, "sent": self._sent, "answered": self._answered}[line.event](line)
 
+    # ---- requests
+
     def _sent(self, line: Line) -> None:
+        self.left.add(line.of["request"])
         if line.of["kind"] == "fetch":
             self.known.fetches.setdefault(line.key, []).append(line.of["request"])
         elif line.of.get("attempt"):
-            naming.check_sent(line, self.known.sent[line.of["request"]], self.known.life(line.key))
+            life = self.known.life(line.key)
+            self._check_out(line, life)
+            naming.check_sent(line, self.known.sent[line.of["request"]], life)
             self.known.requests.setdefault((line.key, line.of["attempt"]), []).append(line.of["request"])
 
+    def _check_out(self, line: Line, life: Life) -> None:
+        """A request is sent once the record has it in flight, and not after its answer was taken."""
+        kind, attempt = line.of["kind"], line.of["attempt"]
+        if (life.record.out, life.record.attempt) == (kind, attempt):
+            return
+        following = self.known.next_change(line)
+        if life.record_line is None and (following is None or following.of["before"]):
+            raise unjudged(line, BEGUN)
+        found = following.of["before"] if following is not None else ""
+        read, _ = rules.recorded_in(found)
+        if (read.out, read.attempt) == (kind, attempt):
+            self._bridge(line, life, found)  # no journal has the claim
+            return
+        if life.claimed.get(attempt) == kind and attempt not in life.taken:
+            # Its worker was paused between its last look at the clock and this line, or the clocks of two workers
+            # differ. In the model, it has left with the claim and is delayed.
+            self.known.notes[LATE] += 1
+            return
+        raise differs(
+            line,
+            "a request is sent that the record doesn't have in flight",
+            f"{life.record.out} {life.record.columns[2]}",
+            f"{kind} {attempt}",
+        )
+
     def _answered(self, line: Line) -> None:
-        self.known.heard[line.of["request"]] = line
+        request = line.of["request"]
+        if request in self.known.sent and request not in self.left:
+            raise differs(line, "a request is answered before it is sent", "no answer yet", _words(line))
+        self.known.heard[request] = line
 
     # ---- changes of the record
 
     def _changed(self, line: Line) -> None:
         life = self.known.life(line.key)
         life.is_abandoned = life.is_abandoned or line.of.get("state") == "abandoned"
+        _check_state(line)
         if line.of["before"] != life.record_text:
-            self._bridge(line, life)
+            self._bridge(line, life, line.of["before"])
         if line.of["before"] != line.of["after"]:
             before, (after, plan) = life.record, rules.recorded_in(line.of["after"])
             naming.check_record(line, self.known, life, plan)
@@ -48,23 +90,25 @@ class PlatformSide:
                 self._take(line, life, after)
             else:
                 self._step(line, life, after, rules.steps(life.record, after))
-            life.record, life.recorded = after, line.of.get("credentials", life.recorded)
+            life.come(after)
+            life.recorded = line.of.get("credentials", life.recorded)
         elif not life.is_ordered:
             life.ordered = plan_of(line)
         life.record_text, life.record_line = line.of["after"], line
 
-    def _bridge(self, line: Line, life: Life) -> None:
+    def _bridge(self, line: Line, life: Life, text: str) -> None:
         """The record isn't as its last change has left it. A process without a journal may have changed it."""
         if life.record_line is None:
-            raise unjudged(line, "the journal of the platform begins in the middle of its life")
-        read, plan = rules.recorded_in(line.of["before"])
+            raise unjudged(line, BEGUN)
+        read, plan = rules.recorded_in(text)
         events = rules.steps(life.record, read)
         if not events or plan != rules.recorded_in(life.record_text)[1]:
             why = "the record isn't as its last change has left it"
-            raise differs(line, why, life.record_text or "-", line.of["before"] or "-")
+            raise differs(line, why, life.record_text or "-", text or "-")
         self.known.notes[BRIDGED] += 1
         self._step(line, life, read, events)
-        life.record = read
+        life.come(read)
+        life.record_text = text
 
     @staticmethod
     def _after(line: Line, life: Life, after: Recorded) -> Wanted:
@@ -102,6 +146,7 @@ class PlatformSide:
         """The platform takes an answer, or none."""
         attempt = line.of.get("attempt", life.record.attempt)
         requests = self.known.requests.get((life.key, attempt), [])
+        self._check_heard(line, [*requests, *self.known.fetches.get(life.key, ())[-1:]])
         heard = [self.known.heard[it] for it in requests if it in self.known.heard]
         said = _said(heard[-1]) if heard else None
         timed_out = rules.stepped(life.record, "timeout")
@@ -111,6 +156,14 @@ class PlatformSide:
             event = "timeout"
         self.known.emit(line, life, event, *self._after(line, life, after))
         life.sender = ""
+        life.taken.add(attempt)
+
+    def _check_heard(self, line: Line, requests: Sequence[str]) -> None:
+        """A process takes an answer, or a timeout, once its exchange is over."""
+        for it in requests:
+            answer = self.known.answers.get(it)
+            if answer is not None and answer.process == line.process and it not in self.known.heard:
+                raise differs(line, NOT_COME, "-", _words(answer))
 
     def _effect(self, life: Life, said: Said | None) -> Recorded | None:
         if said is None:
@@ -123,7 +176,7 @@ class PlatformSide:
 
     def _event(self, line: Line, life: Life, attempt: int, said: Said | None, after: Recorded) -> str:
         if said is None:
-            return self._unheard(life, after)
+            return self._unheard(line, life, attempt, after)
         if life.is_binding and (life.record.state, life.record.out, said) == ("polling", "poll", (200, "succeeded")):
             return self._fetched(life, attempt, said)
         given = [it.place for it in life.given.get(attempt, ()) if it.said == said]
@@ -140,12 +193,18 @@ class PlatformSide:
         return self._not_given(line, life, attempt, said)
 
     @staticmethod
-    def _unheard(life: Life, after: Recorded) -> str:
-        """No answer to this request came. If the record shows that one was taken, it is that to another request."""
-        if after != rules.stepped(life.record, "timeout"):
-            for it in sorted(it for given in life.given.values() for it in given):
-                if rules.taken(life.record, it.said, life.is_binding, True) == after:
-                    return f"take {it.place}"
+    def _unheard(line: Line, life: Life, attempt: int, after: Recorded) -> str:
+        """No answer to this request has come. If the record shows that one was taken, it is one that is still on its
+        way, or that to another request.
+        """
+        if after == rules.stepped(life.record, "timeout"):
+            return "timeout"
+        for number in sorted(life.given, key=lambda it: it != attempt):
+            for given in life.given[number]:
+                if rules.taken(life.record, given.said, life.is_binding, True) == after:
+                    if number == attempt:
+                        raise differs(line, NOT_COME, "-", shown(given.said))
+                    return f"take {given.place}"
         return "timeout"
 
     def _fetched(self, life: Life, attempt: int, said: Said) -> str:
@@ -170,8 +229,24 @@ class PlatformSide:
         raise differs(line, "the platform took an answer that no broker has given", answers, shown(said))
 
 
+def _check_state(line: Line) -> None:
+    """The state is that of the record. Without a record, an order is new or withdrawn. An operator can abandon what is
+    recorded, and the record stays.
+    """
+    state, (record, _) = line.of.get("state"), rules.recorded_in(line.of["after"])
+    states = ("ordered", "withdrawn") if record == rules.UNKNOWN else (record.state, "abandoned")
+    if state is not None and state not in states:
+        raise differs(line, STATES, f"state {' or '.join(states)}", f"state {state}")
+
+
+def _words(line: Line) -> str:
+    """The answer of a line, to be shown."""
+    said = _said(line)
+    return shown(said) if said is not None else "lost"
+
+
 def _said(line: Line) -> Said | None:
     """What came back, or None if nothing that counts did."""
     if "lost" in line.of:
         return None
-    return line.of["status"], line.of["body"]
+    return line.of["status"], line.of.get("body", "malformed")  # only the answer to what has no attempt has none

@@ -104,6 +104,11 @@ class Report:
             yield f"{shown(place)}: the line was cut off"
         if found.lost:
             yield f"{_many(found.lost, 'line')} could not be written when they happened, and are missing"
+        yield from self._remarks()
+
+    def _remarks(self) -> Iterator[str]:
+        """Why nothing, or too little, was judged."""
+        found = self._found
         for side in ("broker", "platform"):
             if not found.processes[side]:
                 yield f"There is no journal of a {side} among these: what the other side did can't be judged without it"
@@ -125,6 +130,7 @@ class Report:
             "disagreements": [{"instance": instance, "why": why} for instance, why in self.disagreements],
             "unjudged": [self._reason(it) for it in self.unjudged],
             "notes": dict(sorted(self.notes.items())),
+            "remarks": list(self._remarks()),
             "torn": found.torn,
             "lost": found.lost,
             "processes": dict(sorted(found.processes.items())),

@@ -15,6 +15,7 @@ from osb.holding import Holding
 from osb.ids import Id
 from osb.messages import Answer, BrokerRow, Request
 from osb.record import Record
+from osb_audit.lines import GUIDS, MOST
 
 Said = tuple[int, str]
 """An answer: its status, and the name of its body."""
@@ -94,16 +95,33 @@ def held_in(text: str) -> tuple[Held, Terms]:
     try:
         members = json.loads(text)
         row, work = members["row"], members["work"]
+        _check(row is None or row["phase"] in _PHASES, work is None or work["kind"] in _KINDS)
         held = Held(
             row["phase"] if row else "none",
             work["kind"] if work else "-",
-            bool(work and work["accepts_incomplete"]),
+            work["accepts_incomplete"] if work else False,
             members["tombstone"],
         )
-        of_row, of_work = (((it["service"], it["plan"]) if it else None) for it in (row, work))
-        return held, Terms(of_row or of_work, members["attributes"], of_work, work["id"] if work else "")
-    except (ValueError, TypeError, KeyError) as error:
+        of_row, of_work = (_plan_in(it) if it else None for it in (row, work))
+        terms = Terms(of_row or of_work, members["attributes"], of_work, work["id"] if work else "")
+        _check(held.accepts.__class__ is held.tombstone.__class__ is bool)
+        _check(terms.attributes.__class__ is terms.work_id.__class__ is str)
+        return held, terms
+    except (ValueError, TypeError, KeyError, RecursionError) as error:
         raise NoText(f"it is no text of a holding: {text}") from error
+
+
+def _plan_in(part: dict[str, str]) -> Plan:
+    """The plan in a text."""
+    found = part["service"], part["plan"]
+    _check(all(it in GUIDS for it in found))
+    return found
+
+
+def _check(*rules: bool) -> None:
+    """Raises `ValueError` unless all is true."""
+    if not all(rules):
+        raise ValueError
 
 
 def _holding(held: Held) -> Holding:
@@ -224,9 +242,11 @@ def recorded_in(text: str) -> tuple[Recorded, Plan | None]:
         return UNKNOWN, None
     try:
         members = json.loads(text)
-        record = Recorded(members["state"], members["out"] or "-", members["attempt"])
-        return record, (members["service"], members["plan"])
-    except (ValueError, TypeError, KeyError) as error:
+        state, out, attempt = members["state"], members["out"], members["attempt"]
+        _check(state in _STATES, out is None or out in _KINDS)
+        _check(attempt.__class__ is int and 0 <= attempt <= MOST)
+        return Recorded(state, out or "-", attempt), _plan_in(members)
+    except (ValueError, TypeError, KeyError, RecursionError) as error:
         raise NoText(f"it is no text of a record: {text}") from error
 
 

@@ -1,10 +1,9 @@
 """What the lines `started` of brokers say: the plans, and the rules that an operator chooses."""
 from __future__ import annotations
 
-import json
-from typing import Any, Mapping, NamedTuple
+from typing import Mapping, NamedTuple
 
-from osb_audit.lines import BadLine
+from osb_audit.lines import OF_SOLD, OF_STARTED, BadLine, check, members_of
 from osb_audit.rules import Plan
 
 
@@ -29,17 +28,13 @@ class Settings(NamedTuple):
 
 def settings_in(text: bytes) -> Settings:
     """Reads the line `started` of a broker. Raises `BadLine`."""
-    try:
-        members = json.loads(text)
-        plans = {(it["service_number"], it["plan_number"]): _sold(it) for it in members.get("plans") or ()}
-        return Settings(bool(members.get("first_poll")), plans)
-    except (ValueError, TypeError, KeyError, AttributeError) as error:
-        raise BadLine(f"it is no line `started` of a broker: {error!r}") from error
-
-
-def _sold(plan: Mapping[str, Any]) -> Sold:
-    modes = plan.get("mode", "none"), plan.get("binding", "none")
-    for it in modes:
-        if it not in ("sync", "async", "none"):
-            raise BadLine(f"{it!r} is no mode of a plan")
-    return Sold(*modes, bool(plan.get("retrievable")))
+    members = members_of(text)
+    check({it: value for it, value in members.items() if value is not None}, OF_STARTED, "started of a broker")
+    plans = {}
+    for it in members.get("plans") or ():
+        if not isinstance(it, dict) or any(name not in it for name in ("service_number", "plan_number")):
+            raise BadLine("a plan in started of a broker has no service_number or no plan_number")
+        check(it, OF_SOLD, "a plan in started of a broker")
+        sold = Sold(it.get("mode", "none"), it.get("binding", "none"), it.get("retrievable", False))
+        plans[it["service_number"], it["plan_number"]] = sold
+    return Settings(members.get("first_poll") or False, plans)

@@ -4,11 +4,10 @@ In a bucket, each line has the number of its stretch and its own number there be
 """
 from __future__ import annotations
 
-import json
 from typing import Iterator, NamedTuple
 from zlib import crc32
 
-from osb_audit.lines import HEAD, INSTANCE, OF_INSTANCES, is_torn, newer, plain
+from osb_audit.lines import HEAD, INSTANCE, OF_INSTANCES, OF_LOST, BadLine, check, is_torn, members_of, newer, plain
 from osb_replay_log import spool
 from osb_replay_log.faults import unwritten
 from osb_replay_log.lines import blocks
@@ -40,10 +39,8 @@ class Heading(NamedTuple):
     time: int
     before: int
 
-    @property
-    def missing(self) -> int:
-        """Of `lost`: how many lines are missing."""
-        return int(json.loads(self.text).get("count", 1))
+    missing: int = 0
+    """Of `lost`: how many lines are missing."""
 
 
 class Split(NamedTuple):
@@ -117,7 +114,9 @@ class _Splitter:
             known = "it is of a newer version than this osb-audit"
             return f"a {side.decode()} has no event {event.decode()!r} here: {known}"
         else:
-            self._head(text, event.decode(), side.decode(), process.decode(), int(time))
+            why = self._head(text, event.decode(), side.decode(), process.decode(), int(time))
+            if why is not None:
+                return why
         self.time = int(time)
         return None
 
@@ -128,8 +127,17 @@ class _Splitter:
         self.odd.append(self.lines)
         return None
 
-    def _head(self, text: bytes, event: str, side: str, process: str, time: int) -> None:
-        self.headings.append(Heading(self.lines, text, event, side, process, time, self.time or time))
+    def _head(self, text: bytes, event: str, side: str, process: str, time: int) -> str | None:
+        missing = 0
+        if event == "lost":
+            try:
+                members = members_of(text)
+                check(members, OF_LOST, f"lost of a {side}")
+            except BadLine as error:
+                return str(error)
+            missing = members.get("count", 1)
+        self.headings.append(Heading(self.lines, text, event, side, process, time, self.time or time, missing))
+        return None
 
 
 def split(splitting: Splitting) -> Split:

@@ -36,7 +36,7 @@ class Known:
     """What there is of an instance: its lives, the requests, and the events so far."""
 
     def __init__(self, instance: str, lines: Sequence[Line], settings: Settings) -> None:
-        self.instance, self.settings = instance, settings
+        self.instance, self.lines, self.settings = instance, lines, settings
         self.lives: dict[str, Life] = {"": Life("", instance)}
         self.events: list[Event] = []
         self.notes: Counter[str] = Counter()
@@ -44,6 +44,7 @@ class Known:
         self.sent: dict[str, Sent] = {}
         self.accepts: dict[str, bool] = {}
         self.requests: dict[tuple[str, int], list[str]] = {}
+        self.answers: dict[str, Line] = {}
         self.heard: dict[str, Line] = {}
         self.fetches: dict[str, list[str]] = {}
         self.attributes: dict[tuple[str, str], str] = {}
@@ -65,6 +66,15 @@ class Known:
             self.sent[line.of["request"]] = sent
             if sent.kind == "provision":
                 self.accepts.setdefault(line.key, bool(line.of.get("accepts")))
+        elif line.side == "platform" and line.event == "answered":
+            self.answers[line.of["request"]] = line
+
+    def next_change(self, line: Line) -> Line | None:
+        """The next change of the record of the same life, or None if there is none."""
+        behind = iter(self.lines)
+        any(it is line for it in behind)
+        changes = (it for it in behind if (it.side, it.event, it.key) == ("platform", "changed", line.key))
+        return next(changes, None)
 
     # ---- requests
 

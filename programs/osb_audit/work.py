@@ -2,6 +2,7 @@
 from __future__ import annotations
 
 import os
+import shlex
 from collections import Counter
 from itertools import accumulate
 from typing import Iterator, Mapping, NamedTuple, Sequence
@@ -10,6 +11,7 @@ from osb_audit.judging import LOST, RECENT, Bucket, Difference, Gap, Judged, jud
 from osb_audit.lines import BadLine, Place
 from osb_audit.settings import Settings, settings_in
 from osb_audit.splitting import Heading, Split, Splitting, split
+from osb_audit.words import PROGRAM
 from osb_replay_log.engines import Engine
 from osb_replay_log.faults import REFUSED_WORDS, Unreplayed, reason
 from osb_replay_log.logs import Log, Stretch, found, stretches
@@ -75,20 +77,43 @@ def files_in(paths: Sequence[str]) -> dict[Log, str]:
     end with .jsonl or .jsonl.gz in it, or with a number behind that. Raises `Unreplayed` if one can't be read, and if
     there is none in a folder.
     """
-    logs: dict[Log, str] = {}
+    logs: dict[str, tuple[Log, str]] = {}
     for path in paths:
-        if not os.path.isdir(path):
-            logs.setdefault(found(path), path)
-            continue
-        try:
-            names = sorted(it.path for it in os.scandir(path) if it.is_file() and _is_journal(it.name))
-        except OSError as error:
-            raise Unreplayed(REFUSED_WORDS, f"{path}: it can't be read: {reason(error)}") from error
-        if not names:
-            raise Unreplayed(REFUSED_WORDS, f"{path}: no file in it ends with .jsonl: name the folder of --journal")
-        for name in names:
-            logs.setdefault(found(name), name)
-    return logs
+        for name in _journals_in(path) if os.path.isdir(path) else [path]:
+            log = found(name)._replace(path=os.path.realpath(name))
+            logs.setdefault(log.path, (log, name))
+    return dict(logs.values())
+
+
+def _journals_in(folder: str) -> list[str]:
+    """The journals in a folder."""
+    names, folders = _scanned(folder)
+    if names:
+        return names
+    why = f"{folder}: no file in it ends with .jsonl or .jsonl.gz"
+    below = " ".join(shlex.quote(it) for it in folders if _has_journals(it))
+    if below:
+        raise Unreplayed(REFUSED_WORDS, f"{why}. Name its folders: {PROGRAM} {below}")
+    raise Unreplayed(REFUSED_WORDS, f"{why}: name the folder of --journal")
+
+
+def _scanned(folder: str) -> tuple[list[str], list[str]]:
+    """The paths of the journals in a folder, and of its folders."""
+    try:
+        with os.scandir(folder) as entries:
+            found_here = sorted(entries, key=lambda it: it.path)
+    except OSError as error:
+        raise Unreplayed(REFUSED_WORDS, f"{folder}: it can't be read: {reason(error)}") from error
+    journals = [it.path for it in found_here if it.is_file() and _is_journal(it.name)]
+    return journals, [it.path for it in found_here if it.is_dir()]
+
+
+def _has_journals(folder: str) -> bool:
+    """Whether a folder has journals, as far as it can be read."""
+    try:
+        return bool(_scanned(folder)[0])
+    except Unreplayed:
+        return False
 
 
 def _is_journal(name: str) -> bool:
@@ -103,6 +128,7 @@ def audit(work: Work, engine: Engine) -> Audited:
     splits = _split(work, engine, body, many)
     places = Places(body, splits, work.names)
     _check(body, splits, places)
+    _check_copies(splits, places)
     headings = [it for split_ in splits for it in split_.headings]
     settings = _settings(splits, places)
     gaps = tuple(_gaps(headings, work.until))
@@ -110,7 +136,7 @@ def audit(work: Work, engine: Engine) -> Audited:
     buckets = (Bucket(work.room, number, counts, work.program, settings, gaps) for number in range(many))
     judged = _judge(work, engine, buckets, sum(it.events for it in splits), places)
     torn = ["{}:{}".format(*places.told(Place(it.number, line))) for it in splits for line in it.torn]
-    return Audited(judged, _processes(headings), sum(map(_lost, headings)), torn, places)
+    return Audited(judged, _processes(headings), sum(it.missing for it in headings), torn, places)
 
 
 def _gaps(headings: Sequence[Heading], until: int | None) -> Iterator[Gap]:
@@ -146,6 +172,23 @@ def _check(body: Sequence[Stretch], splits: Sequence[Split], places: Places) -> 
             raise unusable(places, Place(one.number, one.torn[-1]), "it is no line of a journal")
 
 
+def _check_copies(splits: Sequence[Split], places: Places) -> None:
+    """Raises `Unreplayed` if two lines `started` are the same: each process has a name of its own, and each file begins
+    with a line of another time.
+    """
+    seen: dict[tuple[str, int], Place] = {}
+    for split_ in splits:
+        for it in split_.headings:
+            place = Place(split_.number, it.line)
+            first = seen.setdefault((it.process, it.time), place) if it.event == "started" else place
+            if first != place:
+                (one, line), (other, again) = places.told(first), places.told(place)
+                why = "one is a copy of the other. Name each journal once"
+                raise Unreplayed(
+                    REFUSED_WORDS, f"{one}: line {line}: {other}, line {again} is the same line `started`: {why}"
+                )
+
+
 def unusable(places: Places, place: Place, why: str) -> Unreplayed:
     """A line that can't be used."""
     path, line = places.told(place)
@@ -166,10 +209,6 @@ def _settings(splits: Sequence[Split], places: Places) -> dict[str, Settings]:
 
 def _processes(headings: Sequence[Heading]) -> Counter[str]:
     return Counter(side for side, _ in {(it.side, it.process) for it in headings})
-
-
-def _lost(heading: Heading) -> int:
-    return heading.missing if heading.event == "lost" else 0
 
 
 def _judge(work: Work, engine: Engine, buckets: Iterator[Bucket], lines: int, places: Places) -> list[Judged]:
