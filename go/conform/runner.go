@@ -23,6 +23,8 @@ type Config struct {
 	Pause         time.Duration // between two polls
 	// Transport wraps what sends the requests, or is nil.
 	Transport func(http.RoundTripper) http.RoundTripper
+	// Tell is called with a line for people if CleanUp has to wait, or is nil.
+	Tell func(line string)
 }
 
 // ErrUnreachable is the error of Run if the broker doesn't answer the first request.

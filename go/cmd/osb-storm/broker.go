@@ -109,12 +109,13 @@ func (s *brokerSettings) run(ctx context.Context, out, stderr io.Writer) (int, e
 		return 0, err
 	}
 	defer files.close()
+	running, deleting, forget := untilSignals(ctx)
+	defer forget()
+	s.config.Broker.Tell = waits(running, stderr)
 	storm, err := s.storm(stderr)
 	if err != nil {
 		return 0, program.Unusable(err)
 	}
-	running, deleting, forget := untilSignals(ctx)
-	defer forget()
 	fmt.Fprintf(out, "Each id begins with %s. The seed is %d.\n\n", storm.Prefix(), s.seed)
 	report, failure := storm.Run(running, deleting)
 	if failure != nil {

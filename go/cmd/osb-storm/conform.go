@@ -71,12 +71,13 @@ func (s *conformSettings) run(ctx context.Context, out, stderr io.Writer) (int, 
 		return 0, err
 	}
 	defer files.close()
+	running, deleting, forget := untilSignals(ctx)
+	defer forget()
+	s.config.Tell = waits(running, stderr)
 	runner, err := s.runner(stderr)
 	if err != nil {
 		return 0, program.Unusable(err)
 	}
-	running, deleting, forget := untilSignals(ctx)
-	defer forget()
 	fmt.Fprintf(out, "Each id begins with %s.\n\n", runner.Prefix())
 	limited, cancel := context.WithTimeout(running, s.runTime)
 	report, failure := runner.Run(limited)
@@ -143,6 +144,16 @@ func (s *conformSettings) status(report *conform.Report) int {
 		return statusDeviates
 	}
 	return program.StatusDone
+}
+
+// waits returns what writes a line about deletions that have to wait. running is done after the first signal.
+func waits(running context.Context, stderr io.Writer) func(line string) {
+	return func(line string) {
+		if running.Err() != nil {
+			line += " A second SIGINT or SIGTERM ends the deletions."
+		}
+		fmt.Fprintf(stderr, "osb-storm: %s\n", line)
+	}
 }
 
 // untilSignals returns a context that the first SIGINT or SIGTERM ends, and one that the second one ends.
