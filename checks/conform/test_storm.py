@@ -11,7 +11,7 @@ from pathlib import Path
 
 import pytest
 from conform.auditing import audited
-from conform.login import ENVIRONMENT
+from conform.login import ENVIRONMENT, WITH_SIGNALS
 from conform.small_broker import SmallBroker
 from conform.twice_broker import TwiceBroker
 from waiting import until
@@ -71,17 +71,52 @@ def test_lost(storm: Path, tmp_path: Path) -> None:
         assert list((tmp_path / "instances").iterdir()) == []
 
 
-@pytest.mark.parametrize("number", [signal.SIGINT, signal.SIGTERM])
+@pytest.mark.parametrize("number", [signal.SIGINT, signal.SIGTERM, signal.SIGHUP])
 def test_signal(storm: Path, number: int) -> None:
     """After a signal, everything that exists is deleted."""
     with SmallBroker().running() as small:
-        line = command(storm, small.url, "--seconds", "20", "--answer-seconds", "1")
+        line = [*WITH_SIGNALS, *command(storm, small.url, "--seconds", "20", "--answer-seconds", "1")]
         with subprocess.Popen(line, env=ENVIRONMENT, stdout=subprocess.PIPE, text=True) as process:
             until(lambda: len(small.instances) >= 3, 30)
             process.send_signal(number)
             text, _ = process.communicate(timeout=60)
         assert process.returncode == 1
         assert "the run was ended before\n" in text
+        assert small.instances == set()
+
+
+def test_closed_terminal(storm: Path) -> None:
+    """A terminal that is closed sends SIGHUP more than once, and nobody reads the output any more. Everything is
+    deleted all the same.
+    """
+    with SmallBroker(seconds=0.1).running() as small:
+        line = [*WITH_SIGNALS, *command(storm, small.url, "--seconds", "20", "--answer-seconds", "1")]
+        with subprocess.Popen(
+            line, env=ENVIRONMENT, stdin=subprocess.DEVNULL, stdout=subprocess.PIPE, stderr=subprocess.PIPE
+        ) as process:
+            assert process.stdout is not None and process.stderr is not None
+            until(lambda: len(small.instances) >= 3, 30)
+            process.stdout.close()
+            process.stderr.close()
+            for _ in range(3):
+                process.send_signal(signal.SIGHUP)
+                time.sleep(0.2)
+            process.wait(60)
+        assert process.returncode == 1
+        assert small.instances == set()
+
+
+def test_nohup(storm: Path) -> None:
+    """With nohup, the storm goes on after SIGHUP."""
+    with SmallBroker().running() as small:
+        line = ["nohup", *command(storm, small.url, "--seconds", "1", "--instances", "5")]
+        with subprocess.Popen(
+            line, env=ENVIRONMENT, stdin=subprocess.DEVNULL, stdout=subprocess.PIPE, stderr=subprocess.DEVNULL, text=True
+        ) as process:
+            until(lambda: len(small.instances) >= 2, 30)
+            process.send_signal(signal.SIGHUP)
+            text, _ = process.communicate(timeout=60)
+        assert "the run was ended before\n" not in text and "converged" in text, text
         assert small.instances == set()
 
 

@@ -26,8 +26,8 @@ nothing exists, and answers that break the Open Service Broker API 2.17.
 
 The platform is the one of osb-platform, with a store in a temporary folder. After --seconds the faults end, and
 osb-storm waits until everything has converged. Each instance and binding has an id that begins with a random prefix,
-which is printed first. All of them are deleted at the end, also after SIGINT or SIGTERM. A second signal ends the
-deletions, too.
+which is printed first. All of them are deleted at the end, also after SIGINT, SIGTERM or SIGHUP. A second SIGINT or
+SIGTERM ends the deletions, too.
 
 To find out what exists, give --list-command. Without it, osb-storm asks the broker for each instance.
 

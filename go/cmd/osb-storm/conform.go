@@ -28,7 +28,8 @@ const conformHelp = `Send requests without faults to a broker, and compare each 
 API 2.17.
 
 Each instance and binding has an id that begins with a random prefix, which is printed first. All of
-them are deleted at the end, also after SIGINT or SIGTERM. A second signal ends the deletions, too.
+them are deleted at the end, also after SIGINT, SIGTERM or SIGHUP. A second SIGINT or SIGTERM ends the
+deletions, too.
 
 environment:
   OSB_BROKER_PASSWORD      the password, if --password-file isn't given
@@ -156,17 +157,29 @@ func waits(running context.Context, stderr io.Writer) func(line string) {
 	}
 }
 
-// untilSignals returns a context that the first SIGINT or SIGTERM ends, and one that the second one ends.
+// untilSignals returns a context that the first SIGINT, SIGTERM or SIGHUP ends, and one that the next SIGINT or SIGTERM
+// ends. A terminal that is closed sends SIGHUP several times, so no SIGHUP ends the second one. With nohup, SIGHUP ends
+// nothing.
+//
+// Until forget is called, a write to a pipe that nobody reads is an error, and doesn't end the program: ^C also ends a
+// command that reads the output.
 func untilSignals(ctx context.Context) (first, second context.Context, forget func()) {
 	first, endFirst := context.WithCancel(ctx)
 	second, endSecond := context.WithCancel(ctx)
-	signals := make(chan os.Signal, 2)
+	signals, pipes := make(chan os.Signal, 2), make(chan os.Signal, 1)
 	signal.Notify(signals, syscall.SIGINT, syscall.SIGTERM)
+	if !signal.Ignored(syscall.SIGHUP) {
+		signal.Notify(signals, syscall.SIGHUP)
+	}
+	signal.Notify(pipes, syscall.SIGPIPE)
 	go func() {
-		for _, end := range []func(){endFirst, endSecond} {
+		for {
 			select {
-			case <-signals:
-				end()
+			case it := <-signals:
+				if first.Err() != nil && it != syscall.SIGHUP {
+					endSecond()
+				}
+				endFirst()
 			case <-second.Done():
 				return
 			}
@@ -174,6 +187,7 @@ func untilSignals(ctx context.Context) (first, second context.Context, forget fu
 	}()
 	return first, second, func() {
 		signal.Stop(signals)
+		signal.Stop(pipes)
 		endFirst()
 		endSecond()
 	}
