@@ -136,6 +136,15 @@ def test_hanging_command(storm: Path) -> None:
         ]
 
 
+def test_endless_list(storm: Path) -> None:
+    """A command that prints too much is killed before the storm, and the error says what it must print."""
+    with SmallBroker().running() as small:
+        done = ran(command(storm, small.url, "--list-command", "head -c 70000000 /dev/zero; sleep 1000"))
+        assert (done.returncode, done.stderr.count("\n")) == (2, 1), done.stderr
+        assert "the command of --list-command has failed: it printed more than " in done.stderr, done.stderr
+        assert small.instances == set()
+
+
 def test_leftovers(storm: Path) -> None:
     """What can't be deleted is listed with its id, and the status says so. Nothing is tried with faults then."""
     with SmallBroker(delete=500).running() as small:

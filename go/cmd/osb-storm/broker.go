@@ -34,8 +34,8 @@ To find out what exists, give --list-command. Without it, osb-storm asks the bro
 With --journal, the platform writes its journal, which osb-audit compares with that of osb-broker. The platform then also
 deletes everything that its records name, before osb-storm deletes the rest.
 
-The commands are run by /bin/sh, and must return within a minute. A broker that is started in the foreground needs & at
-the end of its command.
+The commands are run by /bin/sh, and must return within a minute. A command that lists may print 64 MiB. A broker that
+is started in the foreground needs & at the end of its command.
 
 environment:
   OSB_BROKER_PASSWORD      the password, if --password-file isn't given
