@@ -152,8 +152,8 @@ def test_forgetful_platform(storm: Path, tmp_path: Path) -> None:
         report = json.loads((tmp_path / "json").read_text())
         assert re.findall(r"^ABANDONED: instance (\d+) \((.*?)\): it exists", text, re.M) == [("2", "mine-2")]
         assert [(it["number"], it["instance"]) for it in report["abandoned"]] == [("2", "mine-2")]
-        assert [(it["name"], it["number"], it["count"]) for it in report["broken"]] == [
-            ("mitigates-provision", "2.1", 2)
+        assert [(it["name"], it["number"], it["count"], it["numbers"]) for it in report["broken"]] == [
+            ("mitigates-provision", "2.1", 2, ["2.1", "4.1"])
         ]
         assert "mine-2" in (tmp_path / "html").read_text()
         assert (tmp_path / "again").read_text() == "2.1 answer-lost\n4.1 request-lost\n"

@@ -76,9 +76,41 @@ func WriteFindings(w io.Writer, title string, all []Finding) {
 // A Broken is a rule of the standard that a request or an answer breaks.
 type Broken struct {
 	conform.Result
-	Number string `json:"number"` // of the first such request
-	Count  int    `json:"count"`  // how many break the same rule
+	Number  string   `json:"number"`  // of the first such request
+	Count   int      `json:"count"`   // how many break the same rule
+	Numbers []string `json:"numbers"` // of all requests that have one, each once, in the order in which they were found
 }
+
+// Breaches collects what breaks the standard. The zero value is ready to use.
+type Breaches struct {
+	all   []Broken
+	at    map[string]int     // of each rule
+	known map[[2]string]bool // rules with the numbers of requests
+}
+
+// Add adds a request. number is empty if the request has none, and first is then what the report has in its place.
+func (b *Breaches) Add(failed conform.Result, number, first string) {
+	if b.at == nil {
+		b.at, b.known = map[string]int{}, map[[2]string]bool{}
+	}
+	at, isKnown := b.at[failed.Name]
+	if !isKnown {
+		if number != "" {
+			first = number
+		}
+		at, b.at[failed.Name] = len(b.all), len(b.all)
+		b.all = append(b.all, Broken{Result: failed, Number: first, Numbers: []string{}})
+	}
+	it := &b.all[at]
+	it.Count++
+	if its := [2]string{failed.Name, number}; number != "" && !b.known[its] {
+		b.known[its] = true
+		it.Numbers = append(it.Numbers, number)
+	}
+}
+
+// All returns each rule that is broken once, in the order in which they were first broken.
+func (b *Breaches) All() []Broken { return b.all }
 
 // Hidden returns the Broken without secrets.
 func (b Broken) Hidden(hide Hider) Broken {

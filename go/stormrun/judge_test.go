@@ -1,6 +1,8 @@
 package stormrun
 
 import (
+	"encoding/json"
+	"fmt"
 	"net/http"
 	"strings"
 	"testing"
@@ -115,5 +117,32 @@ func TestJudgeAtOnce(t *testing.T) {
 	after := append(atOnce, exchange("PUT", 201, `{}`, 60*ms, 65*ms), exchange("PUT", 201, `{}`, 70*ms, 75*ms))
 	if found := judge(after, nil); namesOf(found) != "provision-repeated" || found[0].Count != 1 {
 		t.Errorf("%+v", found)
+	}
+}
+
+// All requests whose answers break a rule are in the JSON by their numbers, and only the first one is in the text.
+func TestNumbers(t *testing.T) {
+	type x = [3]any
+	all := answers(x{"PUT", 201, `{}`}, x{"PUT", 201, `{}`}, x{"PUT", 200, `{}`}, x{"PUT", 201, `{}`}, x{"PUT", 201, `[]`})
+	report := emptyReport()
+	report.takeRun(&result{keys: newKeys(nil), exchanges: all, broken: judge(all, nil)})
+	written := reports(t, report)
+	var read struct {
+		Broken []struct {
+			Name    string
+			Count   int
+			Numbers []string
+		}
+	}
+	if err := json.Unmarshal([]byte(written["JSON"]), &read); err != nil {
+		t.Fatal(err)
+	}
+	wanted := "[{provision-repeated 3 [1.2 1.4 1.5]} {answers-are-objects 1 [1.5]}]"
+	if got := fmt.Sprint(read.Broken); got != wanted {
+		t.Error(got)
+	}
+	text := written["text"]
+	if !strings.Contains(text, "3 answers, the first one 1.2: ") || strings.Contains(text, "1.4") {
+		t.Error(text)
 	}
 }
