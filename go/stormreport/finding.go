@@ -194,6 +194,19 @@ func ListLines(list []faults.Numbered) []string {
 	return all
 }
 
+// Untried returns what a run with some faults hasn't tried, for people: nothing if a request had a fault, or none was
+// wanted. more says how a run gets more requests.
+func Untried(given []faults.Numbered, share float64, list []faults.Numbered, more string) []string {
+	switch {
+	case len(given) > 0 || !faults.WantsFaults(share, list):
+		return []string{}
+	case list != nil:
+		return []string{"no request had a fault. Pass the --seed and the options of the run that wrote the list of faults, or " +
+			"another list"}
+	}
+	return []string{"no request had a fault. " + more + ", or a greater number to --fault-percent"}
+}
+
 // mostUnmet is how many faults of a list are named that no request has met.
 const mostUnmet = 5
 

@@ -15,6 +15,7 @@ import (
 	"time"
 
 	"pippinterm/conform"
+	"pippinterm/faults"
 	"pippinterm/stormreport"
 )
 
@@ -134,6 +135,7 @@ func TestIsClean(t *testing.T) {
 		"stuck":   func(r *Report) { r.Stuck = []Finding{{}} },
 		"must":    func(r *Report) { r.Broken = []Broken{brokenWith(must, "")} },
 		"unknown": func(r *Report) { r.Unknown = 1 },
+		"untried": func(r *Report) { r.Untried = []string{"x"} },
 		"ended":   func(r *Report) { r.Ended = "x" }, "not converged": func(r *Report) { r.Converged = false },
 	} {
 		report := clean()
@@ -197,6 +199,58 @@ func TestUnmet(t *testing.T) {
 		if strings.Contains(text, "met no request") || form == "JSON" && !strings.Contains(text, `"unmet_faults": []`) {
 			t.Errorf("%s: %s", form, text)
 		}
+	}
+}
+
+// A storm in which no request had a fault isn't clean, unless no fault was wanted or the storm was ended. Each form says
+// what to do.
+func TestUntriedFaults(t *testing.T) {
+	list := listOf(t, "99.1 answer-lost")
+	for name, it := range map[string]struct {
+		share       float64
+		list, given []faults.Numbered
+		ended, says string
+	}{
+		"none of many": {0.4, nil, nil, "", "no request had a fault. Pass a greater number to --instances, "},
+		"none of list": {0.4, list, nil, "", "no request had a fault. Pass the --seed "},
+		"list alone":   {0, list, nil, "", "no request had a fault. Pass the --seed "},
+		"one":          {0.4, nil, list, "", ""},
+		"one of list":  {0.4, list, list, "", ""},
+		"no share":     {0, nil, nil, "", ""},
+		"empty list":   {0.4, []faults.Numbered{}, nil, "", ""},
+		"ended":        {0.4, nil, nil, "x", ""},
+	} {
+		report := emptyReport()
+		report.Converged, report.given, report.Ended = true, it.given, it.ended
+		report.takeUntried(Config{Share: it.share, List: it.list})
+		if report.IsClean() != (it.says == "" && it.ended == "") {
+			t.Errorf("%s: clean is %v", name, report.IsClean())
+		}
+		for form, text := range reports(t, report) {
+			wanted := map[string]string{
+				"JSON": "\"untried\": [\n    \"" + it.says, "text": "\nNOT TRIED: " + it.says,
+				"HTML": "<th>Wrong</th><td>NOT TRIED: " + it.says,
+			}[form]
+			if has := strings.Contains(text, wanted); has != (it.says != "") {
+				t.Errorf("%s, %s: %s", name, form, text)
+			}
+		}
+	}
+}
+
+// The storm itself counts: one whose few requests have no fault isn't clean.
+func TestStormWithoutFault(t *testing.T) {
+	t.Parallel()
+	_, url := newModel(t, false, mistakes{})
+	config := configFor(t, url)
+	config.Broker.Instances, config.Time, config.Share = 2, time.Second, 1e-9
+	report := stormed(t, config)
+	if report.IsClean() || len(report.Untried) != 1 || !report.Converged || len(report.Lost) > 0 {
+		t.Error(textOf(t, report))
+	}
+	config.Share = 0
+	if report := stormed(t, config); !report.IsClean() {
+		t.Error(textOf(t, report))
 	}
 }
 

@@ -90,6 +90,7 @@ func (s *Storm) Run(running, deleting context.Context) (*Report, error) {
 	if running.Err() != nil {
 		report.Ended, err = endedBefore, nil
 	}
+	report.takeUntried(s.config)
 	return report, err
 }
 

@@ -38,8 +38,8 @@ environment:
   OSB_BROKER_PASSWORD      the password, if --password-file isn't given
 
 exit status: 0 nothing was abandoned; 1 something was abandoned, a record was false, not everything converged, a
-request broke a MUST, no request came, or a signal ended the run; 2 change something first: an argument or a file; 70
-any other error`
+request broke a MUST, no request came, no request had a fault though --fault-percent or --faults asks for some, or a
+signal ended the run; 2 change something first: an argument or a file; 70 any other error`
 
 func platformCommand(o *outcome) *cobra.Command {
 	s := &platformSettings{}
