@@ -69,7 +69,7 @@ func (s *Storm) report(found *result) *Report {
 		r.Broken = append(r.Broken, it.Hidden(hide))
 	}
 	for _, it := range found.failed {
-		r.Failed = append(r.Failed, hide.In(conform.Printable(it)))
+		r.Failed = append(r.Failed, conform.Printable(hide.In(it)))
 	}
 	if r.Ended == "" {
 		r.Untried = stormreport.Untried(r.given, s.config.Share, s.config.List,

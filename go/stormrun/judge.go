@@ -18,13 +18,14 @@ import (
 //
 // A 410 to a deletion breaks a rule only if the thing exists in the end. Else the broker may have carried out this very
 // deletion before it answered: another of its workers has taken it up, and the request has found nothing any more.
-func judge(exchanges []faults.Exchange, differences []Difference) []Broken {
+func judge(exchanges []faults.Exchange, differences []Difference, hide stormreport.Hider) []Broken {
 	var found stormreport.Breaches
 	lost := map[Key]bool{}
 	for _, it := range differences {
 		lost[it.Key] = lost[it.Key] || it.Kind == Lost
 	}
 	for _, it := range deliveriesOf(exchanges) {
+		it.Hide = hide
 		for _, failed := range it.judge(lost[it.key]) {
 			found.Add(failed, it.number.String(), "")
 		}

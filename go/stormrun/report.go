@@ -114,7 +114,7 @@ func (r *Report) takeRun(found *result) {
 		r.Broken = append(r.Broken, it.Hidden(hide))
 	}
 	for _, it := range found.failed {
-		r.Failed = append(r.Failed, hide.In(conform.Printable(it)))
+		r.Failed = append(r.Failed, conform.Printable(hide.In(it)))
 	}
 	for _, it := range found.leftovers {
 		it.Reason = hide.In(it.Reason)

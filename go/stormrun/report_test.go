@@ -2,6 +2,7 @@ package stormrun
 
 import (
 	"bytes"
+	"context"
 	"encoding/base64"
 	"encoding/json"
 	"encoding/xml"
@@ -9,6 +10,8 @@ import (
 	"fmt"
 	"html"
 	"io"
+	"net/http"
+	"net/http/httptest"
 	"regexp"
 	"strings"
 	"testing"
@@ -111,6 +114,55 @@ func TestNoSecrets(t *testing.T) {
 	if err := json.Unmarshal([]byte(reports(t, report)["JSON"]), &read); err != nil || len(read["lost"].([]any)) == 0 {
 		t.Errorf("%v", err)
 	}
+}
+
+// If the trial fails, neither the error nor what is left has the password that the broker repeats.
+func TestNoSecretsInErrors(t *testing.T) {
+	t.Parallel()
+	talk := func(w http.ResponseWriter, r *http.Request) {
+		w.Header().Set("Content-Type", "application/json")
+		status, body := 500, object{"description": "who sends " + r.Header.Get("Authorization") + ", which is " + password + "?"}
+		if r.URL.Path == "/v2/catalog" {
+			status, body = 200, catalogue(true)
+		}
+		w.WriteHeader(status)
+		_ = json.NewEncoder(w).Encode(body)
+	}
+	server := httptest.NewServer(http.HandlerFunc(talk))
+	defer server.Close()
+	config := configFor(t, server.URL)
+	config.Broker.Pause = time.Millisecond
+	config.Commands.List = "echo " + password + " >&2; exit 3"
+	storm, err := New(config)
+	if err != nil {
+		t.Fatal(err)
+	}
+	report, failed := storm.Run(context.Background(), context.Background())
+	if !errors.Is(failed, ErrTrial) || len(report.Leftovers) != 1 {
+		t.Fatalf("%v %v", failed, report.Leftovers)
+	}
+	m, url := newModel(t, false, mistakes{})
+	config.Broker.URL = url
+	if storm, err = New(config); err != nil {
+		t.Fatal(err)
+	}
+	_, listed := storm.Run(context.Background(), context.Background())
+	if !errors.Is(listed, ErrList) || len(m.left(t)) > 0 {
+		t.Fatalf("%v", listed)
+	}
+	login := base64.StdEncoding.EncodeToString([]byte("platform:" + password))
+	for _, it := range append(mapOf(reports(t, report)), failed.Error(), listed.Error(), report.Leftovers[0].String()) {
+		if strings.Contains(it, password) || strings.Contains(it, login[:12]) || !strings.Contains(it, stormreport.Hidden) {
+			t.Error(it)
+		}
+	}
+}
+
+func mapOf(all map[string]string) (values []string) {
+	for _, it := range all {
+		values = append(values, it)
+	}
+	return values
 }
 
 // hasBinding returns whether a binding was lost.
