@@ -85,6 +85,28 @@ def test_signal(storm: Path, number: int) -> None:
         assert small.instances == set()
 
 
+def test_signal_and_unanswered_creations(storm: Path) -> None:
+    """After a signal, what exists is deleted long before the last moment at which an unanswered creation may arrive. The
+    program says until when it waits, and a second signal ends that.
+    """
+    with SmallBroker().running() as small:
+        line = command(storm, small.url, "--seconds", "20", "--answer-seconds", "30", "--fault-percent", "100")
+        with subprocess.Popen(
+            line, env=ENVIRONMENT, stdin=subprocess.DEVNULL, stdout=subprocess.PIPE, stderr=subprocess.PIPE, text=True
+        ) as process:
+            until(lambda: len(small.instances) >= 5, 30)
+            process.send_signal(signal.SIGINT)
+            until(lambda: not small.instances, 20)
+            assert process.stderr is not None
+            waits = process.stderr.readline()
+            process.send_signal(signal.SIGINT)
+            text, _ = process.communicate(timeout=10)
+    assert re.match(r"osb-storm: \d+ of \d+ .* are deleted\. Creations that weren't answered: [1-9]", waits), waits
+    assert waits.endswith(" A second SIGINT or SIGTERM ends the deletions.\n"), waits
+    assert process.returncode == 3
+    assert set(re.findall("^not deleted: .*: (.*)", text, re.M)) == {"a creation that wasn't answered may still arrive"}
+
+
 def test_closed_terminal(storm: Path) -> None:
     """A terminal that is closed sends SIGHUP more than once, and nobody reads the output any more. Everything is
     deleted all the same.
