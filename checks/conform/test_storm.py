@@ -86,13 +86,18 @@ def test_signal(storm: Path, number: int) -> None:
 
 
 def test_signal_and_unanswered_creations(storm: Path) -> None:
-    """After a signal, what exists is deleted long before the last moment at which an unanswered creation may arrive. The
-    program says until when it waits, and a second signal ends that.
+    """After a signal, what exists is deleted long before the last moment at which an unanswered creation may arrive.
+    The program says until when it waits, and a second signal ends that.
     """
     with SmallBroker().running() as small:
         line = command(storm, small.url, "--seconds", "20", "--answer-seconds", "30", "--fault-percent", "100")
         with subprocess.Popen(
-            line, env=ENVIRONMENT, stdin=subprocess.DEVNULL, stdout=subprocess.PIPE, stderr=subprocess.PIPE, text=True
+            line,
+            env=ENVIRONMENT,
+            stdin=subprocess.DEVNULL,
+            stdout=subprocess.PIPE,
+            stderr=subprocess.PIPE,
+            text=True,
         ) as process:
             until(lambda: len(small.instances) >= 5, 30)
             process.send_signal(signal.SIGINT)
@@ -133,7 +138,12 @@ def test_nohup(storm: Path) -> None:
     with SmallBroker().running() as small:
         line = ["nohup", *command(storm, small.url, "--seconds", "1", "--instances", "5")]
         with subprocess.Popen(
-            line, env=ENVIRONMENT, stdin=subprocess.DEVNULL, stdout=subprocess.PIPE, stderr=subprocess.DEVNULL, text=True
+            line,
+            env=ENVIRONMENT,
+            stdin=subprocess.DEVNULL,
+            stdout=subprocess.PIPE,
+            stderr=subprocess.DEVNULL,
+            text=True,
         ) as process:
             until(lambda: len(small.instances) >= 2, 30)
             process.send_signal(signal.SIGHUP)
