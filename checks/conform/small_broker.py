@@ -22,9 +22,11 @@ _CATALOG: dict[str, object] = {"services": [_SERVICE]}
 class SmallBroker:
     """The broker, at `url` while `running`."""
 
-    def __init__(self, delete: int = 200, seconds: float = 0.0) -> None:
-        """`delete`: the status of each deletion of what exists. `seconds`: how long each answer takes."""
-        self.delete, self.seconds = delete, seconds
+    def __init__(self, delete: int = 200, seconds: float = 0.0, talks: bool = False) -> None:
+        """`delete`: the status of each deletion of what exists. `seconds`: how long each answer takes. `talks`: its
+        errors repeat the login.
+        """
+        self.delete, self.seconds, self.talks = delete, seconds, talks
         self.instances: set[str] = set()
         self.url = ""
 
@@ -57,6 +59,8 @@ class SmallBroker:
 
             def _answer(self, status: int, body: object) -> None:
                 time.sleep(broker.seconds)
+                if broker.talks and status >= 400:
+                    body = {"description": f"who is {self.headers['Authorization']}?"}
                 text = json.dumps(body).encode()
                 self.send_response(status)
                 self.send_header("Content-Type", "application/json")

@@ -10,6 +10,7 @@ from pathlib import Path
 
 import pytest
 from conform.auditing import audited
+from conform.login import WITH_SIGNALS
 from waiting import until
 
 pytestmark = pytest.mark.slow
@@ -130,12 +131,13 @@ def test_odd_end(storm: Path, broker: Path, platform: Path, replay: Path, tmp_pa
     assert audited(journal, replay)["instances"] > 30
 
 
-def test_signal(storm: Path, broker: Path, platform: Path, tmp_path: Path) -> None:
+@pytest.mark.parametrize("number", [signal.SIGINT, signal.SIGHUP])
+def test_signal(storm: Path, broker: Path, platform: Path, tmp_path: Path, number: int) -> None:
     """After a signal both programs end, and nothing is left."""
-    line = [str(storm), "both", "--broker-program", str(broker), "--platform-program", str(platform)]
+    line = [*WITH_SIGNALS, str(storm), "both", "--broker-program", str(broker), "--platform-program", str(platform)]
     with subprocess.Popen(line, env={**os.environ, "TMPDIR": str(tmp_path)}, stdout=subprocess.PIPE, text=True) as it:
         time.sleep(4)
-        it.send_signal(signal.SIGINT)
+        it.send_signal(number)
         text, _ = it.communicate(timeout=60)
     assert it.returncode == 1 and "the run was ended before\n" in text
     assert list(tmp_path.iterdir()) == []

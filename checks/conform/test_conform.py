@@ -9,7 +9,7 @@ import subprocess
 from pathlib import Path
 
 import pytest
-from conform.login import ENVIRONMENT
+from conform.login import ENVIRONMENT, WITH_SIGNALS
 from conform.small_broker import SmallBroker
 from waiting import until
 
@@ -45,11 +45,11 @@ def test_decided_deviation(storm: Path, served: str) -> None:
     assert conform(storm, served, *arguments, "--except", DECIDED).returncode == 0
 
 
-@pytest.mark.parametrize("number", [signal.SIGINT, signal.SIGTERM])
+@pytest.mark.parametrize("number", [signal.SIGINT, signal.SIGTERM, signal.SIGHUP])
 def test_signal(storm: Path, number: int) -> None:
     """After a signal no further case is tried, and everything that exists is deleted."""
     with SmallBroker(seconds=0.03).running() as small:
-        line = [str(storm), "conform", "--url", small.url, "--poll-seconds", "0.01"]
+        line = [*WITH_SIGNALS, str(storm), "conform", "--url", small.url, "--poll-seconds", "0.01"]
         with subprocess.Popen(line, env=ENVIRONMENT, stdout=subprocess.PIPE, text=True) as process:
             until(lambda: len(small.instances) >= 3, 30)
             process.send_signal(number)

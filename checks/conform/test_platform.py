@@ -14,7 +14,7 @@ from pathlib import Path
 
 import pytest
 from conform.auditing import audited
-from conform.login import ENVIRONMENT
+from conform.login import ENVIRONMENT, WITH_SIGNALS
 from waiting import until
 
 pytestmark = pytest.mark.slow
@@ -26,7 +26,7 @@ SERVICE, PLAN = "00000000-0000-0000-0000-0000000005a0", "00000000-0000-0000-0000
 @contextmanager
 def storming(storm: Path, *arguments: str, **environment: str) -> Iterator[tuple[subprocess.Popen[str], int]]:
     """The program, and the port at which its broker listens. It is ended in the end, if it runs then."""
-    line = [str(storm), "platform", "--listen", "127.0.0.1:0", *SHORT, *arguments]
+    line = [*WITH_SIGNALS, str(storm), "platform", "--listen", "127.0.0.1:0", *SHORT, *arguments]
     process = subprocess.Popen(
         line,
         env={**ENVIRONMENT, **environment},
@@ -152,8 +152,8 @@ def test_forgetful_platform(storm: Path, tmp_path: Path) -> None:
         report = json.loads((tmp_path / "json").read_text())
         assert re.findall(r"^ABANDONED: instance (\d+) \((.*?)\): it exists", text, re.M) == [("2", "mine-2")]
         assert [(it["number"], it["instance"]) for it in report["abandoned"]] == [("2", "mine-2")]
-        assert [(it["name"], it["number"], it["count"]) for it in report["broken"]] == [
-            ("mitigates-provision", "2.1", 2)
+        assert [(it["name"], it["number"], it["count"], it["numbers"]) for it in report["broken"]] == [
+            ("mitigates-provision", "2.1", 2, ["2.1", "4.1"])
         ]
         assert "mine-2" in (tmp_path / "html").read_text()
         assert (tmp_path / "again").read_text() == "2.1 answer-lost\n4.1 request-lost\n"
@@ -173,7 +173,7 @@ def test_must(storm: Path) -> None:
     assert "EXISTS" in text and "instance 1 (mine): The platform's last request: 1.1 (PUT) got status 201" in text
 
 
-@pytest.mark.parametrize("number", [signal.SIGINT, signal.SIGTERM])
+@pytest.mark.parametrize("number", [signal.SIGINT, signal.SIGTERM, signal.SIGHUP])
 def test_signal(storm: Path, tmp_path: Path, number: int) -> None:
     """After a signal the run ends, and nothing of the broker is left."""
     with storming(storm, "--fault-percent", "0", "--seconds", "60", TMPDIR=str(tmp_path)) as (process, port):

@@ -1,6 +1,7 @@
 """The files of the reports of osb-storm: a wrong name ends the program before the run, and no report is lost later."""
 from __future__ import annotations
 
+import base64
 import json
 import re
 import socket
@@ -96,6 +97,18 @@ def test_all_reports_are_written(storm: Path, tmp_path: Path) -> None:
             assert files["--html"].read_text().rstrip().endswith("</html>")
         if full != "--faults-to":
             assert re.fullmatch(r"(\d+\.\d+ [a-z-]+\n)+", files["--faults-to"].read_text())
+
+
+@pytest.mark.parametrize("command", ["conform", "broker"])
+def test_no_password(storm: Path, tmp_path: Path, command: str) -> None:
+    """Neither the reports nor the errors have the login, even if the broker repeats it and nothing can be deleted."""
+    login = base64.b64encode(b"platform:secret").decode()
+    files = ["--json", tmp_path / "json"]
+    with SmallBroker(delete=500, talks=True).running() as small:
+        done = ran(storm, command, "--url", small.url, "--poll-seconds", "0.01", *files)
+    assert done.returncode == 3, done.stdout + done.stderr
+    text = done.stdout + done.stderr + ((tmp_path / "json").read_text() if command == "conform" else "")
+    assert "who is Basic (left out)" in done.stdout and login not in text and "secret" not in text, text
 
 
 def test_nothing_found_and_no_report(storm: Path, served: str) -> None:

@@ -11,7 +11,7 @@ from pathlib import Path
 
 import pytest
 from conform.auditing import audited
-from conform.login import ENVIRONMENT
+from conform.login import ENVIRONMENT, WITH_SIGNALS
 from conform.small_broker import SmallBroker
 from conform.twice_broker import TwiceBroker
 from waiting import until
@@ -71,17 +71,84 @@ def test_lost(storm: Path, tmp_path: Path) -> None:
         assert list((tmp_path / "instances").iterdir()) == []
 
 
-@pytest.mark.parametrize("number", [signal.SIGINT, signal.SIGTERM])
+@pytest.mark.parametrize("number", [signal.SIGINT, signal.SIGTERM, signal.SIGHUP])
 def test_signal(storm: Path, number: int) -> None:
     """After a signal, everything that exists is deleted."""
     with SmallBroker().running() as small:
-        line = command(storm, small.url, "--seconds", "20", "--answer-seconds", "1")
+        line = [*WITH_SIGNALS, *command(storm, small.url, "--seconds", "20", "--answer-seconds", "1")]
         with subprocess.Popen(line, env=ENVIRONMENT, stdout=subprocess.PIPE, text=True) as process:
             until(lambda: len(small.instances) >= 3, 30)
             process.send_signal(number)
             text, _ = process.communicate(timeout=60)
         assert process.returncode == 1
         assert "the run was ended before\n" in text
+        assert small.instances == set()
+
+
+def test_signal_and_unanswered_creations(storm: Path) -> None:
+    """After a signal, what exists is deleted long before the last moment at which an unanswered creation may arrive.
+    The program says until when it waits, and a second signal ends that.
+    """
+    with SmallBroker().running() as small:
+        line = command(storm, small.url, "--seconds", "20", "--answer-seconds", "30", "--fault-percent", "100")
+        with subprocess.Popen(
+            line,
+            env=ENVIRONMENT,
+            stdin=subprocess.DEVNULL,
+            stdout=subprocess.PIPE,
+            stderr=subprocess.PIPE,
+            text=True,
+        ) as process:
+            until(lambda: len(small.instances) >= 5, 30)
+            process.send_signal(signal.SIGINT)
+            until(lambda: not small.instances, 20)
+            assert process.stderr is not None
+            waits = process.stderr.readline()
+            process.send_signal(signal.SIGINT)
+            text, _ = process.communicate(timeout=10)
+    assert re.match(r"osb-storm: \d+ of \d+ .* are deleted\. Creations that weren't answered: [1-9]", waits), waits
+    assert waits.endswith(" A second SIGINT or SIGTERM ends the deletions.\n"), waits
+    assert process.returncode == 3
+    assert set(re.findall("^not deleted: .*: (.*)", text, re.M)) == {"a creation that wasn't answered may still arrive"}
+
+
+def test_closed_terminal(storm: Path) -> None:
+    """A terminal that is closed sends SIGHUP more than once, and nobody reads the output any more. Everything is
+    deleted all the same.
+    """
+    with SmallBroker(seconds=0.1).running() as small:
+        line = [*WITH_SIGNALS, *command(storm, small.url, "--seconds", "20", "--answer-seconds", "1")]
+        with subprocess.Popen(
+            line, env=ENVIRONMENT, stdin=subprocess.DEVNULL, stdout=subprocess.PIPE, stderr=subprocess.PIPE
+        ) as process:
+            assert process.stdout is not None and process.stderr is not None
+            until(lambda: len(small.instances) >= 3, 30)
+            process.stdout.close()
+            process.stderr.close()
+            for _ in range(3):
+                process.send_signal(signal.SIGHUP)
+                time.sleep(0.2)
+            process.wait(60)
+        assert process.returncode == 1
+        assert small.instances == set()
+
+
+def test_nohup(storm: Path) -> None:
+    """With nohup, the storm goes on after SIGHUP."""
+    with SmallBroker().running() as small:
+        line = ["nohup", *command(storm, small.url, "--seconds", "1", "--instances", "5")]
+        with subprocess.Popen(
+            line,
+            env=ENVIRONMENT,
+            stdin=subprocess.DEVNULL,
+            stdout=subprocess.PIPE,
+            stderr=subprocess.DEVNULL,
+            text=True,
+        ) as process:
+            until(lambda: len(small.instances) >= 2, 30)
+            process.send_signal(signal.SIGHUP)
+            text, _ = process.communicate(timeout=60)
+        assert "the run was ended before\n" not in text and "converged" in text, text
         assert small.instances == set()
 
 
@@ -99,6 +166,15 @@ def test_hanging_command(storm: Path) -> None:
         assert [f"not deleted: instance {it}: the time for deletions was over\n" in text for it in small.instances] == [
             True
         ]
+
+
+def test_endless_list(storm: Path) -> None:
+    """A command that prints too much is killed before the storm, and the error says what it must print."""
+    with SmallBroker().running() as small:
+        done = ran(command(storm, small.url, "--list-command", "head -c 70000000 /dev/zero; sleep 1000"))
+        assert (done.returncode, done.stderr.count("\n")) == (2, 1), done.stderr
+        assert "the command of --list-command has failed: it printed more than " in done.stderr, done.stderr
+        assert small.instances == set()
 
 
 def test_leftovers(storm: Path) -> None:

@@ -1,7 +1,5 @@
 package conform
 
-import "encoding/base64"
-
 const (
 	sectionVersion = "API Version Header"
 	sectionAccess  = "Platform to Service Broker Authentication"
@@ -59,9 +57,11 @@ func (r *Runner) accessToInstances() {
 }
 
 func (r *Runner) wrongPassword() map[string]string {
-	login := r.config.User + ":" + r.config.Password + "-wrong"
-	return map[string]string{"Authorization": "Basic " + base64.StdEncoding.EncodeToString([]byte(login))}
+	return map[string]string{"Authorization": "Basic " + basic(r.config.User, wrong(r.config.Password))}
 }
+
+// wrong returns a wrong password.
+func wrong(password string) string { return password + "-wrong" }
 
 // hasPlan returns whether there is a plan to order. If there is none, the rest of the scenario isn't run.
 func (r *Runner) hasPlan() bool {

@@ -18,89 +18,217 @@ type Leftover struct {
 // count.
 const mostTries = 5
 
-// CleanUp deletes everything that Run may have created, bindings first, and waits for asynchronous deletions. It
-// returns what couldn't be deleted. When ctx is done, it stops, and returns the rest. It may be called again.
+// quietTime is how long CleanUp goes on before it reports that deletions take long.
+const quietTime = 2 * time.Second
+
+// The reasons for a leftover while its deletion goes on.
+const (
+	reasonTime    = "the time for deletions was over"
+	reasonArrives = "a creation that wasn't answered may still arrive"
+	reasonRuns    = "the deletion is still in progress"
+)
+
+// CleanUp deletes everything that Run may have created, bindings before their instances. It returns what couldn't be
+// deleted. When ctx is done, it stops, and returns the rest. It may be called again.
 //
-// If a creation wasn't answered, it may still arrive. CleanUp repeats its deletion for twice the time of a request.
+// CleanUp first sends each deletion once. Then it polls asynchronous deletions, and repeats those that were rejected or
+// not answered. If a creation wasn't answered, it may still arrive: CleanUp repeats its deletion for twice the time of a
+// request. If it has to wait, it reports once for what, and until when.
 func (r *Runner) CleanUp(ctx context.Context) []Leftover {
-	left := []Leftover{}
-	late := time.Now().Add(2 * r.config.RequestTime)
+	c := &cleaning{Runner: r, begun: time.Now(), tell: r.config.Tell, bindings: map[string][]*removal{}}
+	c.late = c.begun.Add(2 * r.config.RequestTime)
 	for _, it := range r.ledger.rest() {
-		one, cancel := context.WithTimeout(ctx, r.config.OperationTime+2*r.config.RequestTime)
-		reason := r.remove(one, it, late)
-		cancel()
-		if reason != "" {
-			left = append(left, Leftover{Instance: it.instance, Binding: it.binding, Reason: reason})
-			continue
+		made := &removal{entry: it, reason: reasonTime}
+		c.all = append(c.all, made)
+		if it.binding != "" {
+			c.bindings[it.instance] = append(c.bindings[it.instance], made)
 		}
-		it.unanswered = false
-		r.ledger.gone(it.key)
+	}
+	for c.pass(ctx); ctx.Err() == nil && c.isOpen(); c.pass(ctx) {
+		r.pause(ctx)
+	}
+	left := []Leftover{}
+	for _, it := range c.all {
+		if it.state != removed {
+			left = append(left, Leftover{Instance: it.instance, Binding: it.binding, Reason: it.reason})
+		}
 	}
 	return left
 }
 
-// remove deletes an entry. Until late, a creation that wasn't answered may arrive. It returns why that failed, or "".
-func (r *Runner) remove(ctx context.Context, it *entry, late time.Time) string {
-	reason := "the time for deletions was over"
-	for tries, at := 0, 0; tries < mostTries && ctx.Err() == nil; {
-		x := r.client.send(ctx, deletion(it.key, it.pairs[at], true))
-		done, problem := r.removed(ctx, it, at, x)
-		switch {
-		case done && (!it.unanswered || time.Now().After(late)):
-			return ""
-		case done:
-			reason = "a creation that wasn't answered may still arrive"
-		case x.is(400) && at+1 < len(it.pairs):
-			at++
-			continue
-		case problem != "":
-			if ctx.Err() == nil || x.err == nil {
-				reason = problem
-			}
-			if !x.hasError("ConcurrencyError") {
-				tries++
-				break
-			}
-			// Some brokers go on with an operation only once they are polled.
-			r.client.send(ctx, poll(it.key, it.pairs[at], ""))
-		}
-		r.pause(ctx)
-	}
-	return reason
+// A removal is the deletion of an entry.
+type removal struct {
+	*entry
+	state     removalState
+	reason    string    // why it isn't deleted, or not yet
+	until     time.Time // when its time is over; zero before its first request
+	sent      time.Time // the last deletion
+	at        int       // the pair of the next request
+	tries     int       // deletions that were rejected or not answered
+	isPolled  bool      // an asynchronous deletion is in progress
+	operation string    // of this deletion
+	silent    int       // polls of it without a state
 }
 
-// removed returns whether an answer to a deletion means that nothing is left, and else what is wrong.
-func (r *Runner) removed(ctx context.Context, it *entry, at int, x *exchange) (bool, string) {
+// A removalState is how far a removal is.
+type removalState int
+
+const (
+	pending removalState = iota
+	gone                 // a deletion has succeeded, and a creation may still arrive
+	removed
+	failed // it was tried for long enough
+)
+
+// A cleaning is one run of CleanUp.
+type cleaning struct {
+	*Runner
+	all         []*removal
+	bindings    map[string][]*removal // of each instance
+	begun, late time.Time             // until late, a creation that wasn't answered may arrive
+	tell        func(string)          // nil once it was called
+}
+
+// pass sends one request for each removal that isn't over. An instance waits until its bindings are gone.
+func (c *cleaning) pass(ctx context.Context) {
+	for _, it := range c.all {
+		if ctx.Err() == nil && (it.state == gone || it.state == pending && !c.hasPending(it)) {
+			c.step(ctx, it)
+			c.announce(ctx, false)
+		}
+	}
+	c.announce(ctx, true)
+}
+
+// hasPending returns whether a binding of an instance isn't deleted yet.
+func (c *cleaning) hasPending(of *removal) bool {
+	if of.binding != "" {
+		return false
+	}
+	for _, it := range c.bindings[of.instance] {
+		if it.state == pending {
+			return true
+		}
+	}
+	return false
+}
+
+func (c *cleaning) isOpen() bool { return c.count(pending)+c.count(gone) > 0 }
+
+func (c *cleaning) count(state removalState) (count int) {
+	for _, it := range c.all {
+		if it.state == state {
+			count++
+		}
+	}
+	return count
+}
+
+// step sends the next request for a removal.
+func (c *cleaning) step(ctx context.Context, it *removal) {
+	if it.until.IsZero() {
+		it.until = time.Now().Add(c.config.OperationTime + 2*c.config.RequestTime)
+	}
+	one, cancel := context.WithDeadline(ctx, it.until)
+	defer cancel()
+	if it.isPolled {
+		c.pollDeletion(one, it)
+	} else {
+		c.sendDeletion(one, it)
+	}
+	if it.state == pending && (it.tries == mostTries || !time.Now().Before(it.until)) {
+		it.state = failed
+	}
+}
+
+// sendDeletion sends a deletion.
+func (c *cleaning) sendDeletion(ctx context.Context, it *removal) {
+	it.sent = time.Now()
+	x := c.client.send(ctx, deletion(it.key, it.pairs[it.at], true))
+	for x.is(400) && !it.rejected && it.at+1 < len(it.pairs) {
+		it.at++
+		x = c.client.send(ctx, deletion(it.key, it.pairs[it.at], true))
+	}
 	switch {
+	case x.err != nil && ctx.Err() != nil: // it was broken off, which says nothing
 	case x.err != nil:
-		return false, "the deletion has no answer: " + x.came()
-	case x.is(200, 410):
-		return true, ""
+		it.fails("the deletion has no answer: " + x.came())
+	case x.is(200, 410), it.rejected && x.is(400, 401, 403, 404, 405): // if it was rejected, it was never created
+		c.deleted(it)
 	case x.is(202):
-		return r.deleted(ctx, it, at, x.string("operation"))
-	case it.rejected && x.is(400, 401, 403, 404, 405):
-		return true, "" // it was never created
+		it.isPolled, it.operation, it.silent, it.reason = true, x.string("operation"), 0, reasonRuns
+	case x.hasError("ConcurrencyError"):
+		it.reason = "the deletion was answered with " + x.came()
+		// Some brokers go on with an operation only once they are polled.
+		c.client.send(ctx, poll(it.key, it.pairs[it.at], ""))
+	default:
+		it.fails("the deletion was answered with " + x.came())
 	}
-	return false, "the deletion was answered with " + x.came()
 }
 
-// deleted polls an asynchronous deletion until its end.
-func (r *Runner) deleted(ctx context.Context, it *entry, at int, operation string) (bool, string) {
-	problem := "the deletion is still in progress"
-	for silent := 0; ctx.Err() == nil && silent < mostTries; r.pause(ctx) {
-		x := r.client.send(ctx, poll(it.key, it.pairs[at], operation))
-		state := x.string("state")
-		switch {
-		case x.is(410), x.is(200) && state == "succeeded":
-			return true, ""
-		case x.is(200) && state == "failed":
-			return false, "the deletion has failed: " + x.came()
-		case !x.is(200) && ctx.Err() == nil:
-			silent++
-			problem = "the last operation was answered with " + x.came()
+// pollDeletion polls an asynchronous deletion.
+func (c *cleaning) pollDeletion(ctx context.Context, it *removal) {
+	x := c.client.send(ctx, poll(it.key, it.pairs[it.at], it.operation))
+	state := x.string("state")
+	switch {
+	case x.is(410), x.is(200) && state == "succeeded":
+		c.deleted(it)
+	case x.is(200) && state == "failed":
+		it.fails("the deletion has failed: " + x.came())
+	case !x.is(200) && ctx.Err() == nil:
+		it.reason = "the last operation was answered with " + x.came()
+		if it.silent++; it.silent == mostTries {
+			it.fails(it.reason)
 		}
 	}
-	return false, problem
+}
+
+// deleted notes that a deletion has succeeded. If a creation may still arrive, the deletion is repeated.
+func (c *cleaning) deleted(it *removal) {
+	it.isPolled, it.tries = false, 0
+	if it.unanswered && it.sent.Before(c.late) {
+		it.state, it.reason = gone, reasonArrives
+		it.until = c.late.Add(c.config.OperationTime + 2*c.config.RequestTime)
+		return
+	}
+	it.state, it.unanswered = removed, false
+	c.ledger.gone(it.key)
+}
+
+// fails notes why a deletion hasn't succeeded. It is sent again.
+func (it *removal) fails(reason string) {
+	it.state, it.isPolled, it.reason = pending, false, reason
+	it.tries++
+}
+
+// announce reports once for what CleanUp waits, and until when: creations that may still arrive after the first pass, and
+// deletions that take long after a while. isWhole is whether a pass has ended.
+func (c *cleaning) announce(ctx context.Context, isWhole bool) {
+	isLong := time.Since(c.begun) > quietTime
+	if c.tell == nil || ctx.Err() != nil || !isWhole && !isLong {
+		return
+	}
+	open, arriving := c.count(pending), c.count(gone)
+	if open+arriving == 0 || arriving == 0 && !isLong {
+		return
+	}
+	end := func(until time.Time) string {
+		if bound, has := ctx.Deadline(); has && bound.Before(until) {
+			until = bound
+		}
+		return until.Format("15:04:05")
+	}
+	line := fmt.Sprintf("%d of %d instances and bindings are deleted.", c.count(removed)+arriving, len(c.all))
+	if arriving > 0 {
+		line += fmt.Sprintf(" Creations that weren't answered: %d. They may still arrive, so their deletions are repeated until %s.",
+			arriving, end(c.late))
+	}
+	if open > 0 {
+		line += fmt.Sprintf(" Deletions that haven't succeeded yet: %d. They go on until %s at the latest.",
+			open, end(time.Now().Add(c.config.OperationTime+2*c.config.RequestTime)))
+	}
+	c.tell(line)
+	c.tell = nil
 }
 
 func deletion(k key, p pair, async bool) request {

@@ -3,6 +3,7 @@ package conform
 import (
 	"context"
 	"errors"
+	"regexp"
 	"strings"
 	"sync/atomic"
 	"testing"
@@ -107,6 +108,105 @@ func TestHangingBroker(t *testing.T) {
 	}
 	if m.count == 0 {
 		t.Error("no creation has arrived")
+	}
+}
+
+// owing returns a Runner that owes instances at a model: first one whose creation wasn't answered and that doesn't exist,
+// and then some that exist.
+func owing(t *testing.T, m *model, change func(*Config), exist ...string) *Runner {
+	t.Helper()
+	c := configFor(served(t, m))
+	change(&c)
+	r := runnerFor(t, c)
+	if _, err := r.Open(context.Background()); err != nil {
+		t.Fatal(err)
+	}
+	r.Owe(Owed{Instance: "late", Unanswered: true})
+	for _, it := range exist {
+		m.lives[key{instance: it}] = &life{state: "ready", asked: object{"plan": "a"}}
+		r.Owe(Owed{Instance: it})
+	}
+	return r
+}
+
+// What exists is deleted at once, even if a creation before it wasn't answered. CleanUp reports for what it waits, and
+// deletes what arrives until then.
+func TestUnansweredKeepsNothing(t *testing.T) {
+	for _, async := range []bool{false, true} {
+		m, told := newModel(async), make(chan string, 10)
+		r := owing(t, m, func(c *Config) {
+			c.RequestTime, c.Pause, c.Tell = time.Second, 10*time.Millisecond, func(line string) { told <- line }
+		}, "one", "two")
+		begun, left := time.Now(), make(chan []Leftover, 1)
+		go func() { left <- r.CleanUp(context.Background()) }()
+		for m.left() > 0 && time.Since(begun) < 10*time.Second {
+			time.Sleep(time.Millisecond)
+		}
+		if took := time.Since(begun); took >= time.Second {
+			t.Errorf("async %v: what exists was deleted after %v", async, took)
+		}
+		m.turn.Lock()
+		m.lives[key{instance: "late"}] = &life{state: "ready", asked: object{"plan": "a"}}
+		m.turn.Unlock()
+		rest := <-left
+		if took := time.Since(begun); took < 2*time.Second || len(rest) > 0 || m.left() > 0 {
+			t.Errorf("async %v: %v are left after %v, and %d exist", async, rest, took, m.left())
+		}
+		wanted := regexp.MustCompile(`^[13] of 3 .* are deleted\. Creations .*: 1\. They may still arrive, .* until (\d\d:\d\d:\d\d)\.`)
+		if len(told) != 1 {
+			t.Fatalf("async %v: %d lines", async, len(told))
+		}
+		line := <-told
+		found, end := wanted.FindStringSubmatch(line), begun.Add(2*time.Second)
+		if found == nil || found[1] != end.Format("15:04:05") && found[1] != end.Add(time.Second).Format("15:04:05") {
+			t.Errorf("async %v: %s, and not %v", async, line, end)
+		}
+	}
+}
+
+// If CleanUp is ended while it waits, nothing is left but what may still arrive.
+func TestEndedWait(t *testing.T) {
+	ctx, end := context.WithTimeout(context.Background(), 5*time.Second)
+	defer end()
+	m := newModel(false)
+	r := owing(t, m, func(c *Config) { c.Tell = func(string) { end() } }, "one", "two")
+	left := r.CleanUp(ctx)
+	if len(left) != 1 || left[0].Instance != "late" || !strings.Contains(left[0].Reason, "may still arrive") || m.left() > 0 {
+		t.Errorf("%v are left, and %d exist", left, m.left())
+	}
+}
+
+// A deletion that was answered before the last moment at which a creation may arrive is sent once more after it.
+func TestLastDeletion(t *testing.T) {
+	m, begun := newModel(false), time.Now()
+	var last atomic.Int64
+	m.hold = func(c *call) {
+		if c.kind == "delete" {
+			last.Store(int64(time.Since(begun)))
+			time.Sleep(150 * time.Millisecond)
+		}
+	}
+	r := owing(t, m, func(c *Config) { c.RequestTime = 200 * time.Millisecond })
+	begun = time.Now()
+	left := r.CleanUp(context.Background())
+	if sent := time.Duration(last.Load()); len(left) > 0 || sent < 400*time.Millisecond {
+		t.Errorf("%v are left, and the last deletion came after %v", left, sent)
+	}
+}
+
+// Bindings are gone before the deletion of their instance is sent, also if they are deleted asynchronously.
+func TestBindingsFirst(t *testing.T) {
+	m := newModel(true)
+	m.spoil = func(c *call) {
+		if c.kind == "delete" && c.key == (key{instance: "one"}) && m.lives[key{"one", "b"}].state != "gone" {
+			t.Error("the deletion of the instance comes before the end of that of its binding")
+		}
+	}
+	r := owing(t, m, func(c *Config) { c.RequestTime = 100 * time.Millisecond }, "one")
+	m.lives[key{"one", "b"}] = &life{state: "ready", asked: object{"plan": "a"}}
+	r.Owe(Owed{Instance: "one", Binding: "b"})
+	if left := r.CleanUp(context.Background()); len(left) > 0 || m.left() > 0 {
+		t.Errorf("%v are left, and %d exist", left, m.left())
 	}
 }
 

@@ -9,6 +9,7 @@ import (
 	"net/http"
 	"net/url"
 	"strings"
+	"sync"
 	"time"
 )
 
@@ -31,6 +32,7 @@ type exchange struct {
 	text   string
 	object map[string]any // nil if the body isn't a JSON object
 	err    error          // why there is no answer
+	hide   Hider          // of what people see
 	unsent bool           // the request wasn't sent
 }
 
@@ -39,6 +41,9 @@ type client struct {
 	base, user, password string
 	within               time.Duration
 	http                 *http.Client
+	mutex                sync.Mutex
+	hide                 Hider           // by hider
+	known                map[string]bool // the secrets of credentials that hide has
 }
 
 func newClient(c Config) (*client, error) {
@@ -60,6 +65,8 @@ func newClient(c Config) (*client, error) {
 	}
 	return &client{
 		base: strings.TrimRight(base.String(), "/"), user: c.User, password: c.Password, within: c.RequestTime,
+		hide:  NewHider(c.User, c.Password).And(strings.TrimRight(basic(c.User, wrong(c.Password)), "=")),
+		known: map[string]bool{},
 		http: &http.Client{
 			Transport:     transport,
 			CheckRedirect: func(*http.Request, []*http.Request) error { return http.ErrUseLastResponse },
@@ -69,7 +76,7 @@ func newClient(c Config) (*client, error) {
 
 // send sends a request and reads its answer.
 func (c *client) send(ctx context.Context, r request) *exchange {
-	x := &exchange{request: r}
+	x := &exchange{request: r, hide: c.hider()}
 	ctx, cancel := context.WithTimeout(ctx, c.within)
 	defer cancel()
 	made, err := c.request(ctx, r)
@@ -95,7 +102,28 @@ func (c *client) send(ctx context.Context, r request) *exchange {
 	if json.Unmarshal(text, &x.object) != nil {
 		x.object = nil
 	}
+	c.learn(x.object["credentials"])
+	x.hide = c.hider()
 	return x
+}
+
+// hider returns a Hider of the login, and of all credentials that have come.
+func (c *client) hider() Hider {
+	c.mutex.Lock()
+	defer c.mutex.Unlock()
+	return c.hide
+}
+
+// learn has the secrets of credentials left out from now on.
+func (c *client) learn(credentials any) {
+	c.mutex.Lock()
+	defer c.mutex.Unlock()
+	for _, it := range SecretsIn(credentials) {
+		if !c.known[it] {
+			c.known[it] = true
+			c.hide = c.hide.And(it)
+		}
+	}
 }
 
 func (c *client) request(ctx context.Context, r request) (*http.Request, error) {

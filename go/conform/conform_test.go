@@ -17,9 +17,12 @@ func served(t *testing.T, m *model) string {
 	return server.URL
 }
 
+// password is that of the model. It stands otherwise in JSON and in a URL.
+const password = `pa"ss <word> &%41`
+
 func configFor(url string) Config {
 	return Config{
-		URL: url, User: "u", Password: "p", Instances: 50, RequestTime: 10 * time.Second,
+		URL: url, User: "u", Password: password, Instances: 50, RequestTime: 10 * time.Second,
 		OperationTime: 10 * time.Second, Pause: time.Millisecond,
 	}
 }

@@ -49,7 +49,7 @@ func (x *exchange) string(member string) string {
 	return text
 }
 
-// sent returns the request as a line for people.
+// sent returns the request as a line for people, without secrets.
 func (x *exchange) sent() string {
 	line := x.method + " " + x.path
 	if len(x.query) > 0 {
@@ -58,13 +58,13 @@ func (x *exchange) sent() string {
 	if x.body != "" {
 		line += " " + x.body
 	}
-	return printable(line)
+	return printable(x.hide.In(line))
 }
 
-// came returns the answer as a line for people. The values of credentials are left out.
+// came returns the answer as a line for people. The values of credentials and other secrets are left out.
 func (x *exchange) came() string {
 	if x.err != nil {
-		return printable(x.err.Error())
+		return printable(x.hide.In(x.err.Error()))
 	}
 	text := x.text
 	if _, has := x.object["credentials"]; has {
@@ -72,14 +72,14 @@ func (x *exchange) came() string {
 		for name, value := range x.object {
 			shown[name] = value
 		}
-		shown["credentials"] = "(left out)"
+		shown["credentials"] = Hidden
 		if bytes, err := json.Marshal(shown); err == nil {
 			text = string(bytes)
 		}
 	} else if x.object == nil && strings.Contains(text, "credentials") {
 		text = "(left out: a body with credentials that isn't an object)"
 	}
-	return printable(fmt.Sprintf("%d %s", x.status, text))
+	return printable(fmt.Sprintf("%d %s", x.status, x.hide.In(text)))
 }
 
 // printable returns a text as one line of limited length that a terminal can show.

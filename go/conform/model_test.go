@@ -82,8 +82,8 @@ func (m *model) ServeHTTP(w http.ResponseWriter, r *http.Request) {
 
 func read(r *http.Request) *call {
 	c := &call{Request: r, kindOf: "application/json"}
-	user, password, _ := r.BasicAuth()
-	c.isUnknown = user != "u" || password != "p"
+	user, given, _ := r.BasicAuth()
+	c.isUnknown = user != "u" || given != password
 	c.kind = map[string]string{"PUT": "put", "DELETE": "delete", "GET": "fetch"}[r.Method]
 	parts := strings.Split(r.URL.EscapedPath(), "/")
 	for at, it := range parts {

@@ -21,8 +21,9 @@ type Report struct {
 }
 
 func (r *Runner) report() *Report {
+	hide := r.client.hider()
 	report := &Report{
-		URL: r.client.base, Prefix: r.prefix, Service: r.target.serviceName, Plan: r.target.planName,
+		URL: r.client.base, Prefix: r.prefix, Service: hide.In(r.target.serviceName), Plan: hide.In(r.target.planName),
 		Instances: len(r.ledger.all), Ended: r.ended, Leftovers: []Leftover{},
 	}
 	for _, it := range Cases() {

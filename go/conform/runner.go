@@ -23,6 +23,8 @@ type Config struct {
 	Pause         time.Duration // between two polls
 	// Transport wraps what sends the requests, or is nil.
 	Transport func(http.RoundTripper) http.RoundTripper
+	// Tell is called with a line for people if CleanUp has to wait, or is nil.
+	Tell func(line string)
 }
 
 // ErrUnreachable is the error of Run if the broker doesn't answer the first request.
@@ -107,13 +109,13 @@ func (r *Runner) Run(ctx context.Context) (*Report, error) {
 // open asks for the catalogue, and chooses the plan to order.
 func (r *Runner) open() error {
 	r.fetched = r.send(request{method: "GET", path: "/v2/catalog"})
-	if err := r.fetched.err; err != nil {
-		return fmt.Errorf("%w: %v", ErrUnreachable, err)
+	if r.fetched.err != nil {
+		return fmt.Errorf("%w: %s", ErrUnreachable, r.fetched.came())
 	}
 	if r.fetched.is(401) {
 		return ErrLogin
 	}
-	return r.choose()
+	return r.client.hider().Error(r.choose())
 }
 
 // stopped returns why no further request may be sent, or nil.
@@ -178,7 +180,7 @@ func (r *Runner) judge(name string, x *exchange, problem string) {
 	case x.err != nil:
 		problem = "there is no answer"
 	}
-	result.Verdict, result.Reason = Pass, problem
+	result.Verdict, result.Reason = Pass, r.client.hider().In(problem)
 	if problem != "" {
 		result.Verdict = Fail
 	}

@@ -45,7 +45,7 @@ type Answer struct {
 	Status int // 0 if there is no answer
 	Object map[string]any
 	Sent   string // the request, as a line for people
-	Came   string // the answer, or why there is none, as a line for people, without credentials
+	Came   string // the answer, or why there is none, as a line for people, without credentials and the password
 }
 
 // Text returns a member of the body that is a string, or "".
@@ -101,6 +101,7 @@ type Seen struct {
 	Status         int
 	Header         http.Header
 	Came           []byte // the body
+	Hide           Hider  // of what people see
 }
 
 // Operation returns the operation that the answer names, or "".
@@ -130,7 +131,7 @@ func (s Seen) exchange() *exchange {
 	}
 	x := &exchange{
 		request: request{method: s.Method, path: path, query: values, body: string(s.Sent)},
-		status:  s.Status, header: s.Header, text: string(s.Came),
+		status:  s.Status, header: s.Header, text: string(s.Came), hide: s.Hide,
 	}
 	if json.Unmarshal(s.Came, &x.object) != nil {
 		x.object = nil
@@ -190,7 +191,7 @@ func (s Seen) lastOperationCase() string {
 // Printable returns a text as one line of limited length that a terminal can show.
 func Printable(text string) string { return printable(text) }
 
-// Describe returns the answer as a line for people. The values of credentials are left out.
+// Describe returns the answer as a line for people. The values of credentials and other secrets are left out.
 func (s Seen) Describe() string { return s.exchange().came() }
 
 // NewID returns a new GUID that begins with the prefix. Its second part is a number in decimal digits, so that people

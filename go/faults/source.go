@@ -98,6 +98,12 @@ func (s *Source) Unmet() (unmet []Numbered) {
 	return unmet
 }
 
+// WantsFaults returns whether a run should have faults: those of a list, or of this share of all requests if the list is
+// nil.
+func WantsFaults(share float64, list []Numbered) bool {
+	return list == nil && share > 0 || len(list) > 0
+}
+
 // Chance returns random numbers that are the same for the same seed and the same words.
 func Chance(seed int64, words ...string) *rand.Rand {
 	hash := fnv.New64a()

@@ -13,8 +13,11 @@ import (
 	"time"
 )
 
-// limit is how long a command may take. Tests shorten it.
-var limit = time.Minute
+// limit is how long a command may take, and mostPrinted how many bytes it may print on each output. Tests lower both.
+var (
+	limit       = time.Minute
+	mostPrinted = int64(64 << 20)
+)
 
 // Run runs a command of the shell. Processes that it has started may go on once it has ended. A terminal's signals
 // don't reach them.
@@ -27,6 +30,9 @@ func Run(ctx context.Context, command string) error {
 
 // Rows runs a command as Run does, and returns the words of each line that it prints. Empty lines are left out. It
 // waits until no process has the command's standard output open.
+//
+// If the command prints more than 64 MiB on its standard output or its standard error, it is killed with all processes of
+// its group.
 //
 // Errors: the command fails, or is killed; a line doesn't have as many ids as it should.
 func Rows(ctx context.Context, command string, ids int) (rows [][]string, err error) {
@@ -69,23 +75,30 @@ func run(ctx context.Context, command string, isRead bool) (printed, said []byte
 	if err := process.Start(); err != nil {
 		return nil, nil, err
 	}
+	kill := func() {
+		_ = syscall.Kill(-process.Process.Pid, syscall.SIGKILL)
+		out.end() // a process that has left the group may keep the pipe open
+		errors.end()
+	}
 	ended := make(chan error, 1)
 	go func() {
 		// The shell keeps its process id, and so that of its group, until everything is read.
 		fromErrors := make(chan []byte, 1)
-		go func() { fromErrors <- errors.all() }()
-		printed = out.all()
+		go func() { fromErrors <- errors.all(kill) }()
+		printed = out.all(kill)
 		said = <-fromErrors
 		ended <- process.Wait()
 	}()
 	select {
 	case err = <-ended:
+		if isTooMuch(printed) || isTooMuch(said) {
+			return nil, nil, fmt.Errorf("it printed more than %d bytes and was killed: let it print nothing but the ids",
+				mostPrinted)
+		}
 		return printed, said, err
 	case <-within.Done():
 	}
-	_ = syscall.Kill(-process.Process.Pid, syscall.SIGKILL)
-	out.end() // a process that has left the group may keep the pipe open
-	errors.end()
+	kill()
 	<-ended
 	if ctx.Err() != nil {
 		return nil, said, ctx.Err()
@@ -104,15 +117,21 @@ func newReader() (r *reader, err error) {
 	return r, err
 }
 
-// all returns what is written until nobody has the pipe open, or until end is called.
-func (r *reader) all() []byte {
+// all returns what is written until nobody has the pipe open, or until end is called. If it is too much, all calls kill,
+// and returns a part of it that is too much, too.
+func (r *reader) all(kill func()) []byte {
 	if r == nil {
 		return nil
 	}
 	_ = r.write.Close() // the command has it
-	all, _ := io.ReadAll(r.read)
+	all, _ := io.ReadAll(io.LimitReader(r.read, mostPrinted+1))
+	if isTooMuch(all) {
+		kill()
+	}
 	return all
 }
+
+func isTooMuch(printed []byte) bool { return int64(len(printed)) > mostPrinted }
 
 // end ends the reading, and frees the pipe.
 func (r *reader) end() {

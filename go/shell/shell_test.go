@@ -138,3 +138,31 @@ func TestLimit(t *testing.T) {
 		}
 	}
 }
+
+// A command that prints too much on either output is killed with its group, and the error says so. One that prints just as
+// much as it may isn't.
+func TestMostPrinted(t *testing.T) {
+	defer func(before int64) { mostPrinted = before }(mostPrinted)
+	mostPrinted = 10000
+	// Each command is bounded by itself, too: without the limit it would print 100 MB, and then end.
+	for name, command := range map[string]string{
+		"output":      "head -c 100000000 /dev/zero; sleep 1000",
+		"errors":      "head -c 100000000 /dev/zero >&2; sleep 1000",
+		"a pipe":      "head -c 100000000 /dev/zero | cat; sleep 1000",
+		"and ends":    "head -c 10001 /dev/zero",
+		"fails":       "head -c 100000000 /dev/zero; exit 3",
+		"a new group": "setsid sleep 7 & head -c 100000000 /dev/zero; sleep 1000",
+	} {
+		ctx, cancel := context.WithTimeout(context.Background(), 5*time.Second)
+		begun := time.Now()
+		rows, err := Rows(ctx, command, 1)
+		cancel()
+		took := time.Since(begun)
+		if err == nil || took > 5*time.Second || len(rows) > 0 || !strings.Contains(err.Error(), "more than 10000 bytes") {
+			t.Errorf("%s: %v after %v", name, err, took)
+		}
+	}
+	if rows, err := Rows(context.Background(), "yes 123456789 | head -c 10000", 1); err != nil || len(rows) != 1000 {
+		t.Errorf("%v, %d rows", err, len(rows))
+	}
+}

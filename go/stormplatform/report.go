@@ -32,6 +32,7 @@ type Report struct {
 	Failed    []string                `json:"failed"` // what went wrong with the run itself
 	Given     []string                `json:"fault_list"`
 	Unmet     []string                `json:"unmet_faults"` // those of the given list that no request has met
+	Untried   []string                `json:"untried"`      // what every storm has to try, and this one hasn't
 
 	given  []faults.Numbered
 	course []stormreport.Finding // what is drawn if nothing was found
@@ -52,7 +53,7 @@ func (s *Storm) report(found *result) *Report {
 		Requests: len(found.exchanges), Settled: found.settled, Took: found.took.Seconds(),
 		Counts: stormreport.CountKinds(found.exchanges), Abandoned: run.Findings(found.abandoned),
 		False: run.Findings(found.false), Stuck: run.Findings(found.stuck), Exists: run.Findings(found.exists),
-		Broken: []stormreport.Broken{}, Failed: []string{}, given: s.source.Given(), course: run.Course(),
+		Broken: []stormreport.Broken{}, Failed: []string{}, Untried: []string{}, given: s.source.Given(), course: run.Course(),
 	}
 	if s.config.Commands.List != "" {
 		r.Known = knownByList
@@ -68,7 +69,11 @@ func (s *Storm) report(found *result) *Report {
 		r.Broken = append(r.Broken, it.Hidden(hide))
 	}
 	for _, it := range found.failed {
-		r.Failed = append(r.Failed, hide.In(conform.Printable(it)))
+		r.Failed = append(r.Failed, conform.Printable(hide.In(it)))
+	}
+	if r.Ended == "" {
+		r.Untried = stormreport.Untried(r.given, s.config.Share, s.config.List,
+			"Let the platform send more requests, pass a longer time to --seconds")
 	}
 	r.Given, r.Unmet = stormreport.ListLines(r.given), stormreport.ListLines(s.source.Unmet())
 	return r
@@ -77,7 +82,7 @@ func (s *Storm) report(found *result) *Report {
 // IsClean returns whether the storm has found nothing, and was run to its end.
 func (r *Report) IsClean() bool {
 	hasFound := len(r.Abandoned) > 0 || len(r.False) > 0 || len(r.Stuck) > 0
-	return !hasFound && !stormreport.BreaksMust(r.Broken) && r.Ended == ""
+	return !hasFound && !stormreport.BreaksMust(r.Broken) && r.Ended == "" && len(r.Untried) == 0
 }
 
 // WriteJSON writes the report as a JSON object.
@@ -101,7 +106,7 @@ func (r *Report) WriteText(w io.Writer) error {
 	stormreport.WriteBroken(&text, "request", r.Broken)
 	r.writeExists(&text)
 	fmt.Fprintln(&text)
-	for _, it := range r.Failed {
+	for _, it := range append(r.untried(), r.Failed...) {
 		fmt.Fprintf(&text, "%s\n", it)
 	}
 	if r.Ended != "" {
@@ -110,6 +115,14 @@ func (r *Report) WriteText(w io.Writer) error {
 	fmt.Fprintf(&text, "%s\n", r.summary())
 	_, err := io.WriteString(w, text.String())
 	return err
+}
+
+// untried says for people what the storm hasn't tried.
+func (r *Report) untried() (lines []string) {
+	for _, it := range r.Untried {
+		lines = append(lines, "NOT TRIED: "+it)
+	}
+	return lines
 }
 
 // writeExists writes what the operator has to compare.
@@ -154,6 +167,7 @@ func (r *Report) WriteHTML(w io.Writer) error {
 	page.Add("Requests", strings.Join(append([]string{fmt.Sprint(r.Requests)}, stormreport.KindLines(r.Counts)...), "; "))
 	page.Add("Faults of the list", stormreport.UnmetLines(r.Unmet)...)
 	page.Add("What the platform has", r.Known)
+	page.Add("Wrong", r.untried()...)
 	if r.Ended != "" {
 		page.Add("Ended", r.Ended)
 	}

@@ -85,9 +85,9 @@ var (
 		Expected: "the deletion again, until it is answered with a success"}
 )
 
-// judge returns the first request that breaks each rule, in the order in which the requests began.
+// judge returns the first request that breaks each rule, with the numbers of all that break it, in the order in which the requests began.
 func judge(exchanges []faults.Exchange, now map[stormreport.Key]view) []stormreport.Broken {
-	b := &breaches{at: map[string]int{}}
+	b := &breaches{}
 	w := &world{views: map[stormreport.Key]view{}, ids: map[stormreport.Key]ids{}}
 	for _, x := range exchanges {
 		r := requestOf(x)
@@ -102,7 +102,7 @@ func judge(exchanges []faults.Exchange, now map[stormreport.Key]view) []stormrep
 		w.learn(r)
 	}
 	b.addMitigations(now)
-	return b.all
+	return b.All()
 }
 
 func requestOf(x faults.Exchange) request {
@@ -128,24 +128,16 @@ func (w *world) learn(r request) {
 }
 
 // breaches are what breaks rules.
-type breaches struct {
-	all []stormreport.Broken
-	at  map[string]int
-}
+type breaches struct{ stormreport.Breaches }
 
 func (b *breaches) add(of conform.Case, why string, x faults.Exchange) {
-	if known, is := b.at[of.Name]; is {
-		b.all[known].Count++
-		return
-	}
-	b.at[of.Name] = len(b.all)
-	number := "about no instance"
+	number := ""
 	if x.Number.Request > 0 {
 		number = x.Number.String()
 	}
-	b.all = append(b.all, stormreport.Broken{Number: number, Count: 1, Result: conform.Result{
+	b.Add(conform.Result{
 		Case: of, Verdict: conform.Fail, Reason: why, Sent: sentBy(x), Came: conform.Printable(x.Got.Words),
-	}})
+	}, number, "about no instance")
 }
 
 // addMitigations adds what was never cleaned up.

@@ -263,7 +263,11 @@ func TestRules(t *testing.T) {
 			if !hasBroken(report, rule) {
 				t.Fatalf("the rule isn't broken:\n%s", textOf(t, report))
 			}
-			if first := report.Broken[0]; first.Name != rule || first.Count < 2 || first.Sent == "" || first.Came == "" {
+			first := report.Broken[0]
+			if first.Name != rule || first.Count < 2 || first.Sent == "" || first.Came == "" {
+				t.Errorf("%+v", first)
+			}
+			if rule == "provision-body" && (len(first.Numbers) != first.Count || first.Numbers[0] != first.Number) {
 				t.Errorf("%+v", first)
 			}
 			isMust := rule != "content-type" && rule != "accepts-incomplete"
@@ -284,13 +288,47 @@ func TestIsClean(t *testing.T) {
 		isClean bool
 	}{
 		"nothing": {Report{}, true}, "abandoned": {Report{Abandoned: one}, false}, "false": {Report{False: one}, false},
-		"stuck": {Report{Stuck: one}, false}, "exists": {Report{Exists: one}, true},
+		"untried": {Report{Untried: []string{"x"}}, false}, "stuck": {Report{Stuck: one}, false}, "exists": {Report{Exists: one}, true},
 		"must": {Report{Broken: []stormreport.Broken{must}}, false}, "ended": {Report{Ended: "x"}, false},
 		"should": {Report{Broken: []stormreport.Broken{should}}, true},
 	} {
 		if it.report.IsClean() != it.isClean {
 			t.Errorf("%s: %v", name, !it.isClean)
 		}
+	}
+}
+
+// A storm in which no request had a fault isn't clean, unless no fault was wanted. Each form says what to do.
+func TestUntried(t *testing.T) {
+	for name, it := range map[string]struct {
+		share float64
+		list  []faults.Numbered
+		says  string
+	}{
+		"none of many": {1e-9, nil, "no request had a fault. Let the platform send more requests, "},
+		"none of list": {0.4, listOf(map[int]faults.Kind{99: faults.HangUp}), "no request had a fault. Pass the --seed "},
+		"no share":     {0, nil, ""},
+		"empty list":   {0.4, []faults.Numbered{}, ""},
+	} {
+		it := it
+		t.Run(name, func(t *testing.T) {
+			t.Parallel()
+			config := configFor(t)
+			config.Share, config.List, config.Time, config.RequestTime = it.share, it.list, time.Second, unhurried
+			report := stormed(t, config, mistakes{}, true)
+			if report.IsClean() != (it.says == "") || len(report.Abandoned)+len(report.False)+len(report.Stuck) > 0 {
+				t.Error(textOf(t, report))
+			}
+			for form, write := range map[string]func(io.Writer) error{
+				"\nNOT TRIED: ": report.WriteText, "\"untried\": [\n    \"": report.WriteJSON,
+				"<th>Wrong</th><td>NOT TRIED: ": report.WriteHTML,
+			} {
+				var text bytes.Buffer
+				if err := write(&text); err != nil || strings.Contains(text.String(), form+it.says) != (it.says != "") {
+					t.Errorf("%v %s", err, text.String())
+				}
+			}
+		})
 	}
 }
 

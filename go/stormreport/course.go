@@ -63,7 +63,7 @@ func (r Run) countFaults() (all []*faulty) {
 func (r Run) Kills() (lines []Line) {
 	for _, it := range r.Events {
 		if it.Key == (Key{}) && (it.Who == WhoBroker || it.Who == WhoPlatform) {
-			what := r.Hide.In(conform.Printable(it.What))
+			what := conform.Printable(r.Hide.In(it.What))
 			lines = append(lines, Line{Seconds: seconds(it.At), Who: it.Who, What: what, isOfAll: true})
 		}
 	}

@@ -76,9 +76,41 @@ func WriteFindings(w io.Writer, title string, all []Finding) {
 // A Broken is a rule of the standard that a request or an answer breaks.
 type Broken struct {
 	conform.Result
-	Number string `json:"number"` // of the first such request
-	Count  int    `json:"count"`  // how many break the same rule
+	Number  string   `json:"number"`  // of the first such request
+	Count   int      `json:"count"`   // how many break the same rule
+	Numbers []string `json:"numbers"` // of all requests that have one, each once, in the order in which they were found
 }
+
+// Breaches collects what breaks the standard. The zero value is ready to use.
+type Breaches struct {
+	all   []Broken
+	at    map[string]int     // of each rule
+	known map[[2]string]bool // rules with the numbers of requests
+}
+
+// Add adds a request. number is empty if the request has none, and first is then what the report has in its place.
+func (b *Breaches) Add(failed conform.Result, number, first string) {
+	if b.at == nil {
+		b.at, b.known = map[string]int{}, map[[2]string]bool{}
+	}
+	at, isKnown := b.at[failed.Name]
+	if !isKnown {
+		if number != "" {
+			first = number
+		}
+		at, b.at[failed.Name] = len(b.all), len(b.all)
+		b.all = append(b.all, Broken{Result: failed, Number: first, Numbers: []string{}})
+	}
+	it := &b.all[at]
+	it.Count++
+	if its := [2]string{failed.Name, number}; number != "" && !b.known[its] {
+		b.known[its] = true
+		it.Numbers = append(it.Numbers, number)
+	}
+}
+
+// All returns each rule that is broken once, in the order in which they were first broken.
+func (b *Breaches) All() []Broken { return b.all }
 
 // Hidden returns the Broken without secrets.
 func (b Broken) Hidden(hide Hider) Broken {
@@ -160,6 +192,19 @@ func ListLines(list []faults.Numbered) []string {
 		all = append(all, it.String())
 	}
 	return all
+}
+
+// Untried returns what a run with some faults hasn't tried, for people: nothing if a request had a fault, or none was
+// wanted. more says how a run gets more requests.
+func Untried(given []faults.Numbered, share float64, list []faults.Numbered, more string) []string {
+	switch {
+	case len(given) > 0 || !faults.WantsFaults(share, list):
+		return []string{}
+	case list != nil:
+		return []string{"no request had a fault. Pass the --seed and the options of the run that wrote the list of faults, or " +
+			"another list"}
+	}
+	return []string{"no request had a fault. " + more + ", or a greater number to --fault-percent"}
 }
 
 // mostUnmet is how many faults of a list are named that no request has met.

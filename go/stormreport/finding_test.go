@@ -1,6 +1,8 @@
 package stormreport
 
 import (
+	"encoding/json"
+	"fmt"
 	"reflect"
 	"strings"
 	"testing"
@@ -62,5 +64,26 @@ func TestBreaksMust(t *testing.T) {
 	}
 	if !BreaksMust([]Broken{of(conform.Should), of(conform.Must)}) {
 		t.Error("a MUST is broken")
+	}
+}
+
+// Each rule stands once, with the first request, how often it was broken, and the number of each request that has one.
+func TestBreaches(t *testing.T) {
+	var b Breaches
+	for _, it := range [][2]string{
+		{"a", "1.1"}, {"b", ""}, {"a", "1.2"}, {"a", "1.1"}, {"b", ""}, {"c", ""}, {"c", "2/1.1"}, {"a", "10.3"},
+	} {
+		b.Add(conform.Result{Case: conform.Case{Name: it[0]}}, it[1], "none")
+	}
+	var got []string
+	for _, it := range b.All() {
+		text, err := json.Marshal(it.Numbers)
+		if err != nil {
+			t.Fatal(err)
+		}
+		got = append(got, fmt.Sprint(it.Name, " ", it.Number, " ", it.Count, " ", string(text)))
+	}
+	if wanted := []string{`a 1.1 4 ["1.1","1.2","10.3"]`, `b none 2 []`, `c none 2 ["2/1.1"]`}; !reflect.DeepEqual(got, wanted) {
+		t.Errorf("%q", got)
 	}
 }

@@ -27,7 +27,7 @@ func LifeOf(key Key, exchanges []faults.Exchange, events []Event, hide Hider) []
 	for _, it := range events {
 		if it.Key == (Key{}) || it.Key == key || it.Key == key.InstanceKey() {
 			life = append(life, Line{
-				Seconds: seconds(it.At), Who: it.Who, What: hide.In(conform.Printable(it.What)), isOfAll: it.Key == (Key{}),
+				Seconds: seconds(it.At), Who: it.Who, What: conform.Printable(hide.In(it.What)), isOfAll: it.Key == (Key{}),
 			})
 		}
 	}
@@ -47,7 +47,7 @@ func LifeOf(key Key, exchanges []faults.Exchange, events []Event, hide Hider) []
 func linesOf(x faults.Exchange, hide Hider) []Line {
 	number := x.Number.String()
 	line := func(at time.Duration, who, what string) Line {
-		return Line{Seconds: seconds(at), Number: number, Who: who, What: hide.In(conform.Printable(what))}
+		return Line{Seconds: seconds(at), Number: number, Who: who, What: conform.Printable(hide.In(what))}
 	}
 	request := line(x.Begun, "request", x.Method+" "+x.Target)
 	if x.Fault != faults.None {
@@ -60,7 +60,7 @@ func linesOf(x faults.Exchange, hide Hider) []Line {
 		if at > 0 {
 			which = "the request once more"
 		}
-		all = append(all, line(d.Begun, WhoBroker, "gets "+which), line(d.Ended, WhoBroker, answerOf(x, d)))
+		all = append(all, line(d.Begun, WhoBroker, "gets "+which), line(d.Ended, WhoBroker, answerOf(x, d, hide)))
 	}
 	if len(x.Deliveries) == 0 {
 		all = append(all, line(x.Begun, WhoBroker, "doesn't get the request"))
@@ -71,11 +71,13 @@ func linesOf(x faults.Exchange, hide Hider) []Line {
 	return append(all, line(x.Ended, "proxy", "gives the platform "+x.Got.Words))
 }
 
-func answerOf(x faults.Exchange, d faults.Delivery) string {
+func answerOf(x faults.Exchange, d faults.Delivery, hide Hider) string {
 	if d.Status == 0 {
 		return "no answer: " + d.Lost
 	}
-	seen := conform.Seen{Method: x.Method, Target: x.Target, Status: d.Status, Header: d.Header, Came: d.Body}
+	seen := conform.Seen{
+		Method: x.Method, Target: x.Target, Status: d.Status, Header: d.Header, Came: d.Body, Hide: hide,
+	}
 	return "answers " + seen.Describe()
 }
 

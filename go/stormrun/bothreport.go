@@ -85,6 +85,7 @@ func (b *Both) take(report *Report, found *result) {
 	}
 	if report.Ended == "" && p.Without == "" {
 		p.Untried = append(p.Untried, b.untried()...)
+		report.Untried = p.Untried
 	}
 	report.Restarts = p.BrokerKills
 }

@@ -6,6 +6,7 @@ import (
 	"time"
 
 	"pippinterm/faults"
+	"pippinterm/stormreport"
 )
 
 // Run runs the storm, and returns what was lost. If ctx is done, it ends at once.
@@ -166,7 +167,8 @@ func (b *Both) course(ctx context.Context) *result {
 	endUnruly()
 	b.compare(ctx, found)
 	found.exchanges, found.events, found.given = b.journal.Exchanges(), b.events.list(), b.source.Given()
-	found.broken, found.unmet = judge(found.exchanges, found.differences), b.source.Unmet()
+	hide := stormreport.NewHider("platform", b.password, found.exchanges)
+	found.broken, found.unmet = judge(found.exchanges, found.differences, hide), b.source.Unmet()
 	return found
 }
 

@@ -41,6 +41,7 @@ func (r *Report) addFacts(page *stormreport.Page) {
 		page.Add("Wrong", r.Programs.problems()...)
 	} else {
 		page.Add("Restarts of the broker", fmt.Sprint(r.Restarts))
+		page.Add("Wrong", r.untried()...)
 	}
 	page.Add("What exists", r.Inventory)
 	page.Add("Not asked for", r.unasked()...)

@@ -9,31 +9,28 @@ import (
 
 	"pippinterm/conform"
 	"pippinterm/faults"
+	"pippinterm/stormreport"
 )
 
-// judge returns the first answer that breaks each rule, in the order in which they came. differences are what was found
+// judge returns the first answer that breaks each rule, with the numbers of all requests whose answers break it, in the
+// order in which they came. differences are what was found
 // in the end.
 //
 // A 410 to a deletion breaks a rule only if the thing exists in the end. Else the broker may have carried out this very
 // deletion before it answered: another of its workers has taken it up, and the request has found nothing any more.
-func judge(exchanges []faults.Exchange, differences []Difference) []Broken {
-	var all []Broken
-	at := map[string]int{}
+func judge(exchanges []faults.Exchange, differences []Difference, hide stormreport.Hider) []Broken {
+	var found stormreport.Breaches
 	lost := map[Key]bool{}
 	for _, it := range differences {
 		lost[it.Key] = lost[it.Key] || it.Kind == Lost
 	}
 	for _, it := range deliveriesOf(exchanges) {
+		it.Hide = hide
 		for _, failed := range it.judge(lost[it.key]) {
-			if known, is := at[failed.Name]; is {
-				all[known].Count++
-				continue
-			}
-			at[failed.Name] = len(all)
-			all = append(all, Broken{Result: failed, Number: it.number.String(), Count: 1})
+			found.Add(failed, it.number.String(), "")
 		}
 	}
-	return all
+	return found.All()
 }
 
 // A sent is a delivery, with what was known before of the instance or the binding.

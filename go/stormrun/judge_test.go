@@ -1,12 +1,15 @@
 package stormrun
 
 import (
+	"encoding/json"
+	"fmt"
 	"net/http"
 	"strings"
 	"testing"
 	"time"
 
 	"pippinterm/faults"
+	"pippinterm/stormreport"
 )
 
 // answers are exchanges about one instance, one after another: each is a method, a status, and a body.
@@ -78,7 +81,7 @@ func TestJudge(t *testing.T) {
 		{"no answer to a creation", answers(x{"PUT", 0, ``}, x{"PUT", 201, `{}`}, x{"PUT", 201, `{}`}), ""},
 		{"an error of the broker", answers(x{"PUT", 201, `{}`}, x{"DELETE", 500, `{}`}, x{"DELETE", 410, `{}`}), ""},
 	} {
-		if found := namesOf(judge(it.all, []Difference{{Key: Key{Instance: "one"}, Kind: Lost}})); found != it.wanted {
+		if found := namesOf(judge(it.all, []Difference{{Key: Key{Instance: "one"}, Kind: Lost}}, stormreport.Hider{})); found != it.wanted {
 			t.Errorf("%s: %q", it.name, found)
 		}
 	}
@@ -94,7 +97,7 @@ func TestJudgeDeletionThatFindsNothing(t *testing.T) {
 		for _, differences := range [][]Difference{
 			nil, {{Key: Key{Instance: "one"}, Kind: Stuck}}, {{Key: Key{Instance: "another"}, Kind: Lost}},
 		} {
-			if found := judge(all, differences); len(found) > 0 {
+			if found := judge(all, differences, stormreport.Hider{}); len(found) > 0 {
 				t.Errorf("%s, %v: %+v", name, differences, found)
 			}
 		}
@@ -109,11 +112,38 @@ func TestJudgeAtOnce(t *testing.T) {
 		exchange("DELETE", 410, `{}`, 20*ms, 25*ms), exchange("PUT", 201, `{}`, 40*ms, 50*ms),
 		exchange("PUT", 201, `{}`, 45*ms, 55*ms),
 	}
-	if found := judge(atOnce, nil); len(found) > 0 {
+	if found := judge(atOnce, nil, stormreport.Hider{}); len(found) > 0 {
 		t.Errorf("%+v", found)
 	}
 	after := append(atOnce, exchange("PUT", 201, `{}`, 60*ms, 65*ms), exchange("PUT", 201, `{}`, 70*ms, 75*ms))
-	if found := judge(after, nil); namesOf(found) != "provision-repeated" || found[0].Count != 1 {
+	if found := judge(after, nil, stormreport.Hider{}); namesOf(found) != "provision-repeated" || found[0].Count != 1 {
 		t.Errorf("%+v", found)
+	}
+}
+
+// All requests whose answers break a rule are in the JSON by their numbers, and only the first one is in the text.
+func TestNumbers(t *testing.T) {
+	type x = [3]any
+	all := answers(x{"PUT", 201, `{}`}, x{"PUT", 201, `{}`}, x{"PUT", 200, `{}`}, x{"PUT", 201, `{}`}, x{"PUT", 201, `[]`})
+	report := emptyReport()
+	report.takeRun(&result{keys: newKeys(nil), exchanges: all, broken: judge(all, nil, stormreport.Hider{})})
+	written := reports(t, report)
+	var read struct {
+		Broken []struct {
+			Name    string
+			Count   int
+			Numbers []string
+		}
+	}
+	if err := json.Unmarshal([]byte(written["JSON"]), &read); err != nil {
+		t.Fatal(err)
+	}
+	wanted := "[{provision-repeated 3 [1.2 1.4 1.5]} {answers-are-objects 1 [1.5]}]"
+	if got := fmt.Sprint(read.Broken); got != wanted {
+		t.Error(got)
+	}
+	text := written["text"]
+	if !strings.Contains(text, "3 answers, the first one 1.2: ") || strings.Contains(text, "1.4") {
+		t.Error(text)
 	}
 }

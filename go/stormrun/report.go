@@ -36,6 +36,7 @@ type Report struct {
 	Failed    []string           `json:"failed"` // what went wrong with the run itself
 	Leftovers []conform.Leftover `json:"leftovers"`
 	Notes     []string           `json:"notes"`
+	Untried   []string           `json:"untried"` // what every storm has to try, and this one hasn't
 
 	Programs     *Programs `json:"programs,omitempty"` // of a storm of both programs
 	Given        []string  `json:"fault_list"`
@@ -57,6 +58,7 @@ func emptyReport() *Report {
 	return &Report{
 		Counts: []KindCount{}, Lost: []Finding{}, False: []Finding{}, Stuck: []Finding{}, Disagree: []Finding{}, Broken: []Broken{},
 		Failed: []string{}, Leftovers: []conform.Leftover{}, Notes: []string{}, Given: []string{}, Unmet: []string{},
+		Untried: []string{},
 	}
 }
 
@@ -71,6 +73,25 @@ func newReport(s *Storm) *Report {
 func (r *Report) take(found *result) {
 	r.takeRun(found)
 	r.Instances++ // the one that was created without faults
+}
+
+// takeUntried notes what the storm hasn't tried, unless it was ended before.
+func (r *Report) takeUntried(c Config) {
+	if r.Ended == "" {
+		r.Untried = stormreport.Untried(r.given, c.Share, c.List,
+			"Pass a greater number to --instances, a longer time to --seconds")
+	}
+}
+
+// untried says for people what the storm hasn't tried, unless the lines of the programs say so.
+func (r *Report) untried() (lines []string) {
+	if r.Programs != nil {
+		return nil
+	}
+	for _, it := range r.Untried {
+		lines = append(lines, "NOT TRIED: "+it)
+	}
+	return lines
 }
 
 // takeRun takes what a run has come to, in which no instance was created without faults.
@@ -93,7 +114,7 @@ func (r *Report) takeRun(found *result) {
 		r.Broken = append(r.Broken, it.Hidden(hide))
 	}
 	for _, it := range found.failed {
-		r.Failed = append(r.Failed, hide.In(conform.Printable(it)))
+		r.Failed = append(r.Failed, conform.Printable(hide.In(it)))
 	}
 	for _, it := range found.leftovers {
 		it.Reason = hide.In(it.Reason)
@@ -139,7 +160,7 @@ func (r *Report) BreaksMust() bool { return stormreport.BreaksMust(r.Broken) }
 // returns whether the storm has found what is left behind.
 func (r *Report) IsClean() bool {
 	switch {
-	case r.Ended != "" || r.Programs != nil && len(r.Programs.Odd) > 0:
+	case r.Ended != "" || len(r.Untried) > 0 || r.Programs != nil && len(r.Programs.Odd) > 0:
 		return false
 	case r.Programs != nil && r.Programs.Without != "":
 		return r.hasLoss()

@@ -2,6 +2,7 @@ package stormrun
 
 import (
 	"bytes"
+	"context"
 	"encoding/base64"
 	"encoding/json"
 	"encoding/xml"
@@ -9,12 +10,15 @@ import (
 	"fmt"
 	"html"
 	"io"
+	"net/http"
+	"net/http/httptest"
 	"regexp"
 	"strings"
 	"testing"
 	"time"
 
 	"pippinterm/conform"
+	"pippinterm/faults"
 	"pippinterm/stormreport"
 )
 
@@ -112,6 +116,55 @@ func TestNoSecrets(t *testing.T) {
 	}
 }
 
+// If the trial fails, neither the error nor what is left has the password that the broker repeats.
+func TestNoSecretsInErrors(t *testing.T) {
+	t.Parallel()
+	talk := func(w http.ResponseWriter, r *http.Request) {
+		w.Header().Set("Content-Type", "application/json")
+		status, body := 500, object{"description": "who sends " + r.Header.Get("Authorization") + ", which is " + password + "?"}
+		if r.URL.Path == "/v2/catalog" {
+			status, body = 200, catalogue(true)
+		}
+		w.WriteHeader(status)
+		_ = json.NewEncoder(w).Encode(body)
+	}
+	server := httptest.NewServer(http.HandlerFunc(talk))
+	defer server.Close()
+	config := configFor(t, server.URL)
+	config.Broker.Pause = time.Millisecond
+	config.Commands.List = "echo " + password + " >&2; exit 3"
+	storm, err := New(config)
+	if err != nil {
+		t.Fatal(err)
+	}
+	report, failed := storm.Run(context.Background(), context.Background())
+	if !errors.Is(failed, ErrTrial) || len(report.Leftovers) != 1 {
+		t.Fatalf("%v %v", failed, report.Leftovers)
+	}
+	m, url := newModel(t, false, mistakes{})
+	config.Broker.URL = url
+	if storm, err = New(config); err != nil {
+		t.Fatal(err)
+	}
+	_, listed := storm.Run(context.Background(), context.Background())
+	if !errors.Is(listed, ErrList) || len(m.left(t)) > 0 {
+		t.Fatalf("%v", listed)
+	}
+	login := base64.StdEncoding.EncodeToString([]byte("platform:" + password))
+	for _, it := range append(mapOf(reports(t, report)), failed.Error(), listed.Error(), report.Leftovers[0].String()) {
+		if strings.Contains(it, password) || strings.Contains(it, login[:12]) || !strings.Contains(it, stormreport.Hidden) {
+			t.Error(it)
+		}
+	}
+}
+
+func mapOf(all map[string]string) (values []string) {
+	for _, it := range all {
+		values = append(values, it)
+	}
+	return values
+}
+
 // hasBinding returns whether a binding was lost.
 func hasBinding(all []Finding) bool {
 	for _, it := range all {
@@ -134,6 +187,7 @@ func TestIsClean(t *testing.T) {
 		"stuck":   func(r *Report) { r.Stuck = []Finding{{}} },
 		"must":    func(r *Report) { r.Broken = []Broken{brokenWith(must, "")} },
 		"unknown": func(r *Report) { r.Unknown = 1 },
+		"untried": func(r *Report) { r.Untried = []string{"x"} },
 		"ended":   func(r *Report) { r.Ended = "x" }, "not converged": func(r *Report) { r.Converged = false },
 	} {
 		report := clean()
@@ -197,6 +251,58 @@ func TestUnmet(t *testing.T) {
 		if strings.Contains(text, "met no request") || form == "JSON" && !strings.Contains(text, `"unmet_faults": []`) {
 			t.Errorf("%s: %s", form, text)
 		}
+	}
+}
+
+// A storm in which no request had a fault isn't clean, unless no fault was wanted or the storm was ended. Each form says
+// what to do.
+func TestUntriedFaults(t *testing.T) {
+	list := listOf(t, "99.1 answer-lost")
+	for name, it := range map[string]struct {
+		share       float64
+		list, given []faults.Numbered
+		ended, says string
+	}{
+		"none of many": {0.4, nil, nil, "", "no request had a fault. Pass a greater number to --instances, "},
+		"none of list": {0.4, list, nil, "", "no request had a fault. Pass the --seed "},
+		"list alone":   {0, list, nil, "", "no request had a fault. Pass the --seed "},
+		"one":          {0.4, nil, list, "", ""},
+		"one of list":  {0.4, list, list, "", ""},
+		"no share":     {0, nil, nil, "", ""},
+		"empty list":   {0.4, []faults.Numbered{}, nil, "", ""},
+		"ended":        {0.4, nil, nil, "x", ""},
+	} {
+		report := emptyReport()
+		report.Converged, report.given, report.Ended = true, it.given, it.ended
+		report.takeUntried(Config{Share: it.share, List: it.list})
+		if report.IsClean() != (it.says == "" && it.ended == "") {
+			t.Errorf("%s: clean is %v", name, report.IsClean())
+		}
+		for form, text := range reports(t, report) {
+			wanted := map[string]string{
+				"JSON": "\"untried\": [\n    \"" + it.says, "text": "\nNOT TRIED: " + it.says,
+				"HTML": "<th>Wrong</th><td>NOT TRIED: " + it.says,
+			}[form]
+			if has := strings.Contains(text, wanted); has != (it.says != "") {
+				t.Errorf("%s, %s: %s", name, form, text)
+			}
+		}
+	}
+}
+
+// The storm itself counts: one whose few requests have no fault isn't clean.
+func TestStormWithoutFault(t *testing.T) {
+	t.Parallel()
+	_, url := newModel(t, false, mistakes{})
+	config := configFor(t, url)
+	config.Broker.Instances, config.Time, config.Share = 2, time.Second, 1e-9
+	report := stormed(t, config)
+	if report.IsClean() || len(report.Untried) != 1 || !report.Converged || len(report.Lost) > 0 {
+		t.Error(textOf(t, report))
+	}
+	config.Share = 0
+	if report := stormed(t, config); !report.IsClean() {
+		t.Error(textOf(t, report))
 	}
 }
 

@@ -12,6 +12,7 @@ import (
 
 	"pippinterm/conform"
 	"pippinterm/faults"
+	"pippinterm/stormreport"
 )
 
 // A Storm drives a broker through faults. Use one goroutine.
@@ -66,9 +67,13 @@ func (s *Storm) Prefix() string { return s.broker.Prefix() }
 //
 // Errors: those of conform's Runner.Open; ErrTrial; ErrList; what the storm itself failed at. The Report is never nil,
 // and says what couldn't be deleted.
-func (s *Storm) Run(running, deleting context.Context) (*Report, error) {
-	report := newReport(s)
-	defer func() { report.Failed = append(report.Failed, s.journals.close()...) }()
+func (s *Storm) Run(running, deleting context.Context) (report *Report, err error) {
+	report = newReport(s)
+	hide := conform.NewHider(s.config.Broker.User, s.config.Broker.Password)
+	defer func() {
+		report.Failed = append(report.Failed, s.journals.close()...)
+		err = hide.Error(err)
+	}()
 	if err := s.open(running, report); err != nil {
 		return report, err
 	}
@@ -90,6 +95,7 @@ func (s *Storm) Run(running, deleting context.Context) (*Report, error) {
 	if running.Err() != nil {
 		report.Ended, err = endedBefore, nil
 	}
+	report.takeUntried(s.config)
 	return report, err
 }
 
@@ -113,7 +119,8 @@ func (s *Storm) open(ctx context.Context, report *Report) error {
 	if s.config.Commands.List != "" {
 		s.inventory, s.isListed = listing{s.config.Commands, s.Prefix(), s.standard, s.left}, true
 	}
-	report.Service, report.Plan = s.target.ServiceName, s.target.PlanName
+	hide := conform.NewHider(s.config.Broker.User, s.config.Broker.Password)
+	report.Service, report.Plan = hide.In(s.target.ServiceName), hide.In(s.target.PlanName)
 	return nil
 }
 
@@ -201,7 +208,9 @@ func (s *Storm) once(running, deleting context.Context, source *faults.Source, o
 	found.differences = append(found.differences, s.byDeletion(deleting, records, r.last, begun, found)...)
 	found.ended = r.journal.Now()
 	found.leftovers = s.deleteAll(running, deleting, found)
-	found.broken, found.events, found.given = judge(found.exchanges, found.differences), r.events.list(), source.Given()
+	hide := stormreport.NewHider(s.config.Broker.User, s.config.Broker.Password, found.exchanges)
+	found.broken = judge(found.exchanges, found.differences, hide)
+	found.events, found.given = r.events.list(), source.Given()
 	found.restarts, found.unmet = r.proxy.Restarts(), source.Unmet()
 	return found, r.platform.close()
 }

@@ -64,7 +64,7 @@ func (r *Report) writeEnd(w io.Writer) {
 			fmt.Fprintf(w, "%s\n", it)
 		}
 	}
-	for _, it := range r.Failed {
+	for _, it := range append(r.untried(), r.Failed...) {
 		fmt.Fprintf(w, "%s\n", it)
 	}
 	if r.Ended != "" {

@@ -29,7 +29,8 @@ say ready though nothing exists, records that don't converge, and whatever else 
 rows and the resources disagree in.
 
 The stores, the folders that are sold, and the logs are in a temporary folder, which is deleted at the end, also after
-SIGINT or SIGTERM. A storm with --store postgresql or --backend postgresql needs --postgresql or --kill-database.
+SIGINT, SIGTERM or SIGHUP. A storm with --store postgresql or --backend postgresql needs --postgresql or
+--kill-database.
 
 A storm goes on until it has tried everything, for at most twice --seconds, or 240 seconds if that is more: until 20
 records of each kind were compared, each kind of fault has met a request, and each program was killed twice and paused

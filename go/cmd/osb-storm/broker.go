@@ -26,24 +26,25 @@ nothing exists, and answers that break the Open Service Broker API 2.17.
 
 The platform is the one of osb-platform, with a store in a temporary folder. After --seconds the faults end, and
 osb-storm waits until everything has converged. Each instance and binding has an id that begins with a random prefix,
-which is printed first. All of them are deleted at the end, also after SIGINT or SIGTERM. A second signal ends the
-deletions, too.
+which is printed first. All of them are deleted at the end, also after SIGINT, SIGTERM or SIGHUP. A second SIGINT or
+SIGTERM ends the deletions, too.
 
 To find out what exists, give --list-command. Without it, osb-storm asks the broker for each instance.
 
 With --journal, the platform writes its journal, which osb-audit compares with that of osb-broker. The platform then also
 deletes everything that its records name, before osb-storm deletes the rest.
 
-The commands are run by /bin/sh, and must return within a minute. A broker that is started in the foreground needs & at
-the end of its command.
+The commands are run by /bin/sh, and must return within a minute. A command that lists may print 64 MiB. A broker that
+is started in the foreground needs & at the end of its command.
 
 environment:
   OSB_BROKER_PASSWORD      the password, if --password-file isn't given
 
 exit status: 0 nothing was lost; 1 something was lost, a record was false, an answer broke a MUST, not everything
-converged, something couldn't be asked for, or a signal ended the run; 2 change something first: an argument, a file, a
-name, a plan that can't be created without faults, or a command that doesn't list what exists; 3 an instance or a
-binding could not be deleted, and standard output lists it; 69 the broker can't be reached; 70 any other error`
+converged, something couldn't be asked for, no request had a fault though --fault-percent or --faults asks for some, or
+a signal ended the run; 2 change something first: an argument, a file, a name, a plan that can't be created without
+faults, or a command that doesn't list what exists; 3 an instance or a binding could not be deleted, and standard output
+lists it; 69 the broker can't be reached; 70 any other error`
 
 func brokerCommand(o *outcome) *cobra.Command {
 	s := &brokerSettings{}
@@ -109,12 +110,13 @@ func (s *brokerSettings) run(ctx context.Context, out, stderr io.Writer) (int, e
 		return 0, err
 	}
 	defer files.close()
+	running, deleting, forget := untilSignals(ctx)
+	defer forget()
+	s.config.Broker.Tell = waits(running, stderr)
 	storm, err := s.storm(stderr)
 	if err != nil {
 		return 0, program.Unusable(err)
 	}
-	running, deleting, forget := untilSignals(ctx)
-	defer forget()
 	fmt.Fprintf(out, "Each id begins with %s. The seed is %d.\n\n", storm.Prefix(), s.seed)
 	report, failure := storm.Run(running, deleting)
 	if failure != nil {

@@ -28,7 +28,8 @@ const conformHelp = `Send requests without faults to a broker, and compare each 
 API 2.17.
 
 Each instance and binding has an id that begins with a random prefix, which is printed first. All of
-them are deleted at the end, also after SIGINT or SIGTERM. A second signal ends the deletions, too.
+them are deleted at the end, also after SIGINT, SIGTERM or SIGHUP. A second SIGINT or SIGTERM ends the
+deletions, too.
 
 environment:
   OSB_BROKER_PASSWORD      the password, if --password-file isn't given
@@ -71,12 +72,13 @@ func (s *conformSettings) run(ctx context.Context, out, stderr io.Writer) (int, 
 		return 0, err
 	}
 	defer files.close()
+	running, deleting, forget := untilSignals(ctx)
+	defer forget()
+	s.config.Tell = waits(running, stderr)
 	runner, err := s.runner(stderr)
 	if err != nil {
 		return 0, program.Unusable(err)
 	}
-	running, deleting, forget := untilSignals(ctx)
-	defer forget()
 	fmt.Fprintf(out, "Each id begins with %s.\n\n", runner.Prefix())
 	limited, cancel := context.WithTimeout(running, s.runTime)
 	report, failure := runner.Run(limited)
@@ -145,17 +147,39 @@ func (s *conformSettings) status(report *conform.Report) int {
 	return program.StatusDone
 }
 
-// untilSignals returns a context that the first SIGINT or SIGTERM ends, and one that the second one ends.
+// waits returns what writes a line about deletions that have to wait. running is done after the first signal.
+func waits(running context.Context, stderr io.Writer) func(line string) {
+	return func(line string) {
+		if running.Err() != nil {
+			line += " A second SIGINT or SIGTERM ends the deletions."
+		}
+		fmt.Fprintf(stderr, "osb-storm: %s\n", line)
+	}
+}
+
+// untilSignals returns a context that the first SIGINT, SIGTERM or SIGHUP ends, and one that the next SIGINT or SIGTERM
+// ends. A terminal that is closed sends SIGHUP several times, so no SIGHUP ends the second one. With nohup, SIGHUP ends
+// nothing.
+//
+// Until forget is called, a write to a pipe that nobody reads is an error, and doesn't end the program: ^C also ends a
+// command that reads the output.
 func untilSignals(ctx context.Context) (first, second context.Context, forget func()) {
 	first, endFirst := context.WithCancel(ctx)
 	second, endSecond := context.WithCancel(ctx)
-	signals := make(chan os.Signal, 2)
+	signals, pipes := make(chan os.Signal, 2), make(chan os.Signal, 1)
 	signal.Notify(signals, syscall.SIGINT, syscall.SIGTERM)
+	if !signal.Ignored(syscall.SIGHUP) {
+		signal.Notify(signals, syscall.SIGHUP)
+	}
+	signal.Notify(pipes, syscall.SIGPIPE)
 	go func() {
-		for _, end := range []func(){endFirst, endSecond} {
+		for {
 			select {
-			case <-signals:
-				end()
+			case it := <-signals:
+				if first.Err() != nil && it != syscall.SIGHUP {
+					endSecond()
+				}
+				endFirst()
 			case <-second.Done():
 				return
 			}
@@ -163,6 +187,7 @@ func untilSignals(ctx context.Context) (first, second context.Context, forget fu
 	}()
 	return first, second, func() {
 		signal.Stop(signals)
+		signal.Stop(pipes)
 		endFirst()
 		endSecond()
 	}

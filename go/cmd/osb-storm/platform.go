@@ -28,7 +28,8 @@ Add the broker to your platform, and let the platform create and delete instance
 about an instance, the faults begin. After --seconds they end, and the platform has --settle-seconds to clean up. If
 nothing is left to clean up, osb-storm ends before.
 
-The broker sells folders in a temporary folder, which is deleted at the end, also after SIGINT or SIGTERM.
+The broker sells folders in a temporary folder, which is deleted at the end, also after SIGINT, SIGTERM or
+SIGHUP.
 
 To find out what the platform has, give --list-command, and --list-bindings-command for the bindings. Without them,
 osb-storm judges by the platform's requests, and lists what you have to compare yourself.
@@ -37,8 +38,8 @@ environment:
   OSB_BROKER_PASSWORD      the password, if --password-file isn't given
 
 exit status: 0 nothing was abandoned; 1 something was abandoned, a record was false, not everything converged, a
-request broke a MUST, no request came, or a signal ended the run; 2 change something first: an argument or a file; 70
-any other error`
+request broke a MUST, no request came, no request had a fault though --fault-percent or --faults asks for some, or a
+signal ended the run; 2 change something first: an argument or a file; 70 any other error`
 
 func platformCommand(o *outcome) *cobra.Command {
 	s := &platformSettings{}
@@ -96,12 +97,12 @@ func (s *platformSettings) run(ctx context.Context, out, stderr io.Writer) (stat
 		return 0, err
 	}
 	defer files.close()
+	running, _, forget := untilSignals(ctx)
+	defer forget()
 	storm, err := s.start(ctx, stderr)
 	if err != nil {
 		return 0, program.Unusable(err)
 	}
-	running, _, forget := untilSignals(ctx)
-	defer forget()
 	fmt.Fprintf(out, "The broker listens at %s for the user %s. The seed is %d.\n"+
 		"The faults begin with the first request about an instance.\n\n", storm.URL(), s.config.User, s.seed)
 	found := storm.Run(running)
