@@ -1,6 +1,7 @@
 package stormrun
 
 import (
+	"math"
 	"net/http"
 	"net/url"
 	"sort"
@@ -73,18 +74,37 @@ func deliveriesOf(exchanges []faults.Exchange) []*sent {
 			all = append(all, it)
 		}
 	}
-	for _, ofKey := range byKey {
-		learn(ofKey)
+	for key, ofKey := range byKey {
+		if key.Binding == "" {
+			learn(ofKey, math.MaxInt64)
+			continue
+		}
+		learn(ofKey, firstDeletion(byKey[Key{Instance: key.Instance}]))
 	}
 	sort.SliceStable(all, func(one, other int) bool { return all[one].ended < all[other].ended })
 	return all
 }
 
-// learn sets what was known before each delivery of one key.
-func learn(all []*sent) {
+// firstDeletion returns when a deletion was first with the broker.
+func firstDeletion(all []*sent) (begun time.Duration) {
+	begun = math.MaxInt64
+	for _, it := range all {
+		if it.Method == http.MethodDelete && it.begun < begun {
+			begun = it.begun
+		}
+	}
+	return begun
+}
+
+// learn sets what was known before each delivery of one key. Of a binding, nothing is known any more once its instance
+// may be deleted: the broker may first end the binding.
+func learn(all []*sent, deleted time.Duration) {
 	sort.SliceStable(all, func(one, other int) bool { return all[one].ended < all[other].ended })
 	state, first := fresh, conform.Seen{}
 	for at, it := range all {
+		if it.ended >= deleted {
+			state = unknown
+		}
 		if overlaps(all, at) {
 			state = unknown
 			if it.changes() {

@@ -121,6 +121,38 @@ func TestJudgeAtOnce(t *testing.T) {
 	}
 }
 
+// A binding may be ended by the broker once its instance is to be deleted.
+func TestJudgeBindingOfADeletedInstance(t *testing.T) {
+	type x = [3]any
+	for _, it := range []struct {
+		name   string
+		all    []faults.Exchange
+		wanted string
+	}{
+		{"while it is created", ofBinding(answers(x{"PUT", 202, operation}, x{"POLL", 410, `{}`}), 0, 1),
+			"binding-last-operation-state"},
+		{"after a deletion of the instance",
+			ofBinding(answers(x{"PUT", 202, operation}, x{"DELETE", 422, `{}`}, x{"POLL", 410, `{}`}), 0, 2), ""},
+		{"before a deletion of the instance",
+			ofBinding(answers(x{"PUT", 202, operation}, x{"POLL", 410, `{}`}, x{"DELETE", 422, `{}`}), 0, 1),
+			"binding-last-operation-state"},
+	} {
+		if found := namesOf(judge(it.all, nil, stormreport.Hider{})); found != it.wanted {
+			t.Errorf("%s: %q", it.name, found)
+		}
+	}
+}
+
+// ofBinding has some exchanges be about a binding of the instance.
+func ofBinding(all []faults.Exchange, these ...int) []faults.Exchange {
+	for _, at := range these {
+		it := &all[at]
+		it.Binding, it.Number.Binding = "two", 1
+		it.Target = strings.Replace(it.Target, "/one", "/one/service_bindings/two", 1)
+	}
+	return all
+}
+
 // All requests whose answers break a rule are in the JSON by their numbers, and only the first one is in the text.
 func TestNumbers(t *testing.T) {
 	type x = [3]any
