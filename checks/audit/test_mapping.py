@@ -352,6 +352,15 @@ def test_a_request_that_is_sent_late() -> None:
     assert (found.stop, found.notes) == (None, {LATE: 1})
 
 
+def test_a_fetch_of_an_earlier_claim() -> None:
+    """A worker that was paused for longer than its lease goes on with the Fetch, while it claims the record again."""
+    asks = "P claim polling/3/poll of binding; P send b4 poll 3 of binding; P hear b4 503 malformed of binding; "
+    telling = f"{ASYNC_BIND}; {asks}; P take 3 polling/3 of binding; P lose b3 of binding"
+    found = story_of(Journal(of_broker=started(False, "async")).tell(telling))
+    assert events_of(found) == [*ASYNC_BOUND.split("; "), "timeout B", "send B", "gateway B 503"]
+    assert found.stop is None
+
+
 def test_a_request_whose_claim_no_journal_has() -> None:
     """A worker's older file may be missing that has the claim. What the next change has found shows the claim."""
     asks = "P2 send r2 deprovision 2; B arrive 2 r2 deprovision; B change 2 ready+deprovision; B answer 2 503 malformed"

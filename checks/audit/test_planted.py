@@ -1,5 +1,5 @@
-"""osb-audit finds a slip in the real osb-broker: each is planted into a copy of its source, and a platform has one
-instance created. The audit has to name the first line of the journal that is wrong.
+"""osb-audit finds a slip in the real osb-broker and osb-platform: each is planted into a copy of the source, and a
+platform has one instance created. The audit has to name the first line of the journal that is wrong.
 """
 
 from __future__ import annotations
@@ -16,10 +16,10 @@ from building import SHIPPED, building
 
 pytestmark = pytest.mark.slow
 
-SOURCE = TOP / "go" / "broker" / "service.go"
-"""It has the order of writes."""
-BUILT = TOP / "out" / "gopath" / "src" / "pippinterm" / "broker" / "service.go"
-"""The same file, under the name by which scripts/go builds it."""
+SOURCE = "broker/service.go"
+"""The file of the broker that has the order of writes."""
+BUILT = TOP / "out" / "gopath" / "src" / "pippinterm"
+"""The folder of the sources, under the name by which scripts/go builds them."""
 
 
 class Slip(NamedTuple):
@@ -108,18 +108,40 @@ unless the broker is killed. By the third, each is, and the storm may find one t
 """
 
 
-def built(slip: Slip, folder: Path) -> Path:
-    """osb-broker with this slip."""
-    source = SOURCE.read_text()
-    assert source.count(slip.right) == 1, f"{SOURCE} has changed: plant the slip at another place"
-    (folder / "service.go").write_text(source.replace(slip.right, slip.wrong))
-    (folder / "overlay").write_text(json.dumps({"Replace": {str(BUILT): str(folder / "service.go")}}))
+EAGER = Slip(
+    '\t\tpoint("claim-next").at()\n',
+    """
+        if made.send != nil {
+            early, id := made.send.out, osb.ID{}
+            if id, err = newID(); err != nil {
+                return nil, err
+            }
+            early.RequestID, early.Until = id.String(), until
+            e.client.Exchange(ctx, early)
+        }
+    """,
+    {"event": "sent", "kind": "provision", "attempt": 1},
+    "",
+    "a request is sent that the record doesn't have in flight",
+    "- -",
+    "provision 1",
+)
+"""A platform that sends before it commits. If the commit then fails, nobody knows of the request."""
+
+
+def built(slip: Slip, folder: Path, program: str = "osb-broker", file: str = SOURCE) -> Path:
+    """The program with this slip in a file of its source."""
+    source = (TOP / "go" / file).read_text()
+    assert source.count(slip.right) == 1, f"{file} has changed: plant the slip at another place"
+    planted = folder / Path(file).name
+    planted.write_text(source.replace(slip.right, slip.wrong))
+    (folder / "overlay").write_text(json.dumps({"Replace": {str(BUILT / file): str(planted)}}))
     words = "-trimpath", "-ldflags=-w", "-tags", SHIPPED, "-overlay", str(folder / "overlay")
-    line = [str(TOP / "scripts" / "go"), "build", *words, "-o", str(folder / "osb-broker"), "./cmd/osb-broker"]
+    line = [str(TOP / "scripts" / "go"), "build", *words, "-o", str(folder / program), f"./cmd/{program}"]
     with building():
         ran = subprocess.run(line, stdin=subprocess.DEVNULL, capture_output=True, text=True)
     assert ran.returncode == 0, ran.stderr
-    return folder / "osb-broker"
+    return folder / program
 
 
 @pytest.mark.long(10)
@@ -158,3 +180,20 @@ def test_planted(audit: Audit, broker: Path, platform: Path, tmp_path: Path, nam
     assert line["side"] == "broker" and {it: line[it] for it in slip.line} == slip.line, line
     event = found["event"].replace(found["instance"], "I")
     assert (event, found["why"], found["model"], found["journal"]) == slip[3:], found
+
+
+@pytest.mark.long(10)
+def test_planted_in_platform(audit: Audit, broker: Path, tmp_path: Path) -> None:
+    """Each request is sent once before its claim is committed, and once after it."""
+    at, eager = address(), built(EAGER, tmp_path, "osb-platform", "platform/exchange.go")
+    with serving(broker, tmp_path, at):
+        it = Platform(eager, tmp_path, at)
+        it.once()  # it asks for the catalogue
+        assert it.create() == 0
+        it.once()
+    ran = audit(tmp_path / "journals")
+    assert (ran.status, len(ran.report["differences"]), ran.err) == (1, 1, ""), ran
+    found = ran.report["differences"][0]
+    line = json.loads(Path(found["file"]).read_text().splitlines()[found["line"] - 1])
+    assert line["side"] == "platform" and {it: line[it] for it in EAGER.line} == EAGER.line, line
+    assert (found["event"], found["why"], found["model"], found["journal"]) == EAGER[3:], found

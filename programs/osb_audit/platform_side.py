@@ -26,6 +26,8 @@ class PlatformSide:
         self.known = known
         self.left: set[str] = set()
         """The requests that were sent so far."""
+        self.polls: dict[str, int] = {}
+        """The number of the request that was in flight when a Fetch was sent."""
 
     def step(self, line: Line) -> None:
         """Goes through a line."""
@@ -37,6 +39,7 @@ class PlatformSide:
         self.left.add(line.of["request"])
         if line.of["kind"] == "fetch":
             self.known.fetches.setdefault(line.key, []).append(line.of["request"])
+            self.polls[line.of["request"]] = self.known.life(line.key).record.attempt
         elif line.of.get("attempt"):
             life = self.known.life(line.key)
             self._check_out(line, life)
@@ -146,7 +149,8 @@ class PlatformSide:
         """The platform takes an answer, or none."""
         attempt = line.of.get("attempt", life.record.attempt)
         requests = self.known.requests.get((life.key, attempt), [])
-        self._check_heard(line, [*requests, *self.known.fetches.get(life.key, ())[-1:]])
+        fetches = self.known.fetches.get(life.key, ())[-1:]
+        self._check_heard(line, [*requests, *(it for it in fetches if self.polls[it] == attempt)])
         heard = [self.known.heard[it] for it in requests if it in self.known.heard]
         said = _said(heard[-1]) if heard else None
         timed_out = rules.stepped(life.record, "timeout")
