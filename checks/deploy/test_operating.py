@@ -52,5 +52,5 @@ def test_first_look(broker: Path, platform: Path, tmp_path: Path) -> None:
     assert {"osb_broker_store_up 1", "osb_broker_pending 0", "osb_platform_store_up 1"} <= set(lines)
     assert 'osb_platform_failures_total{event="broker_unreached"} 1' in lines
     events = [it.split("\t") for it in lines if "\tbroker_unreached\t" in it]
-    assert len(events) == 1 and "connection refused" in events[0][2]
+    assert len(events) == 1 and "connection refused" in events[0][3]
     assert [it for it in lines if it.startswith("away\thttp://")] != []
