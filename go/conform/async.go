@@ -43,18 +43,18 @@ func (r *Runner) duringProvision(k key, first *exchange) {
 		}))
 		r.judge("async-conflict", x, x.want(409))
 	}
-	r.skip("the catalogue has one plan", "async-conflict")
+	r.skip(reasonOnePlan, "async-conflict")
 	if r.target.instancesRetrievable {
 		x = r.send(request{method: "GET", path: pathOf(k), query: namesOf(r.target.pair)})
 		r.judgeDuring("async-fetch-during-provision", k, operation, x, x.want(404))
 	}
-	r.skip("the service isn't instances_retrievable", "async-fetch-during-provision")
+	r.skip(reasonNotFetched, "async-fetch-during-provision")
 	if r.target.bindable {
 		binding := key{k.instance, r.id()}
 		x = r.put(binding, r.bind(binding, nil))
 		r.judgeDuring("async-bind-during-provision", k, operation, x, blocked(x))
 	}
-	r.skip("the plan isn't bindable", "async-bind-during-provision")
+	r.skip(reasonNotBindable, "async-bind-during-provision")
 	x = r.delete(k)
 	r.judgeDuring("async-deprovision-during-provision", k, operation, x, blocked(x))
 }

@@ -10,6 +10,9 @@ const (
 	reasonNotBindable    = "the plan isn't bindable"
 	reasonBindsAtOnce    = "the plan binds synchronously, or can't be bound"
 	reasonNotRetrievable = "the service isn't bindings_retrievable"
+	reasonNotFetched     = "the service isn't instances_retrievable"
+	reasonOnePlan        = "the catalogue has one plan"
+	reasonNoCatalogue    = "the catalogue can't be read"
 )
 
 var bindingCases = scenario{

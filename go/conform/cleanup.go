@@ -18,7 +18,7 @@ type Leftover struct {
 // count.
 const mostTries = 5
 
-// quietTime is how long CleanUp goes on before it reports that deletions take long.
+// quietTime is how long a request, or CleanUp in all its passes so far, takes before it reports that deletions take long.
 const quietTime = 2 * time.Second
 
 // The reasons for a leftover while its deletion goes on.
@@ -93,11 +93,12 @@ type cleaning struct {
 func (c *cleaning) pass(ctx context.Context) {
 	for _, it := range c.all {
 		if ctx.Err() == nil && (it.state == gone || it.state == pending && !c.hasPending(it)) {
+			begun := time.Now()
 			c.step(ctx, it)
-			c.announce(ctx, false)
+			c.announce(ctx, false, time.Since(begun) > quietTime)
 		}
 	}
-	c.announce(ctx, true)
+	c.announce(ctx, true, time.Since(c.begun) > quietTime)
 }
 
 // hasPending returns whether a binding of an instance isn't deleted yet.
@@ -202,9 +203,8 @@ func (it *removal) fails(reason string) {
 }
 
 // announce reports once for what CleanUp waits, and until when: creations that may still arrive after the first pass, and
-// deletions that take long after a while. isWhole is whether a pass has ended.
-func (c *cleaning) announce(ctx context.Context, isWhole bool) {
-	isLong := time.Since(c.begun) > quietTime
+// deletions that take long. isWhole is whether a pass has ended, and isLong whether it, or else one request, took long.
+func (c *cleaning) announce(ctx context.Context, isWhole, isLong bool) {
 	if c.tell == nil || ctx.Err() != nil || !isWhole && !isLong {
 		return
 	}

@@ -3,6 +3,7 @@ package conform
 import (
 	"context"
 	"errors"
+	"fmt"
 	"regexp"
 	"strings"
 	"sync/atomic"
@@ -338,5 +339,34 @@ func TestInstanceThatIsNeverFree(t *testing.T) {
 	}
 	if exist := m.left(); exist != 1 {
 		t.Errorf("%d exist", exist)
+	}
+}
+
+// Many quick deletions are no news, although they take long together. A slow one is.
+func TestManyDeletions(t *testing.T) {
+	for _, it := range []struct {
+		first, others time.Duration
+		wanted        int
+	}{{quietTime / 8, quietTime / 8, 0}, {quietTime * 5 / 4, 0, 1}} {
+		m, pause := newModel(false), it.first
+		var told []string
+		c := configFor(served(t, m))
+		c.Tell = func(line string) { told = append(told, line) }
+		r := runnerFor(t, c)
+		if _, err := r.Open(context.Background()); err != nil {
+			t.Fatal(err)
+		}
+		for n := 0; n < 10; n++ {
+			id := fmt.Sprint(n)
+			m.lives[key{instance: id}] = &life{state: "ready", asked: object{"plan": "a"}}
+			r.Owe(Owed{Instance: id})
+		}
+		m.hold = func(*call) {
+			time.Sleep(pause)
+			pause = it.others
+		}
+		if left := r.CleanUp(context.Background()); len(left) > 0 || len(told) != it.wanted {
+			t.Errorf("after %v and %v: %v are left, and it tells %q", it.first, it.others, left, told)
+		}
 	}
 }

@@ -134,3 +134,28 @@ func TestEveryCaseHasAMistake(t *testing.T) {
 		}
 	}
 }
+
+// Without a catalogue, nobody knows what it would have.
+func TestReasonsWithoutCatalogue(t *testing.T) {
+	m := newModel(false)
+	m.spoil = func(c *call) {
+		if c.kind == "catalog" {
+			c.give(404, object{})
+		}
+	}
+	c := configFor(served(t, m))
+	c.Service, c.Plan = "s", "a"
+	report, err := runnerFor(t, c).Run(context.Background())
+	if err != nil {
+		t.Fatal(err)
+	}
+	of := map[string]string{}
+	for _, it := range report.Results {
+		of[it.Name] = it.Reason
+	}
+	for _, name := range []string{"provision-conflict-plan", "fetch-instance"} {
+		if of[name] != "the catalogue can't be read" {
+			t.Errorf("%s: %q", name, of[name])
+		}
+	}
+}

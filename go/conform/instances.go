@@ -120,7 +120,7 @@ func (r *Runner) repeatedProvisions(k key) {
 	r.judge("provision-conflict-parameters", x, x.want(409, 400))
 	other := r.target.other
 	if other.plan == "" {
-		r.skip("the catalogue has one plan", "provision-conflict-plan")
+		r.skip(reasonOnePlan, "provision-conflict-plan")
 		return
 	}
 	x = r.create(k, other, r.provision(k.instance, func(body object) {
@@ -131,7 +131,7 @@ func (r *Runner) repeatedProvisions(k key) {
 
 func (r *Runner) fetches(k key) {
 	if !r.target.instancesRetrievable {
-		r.skip("the service isn't instances_retrievable", "fetch-instance", "fetch-instance-unknown")
+		r.skip(reasonNotFetched, "fetch-instance", "fetch-instance-unknown")
 		return
 	}
 	x := r.send(request{method: "GET", path: pathOf(k), query: namesOf(r.target.pair)})

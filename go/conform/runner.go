@@ -189,6 +189,12 @@ func (r *Runner) judge(name string, x *exchange, problem string) {
 
 // skip sets why a case isn't run, unless it has been judged.
 func (r *Runner) skip(reason string, names ...string) {
+	switch reason {
+	case reasonOnePlan, reasonNotBindable, reasonNotRetrievable, reasonNotFetched:
+		if !r.hasCatalogue() { // then nobody knows whether it is so
+			reason = reasonNoCatalogue
+		}
+	}
 	for _, name := range names {
 		if result := r.results[name]; result.Verdict == NotRun && result.Reason == "" {
 			result.Reason = reason

@@ -31,13 +31,18 @@ func (r *Runner) Open(ctx context.Context) (Target, error) {
 	if err := r.open(); err != nil {
 		return Target{}, err
 	}
-	_, isList := listOf(r.fetched.object["services"])
 	return Target{
 		Service: r.target.service, Plan: r.target.plan, ServiceName: r.target.serviceName, PlanName: r.target.planName,
 		Bindable: r.target.bindable, InstancesRetrievable: r.target.instancesRetrievable,
 		BindingsRetrievable: r.target.bindingsRetrieved, Catalogue: []byte(r.fetched.text),
-		HasCatalogue: r.fetched.is(200) && isList,
+		HasCatalogue: r.hasCatalogue(),
 	}, nil
+}
+
+// hasCatalogue returns whether the catalogue could be read.
+func (r *Runner) hasCatalogue() bool {
+	_, isList := listOf(r.fetched.object["services"])
+	return r.fetched.is(200) && isList
 }
 
 // An Answer is what a broker has answered.

@@ -54,6 +54,26 @@ func TestLifeOf(t *testing.T) {
 	}
 }
 
+// A life says what the broker has got of a request.
+func TestDeliveriesOfALife(t *testing.T) {
+	for kind, wanted := range map[faults.Kind][]string{
+		faults.None:           {"gets the request", "gets the request once more"},
+		faults.RequestCut:     {"gets half of the request", "gets the request once more"},
+		faults.RequestGarbled: {"gets the request with a body that isn't JSON", "gets the request once more"},
+	} {
+		x := faults.Exchange{Instance: "one", Method: "PUT", Target: "/x", Fault: kind, Deliveries: make([]faults.Delivery, 2)}
+		var got []string
+		for _, it := range LifeOf(Key{Instance: "one"}, []faults.Exchange{x}, nil, Hider{}) {
+			if strings.HasPrefix(it.What, "gets ") {
+				got = append(got, it.What)
+			}
+		}
+		if !reflect.DeepEqual(got, wanted) {
+			t.Errorf("%s: %q", kind, got)
+		}
+	}
+}
+
 // Only a MUST that is broken counts.
 func TestBreaksMust(t *testing.T) {
 	of := func(level conform.Level) Broken {

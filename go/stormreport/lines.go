@@ -57,8 +57,13 @@ func linesOf(x faults.Exchange, hide Hider) []Line {
 	all := []Line{request}
 	for at, d := range x.Deliveries {
 		which := "the request"
-		if at > 0 {
+		switch {
+		case at > 0:
 			which = "the request once more"
+		case x.Fault == faults.RequestCut:
+			which = "half of the request"
+		case x.Fault == faults.RequestGarbled:
+			which = "the request with a body that isn't JSON"
 		}
 		all = append(all, line(d.Begun, WhoBroker, "gets "+which), line(d.Ended, WhoBroker, answerOf(x, d, hide)))
 	}

@@ -13,7 +13,7 @@ func (r *Report) WriteHTML(w io.Writer) error {
 	page := &stormreport.Page{
 		Title:   "Storm against " + r.URL,
 		Summary: r.verdict(),
-		Minimal: r.Minimal, MinimalTitle: r.minimalTitle(),
+		Minimal: r.minimalLines(), MinimalTitle: r.minimalTitle(),
 		Sections: []stormreport.Section{
 			{Title: "Lost", Findings: r.Lost, Kills: r.kills}, {Title: "False records", Findings: r.False, Kills: r.kills},
 			{Title: "Not converged", Findings: r.Stuck, Kills: r.kills},

@@ -200,6 +200,14 @@ func (r *Report) minimalTitle() string {
 	return "The shortest list of faults that still loses one"
 }
 
+// minimalLines are the faults of the list that was shrunk, or say that it needs none. It is nil if no list was shrunk.
+func (r *Report) minimalLines() []string {
+	if r.Minimal != nil && len(r.Minimal) == 0 {
+		return []string{"none: something is lost without any fault"}
+	}
+	return r.Minimal
+}
+
 // WriteFaults writes the faults of the run as a list that faults.ReadList reads, or the list to which it was shrunk.
 func (r *Report) WriteFaults(w io.Writer) error {
 	if r.Minimal != nil {

@@ -231,6 +231,20 @@ func TestUnasked(t *testing.T) {
 	}
 }
 
+// If something is lost without any fault, the report says so in place of the list.
+func TestNoFaultIsNeeded(t *testing.T) {
+	for _, minimal := range [][]string{nil, {}, {"1.1 request-lost"}} {
+		report := emptyReport()
+		report.Minimal = minimal
+		isSaid := minimal != nil && len(minimal) == 0
+		for form, text := range reports(t, report) {
+			if form != "JSON" && strings.Contains(text, "none: something is lost without any fault") != isSaid {
+				t.Errorf("%q, %s: %s", minimal, form, text)
+			}
+		}
+	}
+}
+
 // Faults of a list that meet no request are named in each form.
 func TestUnmet(t *testing.T) {
 	t.Parallel()

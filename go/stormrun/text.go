@@ -45,7 +45,7 @@ func (r *Report) writeMinimal(w io.Writer) {
 		return
 	}
 	fmt.Fprintf(w, "\n%s (%d runs):\n", r.minimalTitle(), r.MinimizeRuns)
-	for _, it := range r.Minimal {
+	for _, it := range r.minimalLines() {
 		fmt.Fprintf(w, "  %s\n", it)
 	}
 	stormreport.WriteFindings(w, "with these faults", r.MinimalLost)
