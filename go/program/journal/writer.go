@@ -16,7 +16,7 @@ import (
 )
 
 // patience is how long a line is waited for. A disk that works takes less, and a platform waits longer for an answer.
-const patience = time.Second
+const patience = 5 * time.Second
 
 // Options say where and how a journal is written.
 type Options struct {
