@@ -111,7 +111,9 @@ func (w worker) delete(ctx context.Context, request Request) (result, error) {
 // told is the result of work after which it is known what exists.
 func (w worker) told(request Request, what string, isDone bool, failed error, calls *calls) (result, error) {
 	if !isDone && failed == nil {
-		failed = errors.New("the backend returned no error, and it isn't so")
+		failed = fmt.Errorf("the backend returned no error, but Look reports that %s", map[string]string{
+			"create": "not all of it exists", "delete": "it still exists",
+		}[what])
 	}
 	var rejected *Rejected
 	isRejection := what == "create" && !isDone && errors.As(failed, &rejected)
