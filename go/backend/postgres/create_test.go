@@ -138,13 +138,16 @@ func TestNoRoleLiftsItsLimit(t *testing.T) {
 // it.
 func TestSettingsOfRoles(t *testing.T) {
 	r := newRig(t)
-	it := created(t, r.open()).request.Key
+	d := r.open()
+	it := created(t, d).request.Key
+	_, binding := bound(t, d, it)
 	r.wantSettings(postgres.NameOf(it), "idle_in_transaction_session_timeout=600000ms")
+	r.wantSettings(binding.Username, "idle_in_transaction_session_timeout=600000ms,role="+postgres.NameOf(it))
 	wantTempFileLimit(t, r.customer(it), "-1")
 	pgtest.Exec(t, r.admin, "GRANT SET ON PARAMETER temp_file_limit TO "+r.role)
-	d := r.open(func(o *postgres.Options) { o.TempFileLimit, o.IdleInTransaction = 5<<20, -1 })
+	d = r.open(func(o *postgres.Options) { o.TempFileLimit, o.IdleInTransaction = 5<<20, -1 })
 	it = created(t, d).request.Key
-	_, binding := bound(t, d, it)
+	_, binding = bound(t, d, it)
 	r.wantSettings(postgres.NameOf(it), "temp_file_limit=5120kB")
 	r.wantSettings(binding.Username, "temp_file_limit=5120kB,role="+postgres.NameOf(it))
 	wantTempFileLimit(t, r.customer(it), "5MB")
