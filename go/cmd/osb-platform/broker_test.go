@@ -10,6 +10,8 @@ import (
 	"path/filepath"
 	"strings"
 	"testing"
+
+	"pippinterm/platform"
 )
 
 // Brokers are added, changed, listed, shown and dropped.
@@ -28,6 +30,7 @@ first pace	default
 longest pace	default
 longest poll	default
 catalogue since	2023-11-14T22:13:20Z
+tombstones	no
 plan	database	small	s-1	p-1	bindable
 plan	database	large	s-1	p-2	not bindable`, ``},
 		{"broker show other", 1, ``, `osb-platform: the broker "other" is unknown`},
@@ -161,4 +164,25 @@ func TestSetAsksForCatalogue(t *testing.T) {
 		{"broker set shop --password-file " + wrong, 0, ``, `osb-platform: warning: .*\(401\).*`},
 		{"create --plan at-once --id two", 0, `two`, ``}, // the catalogue that was answered last counts
 	})
+}
+
+// A broker's line tombstones is there once its catalogue is known.
+func TestShowsTombstones(t *testing.T) {
+	for catalogue, wanted := range map[string]string{
+		"":                 "",
+		`{"services": []}`: "\ntombstones\tno\n",
+		`{"services": [], "x-osb-tombstones": true}`: "\ntombstones\tyes\n",
+	} {
+		broker := platform.Broker{Name: "shop"}
+		if catalogue != "" {
+			broker.Catalogue = []byte(catalogue)
+		}
+		var shown strings.Builder
+		if err := showBroker(&shown, broker); err != nil {
+			t.Fatal(err)
+		}
+		if !strings.Contains(shown.String(), wanted) || strings.Contains(shown.String(), "tombstones") != (wanted != "") {
+			t.Errorf("%q: %s", catalogue, shown.String())
+		}
+	}
 }

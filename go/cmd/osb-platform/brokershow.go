@@ -51,11 +51,19 @@ func brokerOf(ctx context.Context, store platform.Store, name string) (platform.
 }
 
 func showBroker(to io.Writer, b platform.Broker) error {
+	catalogue := &platform.Catalogue{}
+	if b.Catalogue != nil {
+		var err error
+		if catalogue, err = platform.ReadCatalogue(b.Catalogue); err != nil {
+			return err
+		}
+	}
 	for _, it := range [][2]string{
 		{"name", b.Name}, {"url", printable(b.URL)}, {"user", printable(b.User)}, {"password", passwordOf(b)},
 		{"hold", secondsText(b.Settings.Hold)}, {"first pace", secondsText(b.Settings.FirstPace)},
 		{"longest pace", secondsText(b.Settings.LongestPace)}, {"longest poll", secondsText(b.Settings.LongestPoll)},
-		{"catalogue since", orNone(momentOf(b.CatalogueAt))}, {"last reason", at(b.Reason)},
+		{"catalogue since", orNone(momentOf(b.CatalogueAt))}, {"tombstones", tombstonesOf(b, catalogue)},
+		{"last reason", at(b.Reason)},
 	} {
 		if it[1] == "" {
 			continue
@@ -64,7 +72,18 @@ func showBroker(to io.Writer, b platform.Broker) error {
 			return err
 		}
 	}
-	return showPlans(to, b)
+	return showPlans(to, catalogue)
+}
+
+// tombstonesOf is whether a catalogue has x-osb-tombstones, or empty if there is no catalogue yet.
+func tombstonesOf(b platform.Broker, catalogue *platform.Catalogue) string {
+	switch {
+	case b.Catalogue == nil:
+		return ""
+	case catalogue.HasTombstones:
+		return "yes"
+	}
+	return "no"
 }
 
 func passwordOf(b platform.Broker) string {
@@ -84,14 +103,7 @@ func secondsText(of *time.Duration) string {
 	return strconv.FormatFloat(of.Seconds(), 'f', -1, 64)
 }
 
-func showPlans(to io.Writer, b platform.Broker) error {
-	if b.Catalogue == nil {
-		return nil
-	}
-	catalogue, err := platform.ReadCatalogue(b.Catalogue)
-	if err != nil {
-		return err
-	}
+func showPlans(to io.Writer, catalogue *platform.Catalogue) error {
 	for _, service := range catalogue.Services {
 		for _, plan := range service.Plans {
 			isBindable := "not bindable"

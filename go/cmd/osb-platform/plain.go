@@ -4,7 +4,9 @@ package main
 
 import "pippinterm/platform"
 
-// forStorm changes nothing: only the storm has parts of its own.
+// storeForStorm changes nothing, and neither does forStorm: only the storm has parts of its own.
+func storeForStorm(store platform.Store) platform.Store { return store }
+
 func forStorm(
 	with platform.Client, _ platform.Store, options platform.Options,
 ) (platform.Client, platform.Options, error) {
