@@ -3,7 +3,6 @@
 from __future__ import annotations
 
 import os
-import socket
 import subprocess
 from collections.abc import Iterator
 from contextlib import contextmanager
@@ -14,16 +13,12 @@ from waiting import until
 ENVIRONMENT = {**os.environ, "OSB_BROKER_PASSWORD": "secret", "OSB_PLATFORM_PASSWORD": "secret"}
 
 
-def address() -> str:
-    """An address at which nothing listens."""
-    with socket.create_server(("127.0.0.1", 0)) as free:
-        return f"127.0.0.1:{free.getsockname()[1]}"
-
-
 @contextmanager
-def serving(broker: Path, folder: Path, at: str, *more: str, log: str = "log") -> Iterator[None]:
+def serving(
+    broker: Path, folder: Path, at: str, *more: str, log: str = "log", journals: str = "journals"
+) -> Iterator[None]:
     """A broker that listens at an address."""
-    words = "serve", "--state", str(folder / "state"), "--listen", at, "--journal", f"{folder}/journals/", *more
+    words = "serve", "--state", str(folder / "state"), "--listen", at, "--journal", f"{folder}/{journals}/", *more
     with open(folder / log, "wb") as file:
         process = subprocess.Popen([broker, *words], env=ENVIRONMENT, stdin=subprocess.DEVNULL, stderr=file)
     try:

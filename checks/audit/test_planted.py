@@ -11,8 +11,9 @@ from typing import Any, NamedTuple
 
 import pytest
 from audit.conftest import TOP, Audit
-from audit.running import ENVIRONMENT, Platform, address, serving
+from audit.running import ENVIRONMENT, Platform, serving
 from building import SHIPPED, building
+from ports import free_address
 
 pytestmark = pytest.mark.slow
 
@@ -148,7 +149,7 @@ def built(slip: Slip, folder: Path, program: str = "osb-broker", file: str = SOU
 @pytest.mark.parametrize("name", IN_STORM)
 def test_planted_in_storm(audit: Audit, storm: Path, tmp_path: Path, name: str) -> None:
     """The journals of `osb-storm broker` show each slip, whatever the storm finds, and nothing else first."""
-    at, (slip, statuses) = address(), IN_STORM[name]
+    at, (slip, statuses) = free_address(), IN_STORM[name]
     with serving(built(slip, tmp_path), tmp_path, at):
         words = "--url", f"http://{at}", "--journal", str(tmp_path / "journals"), "--instances", "6", "--seconds", "2"
         line = [str(storm), "broker", *words, "--request-seconds", "0.4", "--late-seconds", "0.8", "--seed", "1"]
@@ -164,7 +165,7 @@ def test_planted_in_storm(audit: Audit, storm: Path, tmp_path: Path, name: str) 
 @pytest.mark.parametrize("name", [None, *SLIPS])
 def test_planted(audit: Audit, broker: Path, platform: Path, tmp_path: Path, name: str | None) -> None:
     slip = SLIPS[name] if name else None
-    at = address()
+    at = free_address()
     with serving(built(slip, tmp_path) if slip else broker, tmp_path, at):
         it = Platform(platform, tmp_path, at)
         it.once()  # it asks for the catalogue
@@ -185,7 +186,7 @@ def test_planted(audit: Audit, broker: Path, platform: Path, tmp_path: Path, nam
 @pytest.mark.long(10)
 def test_planted_in_platform(audit: Audit, broker: Path, tmp_path: Path) -> None:
     """Each request is sent once before its claim is committed, and once after it."""
-    at, eager = address(), built(EAGER, tmp_path, "osb-platform", "platform/exchange.go")
+    at, eager = free_address(), built(EAGER, tmp_path, "osb-platform", "platform/exchange.go")
     with serving(broker, tmp_path, at):
         it = Platform(eager, tmp_path, at)
         it.once()  # it asks for the catalogue

@@ -16,7 +16,8 @@ from urllib.parse import urlsplit
 
 import pytest
 from audit.conftest import Audit
-from audit.running import Platform, address, serving
+from audit.running import Platform, serving
+from ports import free_address
 
 pytestmark = [pytest.mark.slow, pytest.mark.postgres]
 
@@ -127,7 +128,7 @@ def test_lost_commits(audit: Audit, broker: Path, platform: Path, tmp_path: Path
     with ExitStack() as stack:
         proxy, url = stack.enter_context(database())
         for name in "one", "two":
-            at = address()
+            at = free_address()
             words = "--store", url, "--sweep-seconds", "0.1"
             stack.enter_context(serving(broker, tmp_path, at, *words, log=f"broker-{name}"))
             platforms.append(Platform(platform, tmp_path, at, name))

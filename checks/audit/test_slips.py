@@ -29,22 +29,34 @@ class Slip(NamedTuple):
 
     story: str
     place: tuple[str, int]
-    event: str
     why: str
-    model: str
-    journal: str
+    model: str = ""
+    journal: str = ""
     plan: str = "sync"
+    event: str = ""
+
+
+def skipped(story: str, place: tuple[str, int], event: str, plan: str = "sync") -> Slip:
+    """A slip that shows as an event that can't happen."""
+    return Slip(story, place, "the event can't happen here", "step skipped", "step applied", plan, event)
+
+
+def differing(story: str, place: tuple[str, int], event: str, model: str, journal: str, plan: str = "sync") -> Slip:
+    """A slip that shows after its event: the model has something else than the journal."""
+    return Slip(story, place, "after the event, the model has something else", model, journal, plan, event)
 
 
 ASKED = "P claim wanted/1/provision; P send r1 provision 1; B arrive 1 r1 provision; "
-SKIPPED = "the event can't happen here"
 OF_THE_TABLES = "a request changes the row otherwise than the tables"
-ELSE = "after the event, the model has something else"
+# A worker has just ended the creation of an instance.
+STALE = "the request was decided on a row that there never was while it was carried out"
+ENDED = """P claim wanted/1/provision; P send r1 provision 1; B arrive 1 r1 provision; B change 1 pending-provision
+           B change 1 making; B answer 1 202; P hear r1 202; P take 1 polling/1; P claim polling/2/poll
+           P send r2 poll 2; B create; B look whole; B change 0 ready; """
 SLIPS = {
     "an answer before the commit": Slip(
         ASKED + "B change 1 pending-provision; B create; B answer 1 201; B change 1 ready",
         ("broker", 6),
-        "",
         "it is answered while its work is pending",
         "no answer yet",
         "201",
@@ -52,66 +64,50 @@ SLIPS = {
     "an answer before the first commit": Slip(
         ASKED + "B answer 1 202; B change 1 pending-provision; B change 1 making",
         ("broker", 3),
-        "",
         "it is answered before its change is written",
         "no such answer yet",
         "202",
         "async",
     ),
-    "work before the commit": Slip(
+    "work before the commit": skipped(
         ASKED + "B create; B change 1 pending-provision; B look whole; B change 1 ready; B answer 1 201",
         ("broker", 3),
         f"work {INSTANCE} part",
-        SKIPPED,
-        "step skipped",
-        "step applied",
     ),
-    "an end without its work": Slip(
+    "an end without its work": skipped(
         ASKED + "B change 1 pending-provision; B look absent; B change 1 ready; B answer 1 201",
         ("broker", 6),
         f"end {INSTANCE} done",
-        SKIPPED,
-        "step skipped",
-        "step applied",
     ),
     "a binding of another client whose instance is being created": Slip(
         ASKED
         + "B change 1 pending-provision; B arrive 2 x1 provision of binding; B change 2 pending-provision of binding",
         ("broker", 5),
-        "",
         OF_THE_TABLES,
         "none, -, -",
-        "",
     ),
     "a deletion beside a binding of another client": Slip(
         BOUND_BY_OTHERS
         + "P claim cleaning/2/deprovision; P send r2 deprovision 2; B arrive 2 r2 deprovision; "
         + "B change 2 ready+deprovision",
         ("broker", 23),
-        "",
         OF_THE_TABLES,
         "ready, -, -",
-        "",
     ),
     "a tombstone that is lost, of another client's binding": Slip(
         BOUND_BY_OTHERS
         + """B arrive 6 x2 deprovision of binding; B change 6 ready+deprovision @c1 of binding; B look whole of binding
              B delete of binding; B look absent of binding; B change 6 - of binding""",
         ("broker", 30),
-        "",
         "no end of the pending work leaves this",
         "another row",
-        "",
     ),
     "end twice": Slip(
         ASKED
         + "B change 1 pending-provision; B create; B look whole; B change 1 ready; B answer 1 201; "
         + "B change 0 ready from pending-provision",
         ("broker", 10),
-        "",
         "the row isn't as its last change has left it",
-        "",
-        "",
     ),
     "a change that is committed in spite of its error": Slip(
         ASKED
@@ -119,21 +115,15 @@ SLIPS = {
              P hear r1 500 other-error; P take 1 cleaning/1; P claim cleaning/2/deprovision; P send r2 deprovision 2
              B arrive 2 r2 deprovision; B change 2 ready+deprovision""",
         ("broker", 12),
-        "",
         "the row isn't as its last change has left it",
-        "",
-        "",
     ),
-    "an operation that ends well without its resource": Slip(
+    "an operation that ends well without its resource": skipped(
         ASKED + "B change 1 pending-provision; B change 1 making; B answer 1 202; B look absent; B change 0 ready",
         ("broker", 8),
         f"finish {INSTANCE} ok",
-        SKIPPED,
-        "step skipped",
-        "step applied",
         "async",
     ),
-    "a record taken with an old attempt's answer": Slip(
+    "a record taken with an old attempt's answer": skipped(
         CREATED
         + """P command cleaning/1; P claim cleaning/2/deprovision; P send r2 deprovision 2; P lose r2
              P take 2 cleaning/2; P claim cleaning/3/deprovision; P send r3 deprovision 3
@@ -141,56 +131,45 @@ SLIPS = {
              B answer 2 200; P take 3 gone/3""",
         ("platform", 13),
         f"take {INSTANCE} 1",
-        SKIPPED,
-        "step skipped",
-        "step applied",
     ),
     "a removed tombstone": Slip(
         REMOVED + "B arrive 3 r1 provision; B change 3 pending-provision from -",
         ("broker", 23),
-        "",
         "the row isn't as its last change has left it",
-        "",
-        "",
     ),
-    "a creation in spite of a tombstone": Slip(
+    "a creation in spite of a tombstone": differing(
         REMOVED + "B arrive 3 r1 provision; B change 3 pending-provision",
         ("broker", 23),
         f"arrive {INSTANCE} 1",
-        ELSE,
         "work -, tombstone tombstone, answer 409-Other",
         "work provision, tombstone -, answer -",
     ),
-    "ready after a garbled 201": Slip(
+    "ready after a garbled 201": differing(
         ASKED
         + "B change 1 pending-provision; B create; B look whole; B change 1 ready; B answer 1 201; "
         + "P hear r1 201 malformed; P take 1 ready/1",
         ("platform", 5),
         f"garble {INSTANCE} 0",
-        ELSE,
         "state cleaning",
         "state ready",
     ),
-    "ready after a 500": Slip(
+    "ready after a 500": differing(
         ASKED + "B answer 1 500 other-error; P hear r1 500 other-error; P take 1 ready/1",
         ("platform", 5),
         f"gateway {INSTANCE} 500",
-        ELSE,
         "state cleaning",
         "state ready",
     ),
-    "another answer than the row's": Slip(
+    "another answer than the row's": differing(
         CREATED + "B arrive 2 r1 provision; B answer 2 202",
         ("broker", 13),
         f"arrive {INSTANCE} 1",
-        ELSE,
         "answer 200",
         "answer 202",
     ),
     "an answer decided on another row": Slip(
         CREATED + "B arrive 2 r1 provision; B answer 2 200 saw=making",
         ("broker", 13),
-        "",
         "the request was decided on a row that there never was",
         held_text("ready", "sync", INSTANCE),
         held_text("making", "sync", INSTANCE),
@@ -198,21 +177,19 @@ SLIPS = {
     "an answer that no broker gave": Slip(
         ASKED + "B change 1 pending-provision; B create; B look whole; P hear r1 400 other-error; P take 1 gone/1",
         ("platform", 5),
-        "",
         "the platform took an answer that no broker has given",
         "-",
         "400-Other",
     ),
-    "a deletion that is put off without need": Slip(
+    "a deletion that is put off without need": differing(
         CREATED + "P claim cleaning/2/deprovision; P send r2 deprovision 2; B arrive 2 r2 deprovision; "
         "B answer 2 422 concurrency-error saw=ready",
         ("broker", 13),
         f"arrive {INSTANCE} 2",
-        ELSE,
         "answer -",
         "answer 422-ConcurrencyError",
     ),
-    "a deletion that is put off for a binding that has ended": Slip(
+    "a deletion that is put off for a binding that has ended": differing(
         BOUND
         + """P claim cleaning/2/deprovision of binding; P send b2 deprovision 2 of binding
              B arrive 3 b2 deprovision of binding; B change 3 ready+deprovision of binding; B delete of binding
@@ -221,28 +198,25 @@ SLIPS = {
              P send r2 deprovision 2; B arrive 4 r2 deprovision; B answer 4 422 concurrency-error""",
         ("broker", 31),
         f"arrive {INSTANCE} 2",
-        ELSE,
         "answer -",
         "answer 422-ConcurrencyError",
     ),
-    "a Poll that is put off without need": Slip(
+    "a Poll that is put off without need": differing(
         """P claim wanted/1/provision; P send r1 provision 1; B arrive 1 r1 provision; B change 1 pending-provision
            B change 1 making; B answer 1 202; P hear r1 202; P take 1 polling/1; B create; B look whole
            B change 0 ready; P claim polling/2/poll; P send r2 poll 2; B arrive 2 r2 poll
            B answer 2 200 in-progress saw=ready""",
         ("broker", 12),
         f"arrive {INSTANCE} 2",
-        ELSE,
         "answer 200-succeeded",
         "answer 200-in-progress",
         "async",
     ),
-    "a deletion that hides that it was carried out": Slip(
+    "a deletion that hides that it was carried out": differing(
         CREATED + "P claim cleaning/2/deprovision; P send r2 deprovision 2; B arrive 2 r2 deprovision; "
         "B change 2 ready+deprovision; B delete; B look absent; B change 2 tombstone; B answer 2 422 concurrency-error",
         ("broker", 18),
         f"end {INSTANCE} done",
-        ELSE,
         "answer 200",
         "answer 422-ConcurrencyError",
     ),
@@ -250,71 +224,78 @@ SLIPS = {
         CREATED + "P claim cleaning/2/deprovision; P send r2 deprovision 2; B arrive 2 r2 deprovision; "
         "B change 2 ready+deprovision; B change 1 ready",
         ("broker", 14),
-        "",
         "a request changes the row that was answered before",
         "no change",
-        "",
     ),
     "a request that ends the work of another": Slip(
         CREATED + "B arrive 2 r1 provision; P claim cleaning/2/deprovision; P send r2 deprovision 2; "
         "B arrive 3 r2 deprovision; B change 3 ready+deprovision; B change 2 ready",
         ("broker", 15),
-        "",
         "a provision ends the pending work of a deprovision",
         "no change",
-        "",
     ),
-    "a Poll of another answer": Slip(
+    "a Poll of another answer": differing(
         """P claim wanted/1/provision; P send r1 provision 1; B arrive 1 r1 provision; B change 1 pending-provision
            B change 1 making; B answer 1 202; P hear r1 202; P take 1 polling/1; P claim polling/2/poll
            P send r2 poll 2; B arrive 2 r2 poll; B answer 2 200 succeeded""",
         ("broker", 7),
         f"arrive {INSTANCE} 2",
-        ELSE,
         "answer 200-in-progress",
         "answer 200-succeeded",
         "async",
     ),
-    "other credentials in the row": Slip(
+    "a Poll of what was held before the commit of a change that another request has found": Slip(
+        ENDED
+        + """P lose r2; P take 2 polling/2; P claim cleaning/3/deprovision; P send r3 deprovision 3
+             B arrive 3 r3 deprovision; B change 3 ready+deprovision; B arrive 2 r2 poll
+             B answer 2 200 in-progress saw=making""",
+        ("broker", 14),
+        STALE,
+        "",
+        held_text("making", "async", INSTANCE),
+        "async",
+    ),
+    "a Poll of what was held before the commit of a change that another request has seen": Slip(
+        ENDED
+        + """B arrive 2 r2 poll; B answer 2 200 succeeded saw=ready; P hear r2 200 succeeded; P take 2 ready/2
+             B arrive 3 r2 poll; B answer 3 200 in-progress saw=making""",
+        ("broker", 14),
+        STALE,
+        held_text("ready", "async", INSTANCE),
+        held_text("making", "async", INSTANCE),
+        "async",
+    ),
+    "other credentials in the row": differing(
         CREATED
         + """P claim wanted/1/provision of binding; P send b1 provision 1 of binding; B arrive 2 b1 provision of binding
              B change 2 pending-provision of binding; B create @c1 of binding; B look whole of binding
              B change 2 ready @c2 of binding""",
         ("broker", 18),
         f"end {INSTANCE}/{BINDING} done",
-        ELSE,
         "credentials 1",
         "credentials 2",
     ),
-    "other credentials in the record": Slip(
+    "other credentials in the record": differing(
         BOUND.replace("P take 1 ready/1 @c1", "P take 1 ready/1 @c3"),
         ("platform", 9),
         f"take {INSTANCE}/{BINDING} 0",
-        ELSE,
         "recorded 1",
         "recorded 2",
     ),
-    "a deletion beside a binding": Slip(
+    "a deletion beside a binding": skipped(
         BOUND + "P claim cleaning/2/deprovision",
         ("platform", 10),
         f"remove {INSTANCE}",
-        SKIPPED,
-        "step skipped",
-        "step applied",
     ),
-    "a Bind without its instance": Slip(
+    "a Bind without its instance": skipped(
         """P claim wanted/1/provision; P send r1 provision 1; B arrive 1 r1 provision
            P claim wanted/1/provision of binding; P send b1 provision 1 of binding""",
         ("platform", 4),
         f"create {INSTANCE}/{BINDING}",
-        SKIPPED,
-        "step skipped",
-        "step applied",
     ),
     "a record that goes back": Slip(
         CREATED + "P claim wanted/1/provision from ready/1",
         ("platform", 6),
-        "",
         "no events of the platform lead to this record",
         "ready - 1",
         "wanted provision 1",
@@ -322,10 +303,8 @@ SLIPS = {
     "a change without a request": Slip(
         CREATED + "B change 0 tombstone",
         ("broker", 12),
-        "",
         "no request and no end of work makes this change",
         "no change",
-        "",
     ),
 }
 
@@ -340,7 +319,6 @@ SLIPS |= {
             "P claim wanted/1/provision; P send r1 provision 1", "P send r1 provision 1; P claim WANTED"
         ).replace("WANTED", "wanted/1/provision"),
         ("platform", 2),
-        "",
         NOT_OUT,
         "- -",
         "provision 1",
@@ -348,7 +326,6 @@ SLIPS |= {
     "a creation that is sent between its order and its claim": Slip(
         "P2 command - state=ordered; P send r1 provision 1; P claim wanted/1/provision; B arrive 1 r1 provision",
         ("platform", 2),
-        "",
         NOT_OUT,
         "- -",
         "provision 1",
@@ -356,7 +333,6 @@ SLIPS |= {
     "a creation that is sent and never claimed": Slip(
         "P2 command - state=ordered; P send r1 provision 1; B arrive 1 r1 provision",
         ("platform", 2),
-        "",
         NOT_OUT,
         "- -",
         "provision 1",
@@ -366,7 +342,6 @@ SLIPS |= {
             "P claim cleaning/2/deprovision; P send r2 deprovision 2", "P send r2 deprovision 2; P claim X"
         ).replace("X", "cleaning/2/deprovision"),
         ("platform", 6),
-        "",
         NOT_OUT,
         "- 1",
         "deprovision 2",
@@ -374,7 +349,6 @@ SLIPS |= {
     "a request of another kind than the record's": Slip(
         "P claim wanted/1/provision; P send r1 deprovision 1; B arrive 1 r1 deprovision",
         ("platform", 3),
-        "",
         NOT_OUT,
         "provision 1",
         "deprovision 1",
@@ -383,7 +357,6 @@ SLIPS |= {
         "P claim wanted/1/provision !undone; P send r1 provision 1; B arrive 1 r1 provision; "
         "P claim wanted/1/provision from -",
         ("platform", 4),
-        "",
         NOT_OUT,
         "- -",
         "provision 1",
@@ -391,7 +364,6 @@ SLIPS |= {
     "a request that is sent after it was given up": Slip(
         "P claim wanted/1/provision; P take 1 cleaning/1; P send r1 provision 1; B arrive 1 r1 provision",
         ("platform", 4),
-        "",
         NOT_OUT,
         "- 1",
         "provision 1",
@@ -399,7 +371,6 @@ SLIPS |= {
     "an answer that is taken before it has come": Slip(
         CREATED.replace("P hear r1 201; P take 1 ready/1", "P take 1 ready/1; P hear r1 201"),
         ("platform", 4),
-        "",
         NOT_COME,
         "-",
         "201",
@@ -408,7 +379,6 @@ SLIPS |= {
         "P claim wanted/1/provision; P send r1 provision 1; P take 1 cleaning/1; P hear r1 502 malformed; "
         "B arrive 1 r1 provision",
         ("platform", 4),
-        "",
         NOT_COME,
         "-",
         "502-malformed",
@@ -420,44 +390,40 @@ SLIPS |= {
            P take 1 cleaning/1 of binding; P claim cleaning/2/deprovision of binding; P send b2 fetch of binding
            P take 2 cleaning/2 of binding; P lose b2 of binding""",
         ("platform", 12),
-        "",
         NOT_COME,
         "-",
         "lost",
     ),
     "an answer that is taken though it was lost": Slip(
-        CREATED.replace("P hear r1 201", "P lose r1"), ("platform", 5), "", NOT_COME, "-", "201"
+        CREATED.replace("P hear r1 201", "P lose r1"), ("platform", 5), NOT_COME, "-", "201"
     ),
     "a state that isn't the record's": Slip(
         CREATED.replace("P take 1 ready/1", "P take 1 ready/1 state=gone"),
         ("platform", 5),
-        "",
         STATES,
         "state ready or abandoned",
         "state gone",
     ),
     "a state of a claim that isn't the record's": Slip(
-        CREATED + "P claim cleaning/2/deprovision state=ready", ("platform", 6), "", STATES, "", "state ready"
+        CREATED + "P claim cleaning/2/deprovision state=ready", ("platform", 6), STATES, "", "state ready"
     ),
     "an order that is ready": Slip(
         "P command - state=ready; B arrive 9 x poll",
         ("platform", 2),
-        "",
         STATES,
         "state ordered or withdrawn",
         "state ready",
     ),
     "an order that was never sent and is abandoned": Slip(
-        "P command - state=abandoned; B arrive 9 x poll", ("platform", 2), "", STATES, "", "state abandoned"
+        "P command - state=abandoned; B arrive 9 x poll", ("platform", 2), STATES, "", "state abandoned"
     ),
     "an order that is withdrawn after it was sent": Slip(
-        CREATED + "P command ready/1 state=withdrawn", ("platform", 6), "", STATES, "", "state withdrawn"
+        CREATED + "P command ready/1 state=withdrawn", ("platform", 6), STATES, "", "state withdrawn"
     ),
     "an answer that comes before its request": Slip(
         "P claim wanted/1/provision; P hear r1 502 malformed; P send r1 provision 1; P take 1 cleaning/1; "
         "B arrive 1 r1 provision",
         ("platform", 3),
-        "",
         "a request is answered before it is sent",
         "no answer yet",
         "502-malformed",
@@ -466,11 +432,6 @@ SLIPS |= {
 
 
 # ---- what a row, pending work, a request or a record names
-
-
-def named(story: str, place: tuple[str, int], why: str, model: str, journal: str, plan: str = "sync") -> Slip:
-    """A slip that shows without the model."""
-    return Slip(story, place, "", why, model, journal, plan)
 
 
 NONE, FIVE = "attributes " + "0" * 64, "attributes " + "5" * 64
@@ -486,29 +447,29 @@ BINDING_ASKED = (
     + "P claim wanted/1/provision of binding; P send b1 provision 1 of binding; B arrive 2 b1 provision of binding; "
 )
 SLIPS |= {
-    "another plan in all texts": named(ALL_OTHER, ("broker", 3), BEGUN, ONE, TWO),
-    "another service": named(ASKED + "B change 1 pending-provision service=other", ("broker", 3), BEGUN, OURS, THEIRS),
-    "other attributes": named(ASKED + "B change 1 pending-provision attributes=5", ("broker", 3), BEGUN, NONE, FIVE),
-    "another plan of a row that waits": named(
+    "another plan in all texts": Slip(ALL_OTHER, ("broker", 3), BEGUN, ONE, TWO),
+    "another service": Slip(ASKED + "B change 1 pending-provision service=other", ("broker", 3), BEGUN, OURS, THEIRS),
+    "other attributes": Slip(ASKED + "B change 1 pending-provision attributes=5", ("broker", 3), BEGUN, NONE, FIVE),
+    "another plan of a row that waits": Slip(
         ASKED + "B change 1 waiting plan=sync", ("broker", 3), BEGUN, TWO, ONE, "async"
     ),
-    "another plan of what another client creates": named(
+    "another plan of what another client creates": Slip(
         "B arrive 1 x provision; B change 1 pending-provision plan=async", ("broker", 3), BEGUN, ONE, TWO
     ),
-    "another plan at the end": named(
+    "another plan at the end": Slip(
         f"{ASKED}B change 1 pending-provision; {WORKED}B change 1 ready plan=async", ("broker", 10), KEPT, ONE, TWO
     ),
-    "another service at the end": named(
+    "another service at the end": Slip(
         f"{ASKED}B change 1 pending-provision; {WORKED}B change 1 ready service=other",
         ("broker", 10),
         KEPT,
         OURS,
         THEIRS,
     ),
-    "other attributes at the end": named(
+    "other attributes at the end": Slip(
         f"{ASKED}B change 1 pending-provision; {WORKED}B change 1 ready attributes=5", ("broker", 10), KEPT, NONE, FIVE
     ),
-    "other attributes after an operation": named(
+    "other attributes after an operation": Slip(
         ASKED
         + "B change 1 pending-provision; B change 1 making; B create; B look whole; B change 0 ready attributes=5",
         ("broker", 9),
@@ -517,13 +478,13 @@ SLIPS |= {
         FIVE,
         "async",
     ),
-    "another plan in a deletion": named(
+    "another plan in a deletion": Slip(
         REMOVING + "B change 2 ready+deprovision plan=async", ("broker", 13), KEPT, ONE, TWO
     ),
-    "a deletion of another plan than the row's": named(
+    "a deletion of another plan than the row's": Slip(
         REMOVING + "B change 2 ready+deprovision work-plan=async", ("broker", 13), WORK, ONE, TWO
     ),
-    "a deletion of another plan than it names": named(
+    "a deletion of another plan than it names": Slip(
         REMOVING.replace("B arrive 2 r2 deprovision", "B arrive 2 r2 deprovision plan=async")
         + "B change 2 ready+deprovision",
         ("broker", 13),
@@ -531,70 +492,70 @@ SLIPS |= {
         TWO,
         ONE,
     ),
-    "pending work of another instance": named(
+    "pending work of another instance": Slip(
         ASKED + "B change 1 pending-provision work-id=other", ("broker", 3), WORK, "", f"id {OTHER}"
     ),
-    "pending work that may go on": named(
+    "pending work that may go on": Slip(
         ASKED.replace("arrive 1 r1 provision", "arrive 1 r1 provision accepts=no") + "B change 1 pending-provision",
         ("broker", 3),
         WORK,
         "accepts_incomplete False",
         "accepts_incomplete True",
     ),
-    "attributes of nothing": named(
+    "attributes of nothing": Slip(
         REMOVING + "B change 2 ready+deprovision; B delete; B look absent; B change 2 tombstone attributes=5",
         ("broker", 18),
         "there are attributes without a row and without pending work",
         NONE,
         FIVE,
     ),
-    "another plan of a binding": named(
+    "another plan of a binding": Slip(
         BINDING_ASKED + "B change 2 pending-provision plan=async of binding", ("broker", 13), BEGUN, ONE, TWO
     ),
-    "other attributes of a binding": named(
+    "other attributes of a binding": Slip(
         BINDING_ASKED + "B change 2 pending-provision attributes=5 of binding", ("broker", 13), BEGUN, NONE, FIVE
     ),
-    "a request that is read as of another plan": named(
+    "a request that is read as of another plan": Slip(
         ALL_OTHER.replace("arrive 1 r1 provision", "arrive 1 r1 provision plan=async"),
         ("broker", 3),
         "the request has another service or plan than the one that the platform has sent",
         ONE,
         TWO,
     ),
-    "a request of another plan than the record's": named(
+    "a request of another plan than the record's": Slip(
         "P claim wanted/1/provision; P send r1 provision 1 plan=async; B arrive 1 x poll",
         ("platform", 3),
         "the request has another service or plan than the record",
         ONE,
         TWO,
     ),
-    "a record of another plan": named(
+    "a record of another plan": Slip(
         "P claim wanted/1/provision plan=async; B arrive 1 x poll", ("platform", 2), RECORD, ONE, TWO
     ),
-    "a record of another plan after the answer": named(
+    "a record of another plan after the answer": Slip(
         CREATED.replace("P take 1 ready/1", "P take 1 ready/1 plan=async"), ("platform", 5), RECORD, ONE, TWO
     ),
-    "a record of another service after the answer": named(
+    "a record of another service after the answer": Slip(
         CREATED.replace("P take 1 ready/1", "P take 1 ready/1 service=other"), ("platform", 5), RECORD, OURS, THEIRS
     ),
-    "a record of another plan after a command": named(
+    "a record of another plan after a command": Slip(
         CREATED + "P command cleaning/1 plan=async", ("platform", 6), RECORD, ONE, TWO
     ),
-    "a creation with other parameters that is answered 200": named(
+    "a creation with other parameters that is answered 200": Slip(
         CREATED + "B arrive 2 x provision attributes=5; B answer 2 200 saw=ready",
         ("broker", 13),
         "the answer isn't the tables'",
         "409-Other",
         "200",
     ),
-    "a conflict without other parameters": named(
+    "a conflict without other parameters": Slip(
         CREATED + "B arrive 2 x provision; B answer 2 409 other-error",
         ("broker", 13),
         "the answer isn't the tables'",
         "200",
         "409-Other",
     ),
-    "a conflict that the platform takes": named(
+    "a conflict that the platform takes": Slip(
         ASKED
         + f"B change 1 pending-provision; {WORKED}B change 1 ready; B arrive 2 r1 provision attributes=5; "
         + "B answer 2 409 other-error; P hear r1 409 other-error; P take 1 unsettled/1",

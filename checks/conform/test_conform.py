@@ -4,13 +4,13 @@ from __future__ import annotations
 import json
 import re
 import signal
-import socket
 import subprocess
 from pathlib import Path
 
 import pytest
 from conform.login import ENVIRONMENT, WITH_SIGNALS
 from conform.small_broker import SmallBroker
+from ports import free_address
 from waiting import until
 
 pytestmark = pytest.mark.slow
@@ -70,8 +70,7 @@ def test_leftovers(storm: Path) -> None:
 
 
 def test_statuses(storm: Path) -> None:
-    with socket.create_server(("127.0.0.1", 0)) as free:
-        unused = f"http://127.0.0.1:{free.getsockname()[1]}"
+    unused = f"http://{free_address()}"
     ran = conform(storm, unused)
     assert (ran.returncode, "osb-storm: the broker can't be reached: " in ran.stderr) == (69, True)
     with SmallBroker().running() as small:

@@ -1,26 +1,26 @@
 """`osb-storm platform` as a user runs it: what it finds of osb-platform, and of a platform that forgets."""
 from __future__ import annotations
 
-import base64
-import http.client
 import json
 import os
 import re
 import signal
 import subprocess
+import sys
 from collections.abc import Iterator
-from contextlib import closing, contextmanager
+from contextlib import contextmanager
 from pathlib import Path
 
 import pytest
 from conform.auditing import audited
+from conform.forgetful import Forgetful
 from conform.login import ENVIRONMENT, WITH_SIGNALS
 from waiting import until
 
 pytestmark = pytest.mark.slow
 
 SHORT = "--seconds", "4", "--request-seconds", "1", "--late-seconds", "1.5", "--operation-seconds", "0.5"
-SERVICE, PLAN = "00000000-0000-0000-0000-0000000005a0", "00000000-0000-0000-0000-0000000005b1"
+TOP = Path(__file__).resolve().parents[2]
 
 
 @contextmanager
@@ -115,27 +115,6 @@ def test_platform_abandons_nothing(storm: Path, platform: Path, replay: Path, tm
     assert audit["instances"] >= 16 and audit["events"] > 150 and "no journal" not in str(audit["notes"]), audit
 
 
-class Forgetful:
-    """A platform that sends a Provision, and forgets the instance if nothing comes."""
-
-    def __init__(self, port: int, version: str = "2.17") -> None:
-        self._port, self._version = port, version
-
-    def create(self, id: str) -> bool:
-        """Whether the answer came."""
-        login = base64.b64encode(b"platform:secret").decode()
-        headers = {"Authorization": f"Basic {login}", "Content-Type": "application/json"}
-        if self._version:
-            headers["X-Broker-API-Version"] = self._version
-        body = json.dumps({"service_id": SERVICE, "plan_id": PLAN, "organization_guid": "o", "space_guid": "s"})
-        with closing(http.client.HTTPConnection("127.0.0.1", self._port, timeout=1)) as connection:
-            try:
-                connection.request("PUT", f"/v2/service_instances/{id}?accepts_incomplete=true", body, headers)
-                return connection.getresponse().status == 201
-            except (OSError, http.client.HTTPException):
-                return False
-
-
 def test_forgetful_platform(storm: Path, tmp_path: Path) -> None:
     """What a platform forgets is found, and is in all reports. The same list of faults has it found again."""
     (tmp_path / "faults").write_text("2.1 answer-lost\n4.1 request-lost\n")
@@ -157,6 +136,52 @@ def test_forgetful_platform(storm: Path, tmp_path: Path) -> None:
         ]
         assert "mine-2" in (tmp_path / "html").read_text()
         assert (tmp_path / "again").read_text() == "2.1 answer-lost\n4.1 request-lost\n"
+
+
+def ordering(count: int, folder: Path) -> tuple[str, ...]:
+    """The order command of a forgetful platform that creates some instances, and the command that lists what it has."""
+    orders = f"PYTHONPATH={TOP / 'checks'} {sys.executable} -m conform.forgetful {count} {folder / 'list'}"
+    return "--order-command", orders, "--list-command", f"cat {folder / 'list'}"
+
+
+def test_minimize(storm: Path, tmp_path: Path) -> None:
+    """The list of faults is shrunk to the one that has the platform forget. With this list, an instance is abandoned
+    again.
+    """
+    given, shortest = tmp_path / "faults", tmp_path / "shortest"
+    given.write_text("1.1 answer-slow\n2.1 answer-lost\n3.1 request-lost\n4.1 request-slow\n")
+    orders = *ordering(4, tmp_path), "--settle-seconds", "0.5", "--late-seconds", "0.2", "--seconds", "30"
+    files = "--faults-to", str(shortest), "--json", str(tmp_path / "json"), "--html", str(tmp_path / "html")
+    done = ran(storm, *orders, "--faults", str(given), *files, "--minimize")
+    assert (done.returncode, done.stderr) == (1, ""), done.stdout + done.stderr
+    report = json.loads((tmp_path / "json").read_text())
+    assert [it["number"] for it in report["abandoned"] + report["minimal_lost"]] == ["2", "2"]
+    assert report["minimal_fault_list"] == ["2.1 answer-lost"]
+    assert shortest.read_text() == "2.1 answer-lost\n"
+    found = f"\nThe shortest list of faults that still loses one ({report['minimize_runs']} runs):\n  2.1 answer-lost\n"
+    assert (
+        found in done.stdout and "The shortest list of faults that still loses one" in (tmp_path / "html").read_text()
+    )
+    again = ran(storm, *orders, "--faults", str(shortest))
+    assert again.returncode == 1 and "\n1 abandoned, 0 false records, " in again.stdout, again.stdout + again.stderr
+    given.write_text("1.1 answer-slow\n")
+    done = ran(storm, *orders, "--faults", str(given), *files, "--minimize")
+    assert done.returncode == 0 and "minimize_runs" not in json.loads((tmp_path / "json").read_text()), done.stdout
+
+
+@pytest.mark.parametrize("number", [signal.SIGINT, signal.SIGTERM, signal.SIGHUP])
+def test_signal_ends_the_orders(storm: Path, tmp_path: Path, number: int) -> None:
+    """After a signal, the order command is killed with its children, and that is no failure."""
+    name, orders, *lists = ordering(1, tmp_path)
+    orders = f"{orders}; sleep 1000 & echo $! >{tmp_path / 'new'}; mv {tmp_path / 'new'} {tmp_path / 'pid'}; wait"
+    with storming(storm, "--fault-percent", "0", "--seconds", "60", name, orders, *lists) as (process, _):
+        until((tmp_path / "pid").exists, 20)
+        child = Path("/proc") / (tmp_path / "pid").read_text().strip() / "stat"
+        until(lambda: " (sleep) " in child.read_text(), 20)
+        process.send_signal(number)
+        text, errors = process.communicate(timeout=30)
+    assert (process.returncode, errors) == (1, "") and "the run was ended before\n" in text, text + errors
+    until(lambda: not child.exists() or " (sleep) Z " in child.read_text(), 10)
 
 
 def test_must(storm: Path) -> None:
@@ -185,28 +210,39 @@ def test_signal(storm: Path, tmp_path: Path, number: int) -> None:
     assert list(tmp_path.iterdir()) == []
 
 
+def ran(storm: Path, *arguments: str) -> subprocess.CompletedProcess[str]:
+    line = [str(storm), "platform", "--listen", "127.0.0.1:0", *SHORT, *arguments]
+    return subprocess.run(line, env=ENVIRONMENT, stdin=subprocess.DEVNULL, capture_output=True, text=True, timeout=60)
+
+
 def test_statuses(storm: Path, tmp_path: Path) -> None:
     (tmp_path / "faults").write_text("1.1 restart-after\n")
-
-    def ran(*arguments: str) -> subprocess.CompletedProcess[str]:
-        line = [str(storm), "platform", "--listen", "127.0.0.1:0", *SHORT, *arguments]
-        return subprocess.run(
-            line, env=ENVIRONMENT, stdin=subprocess.DEVNULL, capture_output=True, text=True, timeout=60
-        )
-
-    done = ran("--wait-seconds", "0.1")
+    done = ran(storm, "--wait-seconds", "0.1")
     assert (done.returncode, "no request about an instance came within 100ms\n" in done.stdout) == (1, True)
-    done = ran("--wait-seconds", "0.1", "--list-command", "exit 3")
+    done = ran(storm, "--wait-seconds", "0.1", "--list-command", "exit 3")
     assert (done.returncode, "exit status 3" in done.stderr) == (70, True)
+    for orders, status, errors in (
+        ("echo one", 1, "osb-storm: the last lines that the order command has printed:\n  one\n"),
+        (
+            "echo one; echo two >&2; exit 3",
+            70,
+            "osb-storm: the last lines that the order command has printed:\n  one\n  two\n"
+            "osb-storm: the order command has failed: exit status 3\n",
+        ),
+    ):
+        done = ran(storm, "--order-command", orders)
+        assert (done.returncode, done.stderr) == (status, errors), done.stderr
+        assert "no request about an instance came until the order command ended\n" in done.stdout
     with storming(storm) as (_, port):
-        assert ran("--listen", f"127.0.0.1:{port}").returncode == 2
+        assert ran(storm, "--listen", f"127.0.0.1:{port}").returncode == 2
     for wrong in (
         ["--faults", str(tmp_path / "faults")],
         ["--faults", str(tmp_path / "none")],
         ["--journal", str(tmp_path / "faults")],
         ["--list-bindings-command", "true"],
+        ["--minimize"],
         ["--fault-percent", "101"],
         ["--user", "a:b"],
     ):
-        done = ran(*wrong)
+        done = ran(storm, *wrong)
         assert (done.returncode, done.stderr.count("\n")) == (2, 1), (wrong, done.stderr)

@@ -4,7 +4,6 @@ from __future__ import annotations
 import base64
 import json
 import re
-import socket
 import subprocess
 from pathlib import Path
 
@@ -12,6 +11,7 @@ import pytest
 from conform.login import ENVIRONMENT
 from conform.small_broker import SmallBroker
 from conform.twice_broker import TwiceBroker
+from ports import free_address
 
 pytestmark = pytest.mark.slow
 
@@ -55,8 +55,7 @@ def test_names_are_tried_first(storm: Path, tmp_path: Path, command: str) -> Non
 
 def test_failed_run_changes_no_report(storm: Path, tmp_path: Path) -> None:
     """If there is nothing to report, an earlier report stays, and no empty one is left."""
-    with socket.create_server(("127.0.0.1", 0)) as free:
-        unused = f"http://127.0.0.1:{free.getsockname()[1]}"
+    unused = f"http://{free_address()}"
     kept, new = tmp_path / "kept", tmp_path / "new"
     kept.write_text("before")
     for command, files in ("broker", ["--json", kept, "--html", new]), ("conform", ["--json", kept]):

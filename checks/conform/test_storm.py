@@ -4,7 +4,6 @@ from __future__ import annotations
 import json
 import re
 import signal
-import socket
 import subprocess
 import time
 from pathlib import Path
@@ -14,6 +13,7 @@ from conform.auditing import audited
 from conform.login import ENVIRONMENT, WITH_SIGNALS
 from conform.small_broker import SmallBroker
 from conform.twice_broker import TwiceBroker
+from ports import free_address
 from waiting import until
 
 pytestmark = pytest.mark.slow
@@ -26,6 +26,13 @@ SHORT = (
 
 def command(storm: Path, url: str, *arguments: str) -> list[str]:
     return [str(storm), "broker", "--url", url, *SHORT, *arguments]
+
+
+def begun(line: list[str], stderr: int | None = None) -> subprocess.Popen[str]:
+    """Starts a storm whose output the test reads."""
+    return subprocess.Popen(
+        line, env=ENVIRONMENT, stdin=subprocess.DEVNULL, stdout=subprocess.PIPE, stderr=stderr, text=True
+    )
 
 
 def ran(line: list[str]) -> subprocess.CompletedProcess[str]:
@@ -76,7 +83,7 @@ def test_signal(storm: Path, number: int) -> None:
     """After a signal, everything that exists is deleted."""
     with SmallBroker().running() as small:
         line = [*WITH_SIGNALS, *command(storm, small.url, "--seconds", "20", "--answer-seconds", "1")]
-        with subprocess.Popen(line, env=ENVIRONMENT, stdout=subprocess.PIPE, text=True) as process:
+        with begun(line) as process:
             until(lambda: len(small.instances) >= 3, 30)
             process.send_signal(number)
             text, _ = process.communicate(timeout=60)
@@ -91,14 +98,7 @@ def test_signal_and_unanswered_creations(storm: Path) -> None:
     """
     with SmallBroker().running() as small:
         line = command(storm, small.url, "--seconds", "20", "--answer-seconds", "30", "--fault-percent", "100")
-        with subprocess.Popen(
-            line,
-            env=ENVIRONMENT,
-            stdin=subprocess.DEVNULL,
-            stdout=subprocess.PIPE,
-            stderr=subprocess.PIPE,
-            text=True,
-        ) as process:
+        with begun(line, subprocess.PIPE) as process:
             until(lambda: len(small.instances) >= 5, 30)
             process.send_signal(signal.SIGINT)
             until(lambda: not small.instances, 20)
@@ -118,9 +118,7 @@ def test_closed_terminal(storm: Path) -> None:
     """
     with SmallBroker(seconds=0.1).running() as small:
         line = [*WITH_SIGNALS, *command(storm, small.url, "--seconds", "20", "--answer-seconds", "1")]
-        with subprocess.Popen(
-            line, env=ENVIRONMENT, stdin=subprocess.DEVNULL, stdout=subprocess.PIPE, stderr=subprocess.PIPE
-        ) as process:
+        with begun(line, subprocess.PIPE) as process:
             assert process.stdout is not None and process.stderr is not None
             until(lambda: len(small.instances) >= 3, 30)
             process.stdout.close()
@@ -137,14 +135,7 @@ def test_nohup(storm: Path) -> None:
     """With nohup, the storm goes on after SIGHUP."""
     with SmallBroker().running() as small:
         line = ["nohup", *command(storm, small.url, "--seconds", "1", "--instances", "5")]
-        with subprocess.Popen(
-            line,
-            env=ENVIRONMENT,
-            stdin=subprocess.DEVNULL,
-            stdout=subprocess.PIPE,
-            stderr=subprocess.DEVNULL,
-            text=True,
-        ) as process:
+        with begun(line, subprocess.DEVNULL) as process:
             until(lambda: len(small.instances) >= 2, 30)
             process.send_signal(signal.SIGHUP)
             text, _ = process.communicate(timeout=60)
@@ -156,7 +147,7 @@ def test_hanging_command(storm: Path) -> None:
     """Two signals end the program although a command of the user's hangs, and a child of it keeps its output open."""
     with SmallBroker().running() as small:
         line = command(storm, small.url, "--list-command", "sleep 1000 | cat")
-        with subprocess.Popen(line, env=ENVIRONMENT, stdout=subprocess.PIPE, text=True) as process:
+        with begun(line) as process:
             until(lambda: len(small.instances) == 1, 30)
             for _ in range(2):
                 process.send_signal(signal.SIGTERM)
@@ -187,8 +178,7 @@ def test_leftovers(storm: Path) -> None:
 
 @pytest.mark.long(12)
 def test_statuses(storm: Path, tmp_path: Path) -> None:
-    with socket.create_server(("127.0.0.1", 0)) as free:
-        unused = f"http://127.0.0.1:{free.getsockname()[1]}"
+    unused = f"http://{free_address()}"
     done = ran(command(storm, unused))
     assert (done.returncode, "osb-storm: the broker can't be reached: " in done.stderr) == (69, True)
     (tmp_path / "faults").write_text("1.1 thunder\n")

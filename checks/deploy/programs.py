@@ -5,7 +5,6 @@ from __future__ import annotations
 import contextlib
 import json
 import os
-import socket
 import subprocess
 import urllib.request
 from pathlib import Path
@@ -15,12 +14,6 @@ from waiting import until
 
 PROVISION = json.dumps({"service_id": "s", "plan_id": "p", "organization_guid": "o", "space_guid": "s"})
 """The body of a Provision at the broker of deploy.metrics."""
-
-
-def free() -> str:
-    """An address at which nothing listens."""
-    with socket.create_server(("127.0.0.1", 0)) as one:
-        return f"127.0.0.1:{one.getsockname()[1]}"
 
 
 def _answers(address: str) -> bool:

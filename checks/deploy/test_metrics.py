@@ -8,8 +8,9 @@ from pathlib import Path
 
 import pytest
 from deploy.metrics import Metrics, asked, exported, failing, foreign, listed, queries, unknown
-from deploy.programs import OF_BROKER, PROVISION, ask, environment, free, order, running, serve
+from deploy.programs import OF_BROKER, PROVISION, ask, environment, order, running, serve
 from docs.pages import TOP, read
+from ports import free_address
 from waiting import until
 
 DASHBOARDS = TOP / "deploy" / "grafana"
@@ -23,7 +24,7 @@ def of_broker(broker: Path, tmp_path_factory: pytest.TempPathFactory) -> Metrics
     """What a broker exports once an asynchronous creation has failed."""
     folder = tmp_path_factory.mktemp("broker")
     program, catalogue = failing(folder)
-    at, health = free(), f"http://{free()}"
+    at, health = free_address(), f"http://{free_address()}"
     sold = ["--state", str(folder / "state"), "--catalog", str(catalogue), "--backend", f"command:{program}"]
     with running(*serve(broker, at, health, *sold), health=health, environment=OF_BROKER):
         ask("PUT", f"http://{at}{URL}?accepts_incomplete=true", PROVISION)
@@ -36,10 +37,10 @@ def of_broker(broker: Path, tmp_path_factory: pytest.TempPathFactory) -> Metrics
 def of_platform(platform: Path, tmp_path_factory: pytest.TempPathFactory) -> Metrics:
     """What a worker exports once a broker isn't reached, another has failed once, and an orphan was found."""
     folder = tmp_path_factory.mktemp("platform")
-    health = f"http://{free()}"
+    health = f"http://{free_address()}"
     with foreign() as url:
         order(platform, folder, "key", "--to", str(folder / "key"))
-        order(platform, folder, "broker", "add", "away", f"http://{free()}", "--store-password")
+        order(platform, folder, "broker", "add", "away", f"http://{free_address()}", "--store-password")
         order(platform, folder, *f"broker add foreign {url} --store-password --hold 1 --first-pace 0.2".split())
         run = [str(platform), "run", "--seconds", "1", "--health-listen", health.partition("//")[2]]
         with running(*run, health=health, environment=environment(folder)):

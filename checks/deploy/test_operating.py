@@ -8,9 +8,10 @@ from pathlib import Path
 
 import pytest
 from deploy.metrics import exported
-from deploy.programs import OF_BROKER, environment, free, order, running, serve
+from deploy.programs import OF_BROKER, environment, order, running, serve
 from docs.pages import TOP, block
 from docs.workdir import needs
+from ports import free_address
 from waiting import until
 
 PAGE = "docs/operating.md"
@@ -20,7 +21,7 @@ pytestmark = pytest.mark.slow
 
 def commands(logs: Path, broker: str, platform: str) -> str:
     """Both blocks, with these addresses of --health-listen, and the logs in a folder."""
-    given = block(PAGE, "broker=http:")
+    given = block(PAGE, "broker=http://127.0.0.1:9090")
     first, count = re.subn(r"^log\(\) .*$", f'log() {{ cat {logs}/"$1"; }}', given, flags=re.MULTILINE)
     assert count == 1
     for there, ours in (("http://127.0.0.1:9090", broker), ("http://127.0.0.1:9091", platform)):
@@ -32,9 +33,9 @@ def commands(logs: Path, broker: str, platform: str) -> str:
 def test_first_look(broker: Path, platform: Path, tmp_path: Path) -> None:
     needs("curl", "jq")
     order(platform, tmp_path, "key", "--to", str(tmp_path / "key"))
-    order(platform, tmp_path, "broker", "add", "away", f"http://{free()}", "--store-password")
-    of_broker, of_platform = f"http://{free()}", f"http://{free()}"
-    served = serve(broker, free(), of_broker, "--state", str(tmp_path / "state"))
+    order(platform, tmp_path, "broker", "add", "away", f"http://{free_address()}", "--store-password")
+    of_broker, of_platform = f"http://{free_address()}", f"http://{free_address()}"
+    served = serve(broker, free_address(), of_broker, "--state", str(tmp_path / "state"))
     run = [str(platform), "run", "--health-listen", of_platform.partition("//")[2]]
     with running(*served, health=of_broker, environment=OF_BROKER, log=tmp_path / "osb-broker"):
         with running(*run, health=of_platform, environment=environment(tmp_path), log=tmp_path / "osb-platform"):

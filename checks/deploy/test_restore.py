@@ -13,9 +13,10 @@ from pathlib import Path
 from typing import Iterator
 
 import pytest
-from deploy.programs import OF_BROKER, ask, environment, free, order, running, serve
+from deploy.programs import OF_BROKER, ask, environment, order, running, serve
 from docs.pages import read
 from osb import Id
+from ports import free_address
 
 pytestmark = pytest.mark.slow
 
@@ -27,8 +28,8 @@ class Broker:
     """A broker that sells folders. `at`: its address; `state`: its folder."""
 
     def __init__(self, program: Path, state: Path) -> None:
-        self.state, self.at = state, free()
-        self._health = f"http://{free()}"
+        self.state, self.at = state, free_address()
+        self._health = f"http://{free_address()}"
         self._command = serve(program, self.at, self._health, "--state", str(state))
 
     @contextmanager
@@ -125,7 +126,7 @@ def state_of(platform: Path, folder: Path, instance: str) -> str:
 
 def test_store_of_the_platform(broker: Path, platform: Path, tmp_path: Path) -> None:
     """An instance that was ordered since is known again, and one that was removed since becomes gone."""
-    one, health = Broker(broker, tmp_path / "state"), f"http://{free()}"
+    one, health = Broker(broker, tmp_path / "state"), f"http://{free_address()}"
     worker = [str(platform), "run", "--health-listen", health.partition("//")[2]]
     store, saved = tmp_path / "store.sqlite", tmp_path / "copy"
 

@@ -1,11 +1,11 @@
 """Fixtures for the tests of the documents."""
 from __future__ import annotations
 
-import socket
 from pathlib import Path
 
 import pytest
 from docs.workdir import Workdir
+from ports import free_port
 
 
 @pytest.fixture
@@ -17,8 +17,7 @@ def workdir(tmp_path: Path, library: Path, replay: Path) -> Workdir:
 @pytest.fixture
 def port() -> int:
     """A port at which nothing listens."""
-    with socket.create_server(("127.0.0.1", 0)) as free:
-        return int(free.getsockname()[1])
+    return free_port()
 
 
 other_port = third_port = port

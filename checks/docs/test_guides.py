@@ -41,12 +41,18 @@ def test_first_start(workdir: Workdir) -> None:
     assert workdir.errors() == ""
 
 
-@covers(BROKER, "OSB_BROKER_PASSWORD=secret ./osb-broker serve --state build/broker\n", CREATE, "two=http:")
+@covers(
+    BROKER,
+    "OSB_BROKER_PASSWORD=secret ./osb-broker serve --state build/broker\n",
+    CREATE,
+    "two=http:",
+    'ask -X DELETE "$two?',
+)
 def test_broker(texts: list[str], workdir: Workdir, port: int) -> None:
     """An instance of each plan is created and deleted, one of them with a binding. No id is used again."""
-    serve, synchronous, asynchronous = (moved(it, port) for it in texts)
+    serve, synchronous, before, delete = (moved(it, port) for it in texts)
     poll = "ask $two/last_operation"
-    before, _, delete = asynchronous.partition(f"{poll}\n")
+    before, delete = (it.removesuffix(f"{poll}\n") for it in (before, delete))
     life = (
         f"{before}until {poll} | grep succeeded; do sleep 0.1; done\n{delete}"
         f"until {poll} | grep -q ' 410 '; do sleep 0.1; done\n{before}"

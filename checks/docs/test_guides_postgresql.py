@@ -4,7 +4,6 @@ from __future__ import annotations
 import contextlib
 import os
 import re
-import socket
 import subprocess
 from pathlib import Path
 from typing import Callable, Iterator
@@ -14,6 +13,7 @@ from docs.guides import BROKER, CREATE, PLATFORM, healthy, moved, statuses
 from docs.pages import block, covers
 from docs.workdir import Workdir, needs
 from osb import Id
+from ports import free_port
 
 pytestmark = [pytest.mark.slow, pytest.mark.postgres, pytest.mark.usefixtures("broker")]
 
@@ -59,8 +59,7 @@ class Machine:
 @contextlib.contextmanager
 def started() -> Iterator[Machine]:
     """A server, as long as the context lasts."""
-    with socket.create_server(("127.0.0.1", 0)) as free:
-        port = int(free.getsockname()[1])
+    port = free_port()
     serving = subprocess.Popen(
         ["pg_virtualenv", "-t", "-c", "--locale=C --encoding=UTF8", "-o", f"port={port}", "sh", "-c", _SERVE],
         env={name: value for name, value in os.environ.items() if not name.startswith("PG")},

@@ -6,7 +6,7 @@ from pathlib import Path
 
 import pytest
 from building import SHIPPED, building
-from go.toolchain import NEEDS, SOURCES, TOOLS, TOP, Go, Packages, needs, run
+from go.toolchain import SOURCES, TOOLS, TOP, Go, Packages, needs, needs_packages, run
 
 
 @pytest.fixture(scope="session")
@@ -35,7 +35,5 @@ def staticcheck(tmp_path_factory: pytest.TempPathFactory) -> str:
 @pytest.fixture(scope="session")
 def packages(library: Path) -> Packages:
     needs(TOOLS)
-    for name, package in NEEDS.items():
-        if not (SOURCES / "src" / name).is_dir():
-            pytest.skip(f"{name} isn't installed (Debian: {package})")
+    needs_packages()
     return Packages(library)

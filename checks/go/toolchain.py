@@ -127,6 +127,13 @@ def _flags(tags: str, race: bool) -> str:
     return f"-tags={','.join([*SHIPPED.split(), *tags.split()])} {'-race' if race else '-trimpath'}"
 
 
+def needs_packages() -> None:
+    """Skips the test unless what the packages in go/ import is installed."""
+    for name, package in NEEDS.items():
+        if not (SOURCES / "src" / name).is_dir():
+            pytest.skip(f"{name} isn't installed (Debian: {package})")
+
+
 def needs(tools: dict[str, str]) -> None:
     """Skips the test unless all of these tools are there."""
     for tool, package in tools.items():

@@ -8,7 +8,7 @@ from pathlib import Path
 from typing import Callable
 
 import pytest
-from go.toolchain import NEEDS, SOURCES
+from go.toolchain import NEEDS, needs_packages
 from launcher.go_repository import GoRepository, edit_keeping_time_and_length
 from waiting import until
 
@@ -19,9 +19,7 @@ BUILDS = "building the program from the sources in go/, which takes up to a minu
 
 @pytest.fixture(params=["osb-broker", "osb-platform", "osb-storm"])
 def repository(request: pytest.FixtureRequest, tmp_path: Path) -> GoRepository:
-    for name, package in NEEDS.items():
-        if not (SOURCES / "src" / name).is_dir():
-            pytest.skip(f"{name} isn't installed (Debian: {package})")
+    needs_packages()
     return GoRepository(tmp_path, request.param)
 
 
@@ -105,7 +103,8 @@ def test_linked_statically_if_it_can_be(repository: GoRepository, is_static: boo
         repository.tool("gcc", "#!/bin/sh\nexit 1\n")
     serve(repository)
     (build,) = repository.go_builds()
-    assert ("-static -lsqlite3 -lm" in build) == is_static
+    assert ("-static -Wl,--build-id=none -lsqlite3 -lm" in build) == is_static
+    assert "-buildid= " in build and "--build-id=none" in build  # the same bytes in each checkout
     assert "-tags libsqlite3 netgo osusergo sqlite_omit_load_extension " in build
 
 

@@ -3,11 +3,12 @@
 from __future__ import annotations
 
 import fcntl
+import os
 import subprocess
 from pathlib import Path
 
 import pytest
-from go.toolchain import NEEDS, SOURCES, TOOLS, TOP, needs
+from go.toolchain import TOOLS, TOP, needs, needs_packages
 
 from release import sources
 from release.making import make
@@ -19,15 +20,16 @@ MODULES = ("setuptools", "wheel")
 def dist(tmp_path_factory: pytest.TempPathFactory) -> Path:
     """The folder with the files of a release. The first process of pytest that needs it makes it."""
     needs({**TOOLS, **sources.TOOLS})
-    for name, package in NEEDS.items():
-        if not (SOURCES / "src" / name).is_dir():
-            pytest.skip(f"{name} isn't installed (Debian: {package})")
+    needs_packages()
     for module in MODULES:
         found = subprocess.run(["/usr/bin/python3", "-c", f"import {module}"], capture_output=True, cwd="/")
         if found.returncode != 0:
             pytest.skip(f"{module} isn't installed (Debian: python3-{module})")
-    folder = tmp_path_factory.getbasetemp().parent / "dist"
-    with open(tmp_path_factory.getbasetemp().parent / "dist.lock", "w") as lock:
+    top = tmp_path_factory.getbasetemp()
+    if "PYTEST_XDIST_WORKER" in os.environ:
+        top = top.parent  # which all processes of this run share. Without others, all runs share it
+    folder = top / "dist"
+    with open(top / "dist.lock", "w") as lock:
         fcntl.flock(lock, fcntl.LOCK_EX)
         if not folder.exists():
             make(folder)

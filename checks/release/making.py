@@ -10,11 +10,11 @@ from pathlib import Path
 from go.toolchain import TOP
 
 
-def make(to: Path) -> None:
-    """Makes a release in this folder."""
+def make(to: Path, checkout: Path = TOP) -> None:
+    """Makes a release of a checkout in this folder."""
     kept = {name: it for name, it in os.environ.items() if name not in ("LIBOSB_FOLDER", "OSB_REPLAY", "LIBOSB")}
     line = [sys.executable, "-m", "release", "--to", str(to)]
     ran = subprocess.run(
-        line, cwd=TOP, env=kept, stdin=subprocess.DEVNULL, capture_output=True, text=True, timeout=1800
+        line, cwd=checkout, env=kept, stdin=subprocess.DEVNULL, capture_output=True, text=True, timeout=1800
     )
     assert ran.returncode == 0, ran.stdout + ran.stderr

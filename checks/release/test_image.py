@@ -6,7 +6,6 @@ import base64
 import json
 import os
 import shutil
-import socket
 import subprocess
 import tarfile
 import urllib.request
@@ -15,6 +14,7 @@ from typing import Any
 
 import pytest
 import waiting
+from ports import free_port
 
 pytestmark = pytest.mark.slow
 
@@ -80,8 +80,7 @@ def test_program_serves_as_nobody(layout: Path, tmp_path: Path) -> None:
     """In the image alone, with its environment, its folder and its user; the arguments are those of a container."""
     process = unpack(layout, "osb-broker", tmp_path / "bundle")
     top = tmp_path / "bundle" / "rootfs"
-    with socket.create_server(("127.0.0.1", 0)) as free:
-        port = free.getsockname()[1]
+    port = free_port()
     arguments = process["args"][:1] + ["serve", f"--listen=127.0.0.1:{port}"]
     user = process["user"]
     assert (user["uid"], user["gid"], process["cwd"]) == (NOBODY, NOBODY, "/var/lib/osb")

@@ -4,14 +4,12 @@ from __future__ import annotations
 from pathlib import Path
 
 import pytest
-from go.toolchain import NEEDS, SOURCES, TOOLS, Packages, needs
+from go.toolchain import TOOLS, Packages, needs, needs_packages
 
 
 @pytest.fixture(scope="session")
 def packages(library: Path) -> Packages:
     """Commands of Go over the packages in go/. What the programs are built with has to be installed."""
     needs(TOOLS)
-    for name, package in NEEDS.items():
-        if not (SOURCES / "src" / name).is_dir():
-            pytest.skip(f"{name} isn't installed (Debian: {package})")
+    needs_packages()
     return Packages(library)

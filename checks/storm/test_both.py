@@ -131,30 +131,45 @@ def test_odd_end(storm: Path, broker: Path, platform: Path, replay: Path, tmp_pa
     assert audited(journal, replay)["instances"] > 30
 
 
+def broken_off(tmp_path: Path) -> tuple[Path, dict[str, str]]:
+    """The folder of the journals, and the environment of a storm that has all other files in a folder of its own."""
+    (tmp_path / "storm").mkdir()
+    return tmp_path / "journal", {**os.environ, "TMPDIR": str(tmp_path / "storm")}
+
+
 @pytest.mark.parametrize("number", [signal.SIGINT, signal.SIGHUP])
-def test_signal(storm: Path, broker: Path, platform: Path, tmp_path: Path, number: int) -> None:
-    """After a signal both programs end, and nothing is left."""
+def test_signal(storm: Path, broker: Path, platform: Path, replay: Path, tmp_path: Path, number: int) -> None:
+    """After a signal both programs end, and nothing is left. Their journals are as the model says."""
+    journal, environment = broken_off(tmp_path)
     line = [*WITH_SIGNALS, str(storm), "both", "--broker-program", str(broker), "--platform-program", str(platform)]
-    with subprocess.Popen(line, env={**os.environ, "TMPDIR": str(tmp_path)}, stdout=subprocess.PIPE, text=True) as it:
+    line += ["--journal", str(journal)]
+    with subprocess.Popen(line, env=environment, stdout=subprocess.PIPE, text=True) as it:
         time.sleep(4)
         it.send_signal(number)
         text, _ = it.communicate(timeout=60)
     assert it.returncode == 1 and "the run was ended before\n" in text
-    assert list(tmp_path.iterdir()) == []
+    assert list((tmp_path / "storm").iterdir()) == []
     assert subprocess.run(["pgrep", "-f", str(tmp_path)]).returncode == 1
+    assert audited(journal, replay)["instances"] > 0
 
 
-def test_killed(storm: Path, broker: Path, platform: Path, tmp_path: Path) -> None:
-    """If osb-storm is killed, both programs end with it."""
+def test_killed(storm: Path, broker: Path, platform: Path, replay: Path, tmp_path: Path) -> None:
+    """If osb-storm is killed, both programs end with it. Their journals are as the model says."""
+    journal, environment = broken_off(tmp_path)
     line = [str(storm), "both", "--broker-program", str(broker), "--platform-program", str(platform)]
+    line += ["--journal", str(journal)]
 
     def runs() -> bool:
         return subprocess.run(["pgrep", "-f", str(tmp_path)], stdout=subprocess.DEVNULL).returncode == 0
 
-    with subprocess.Popen(line, env={**os.environ, "TMPDIR": str(tmp_path)}, stdout=subprocess.DEVNULL) as it:
-        until(runs, 30)
+    def has_arrived() -> bool:
+        return any('"arrived"' in it.read_text() for it in journal.glob("broker/*.jsonl"))
+
+    with subprocess.Popen(line, env=environment, stdout=subprocess.DEVNULL) as it:
+        until(has_arrived, 30)
         it.kill()
     until(lambda: not runs(), 10)
+    assert audited(journal, replay)["instances"] > 0
 
 
 def test_statuses(storm: Path, broker: Path, platform: Path, tmp_path: Path) -> None:

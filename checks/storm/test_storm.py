@@ -93,9 +93,11 @@ def test_without_pending_work(storm: Path, replay: Path, programs: list[str], tm
 @pytest.mark.whole
 @pytest.mark.long(40)
 @pytest.mark.xdist_group("storm that is shrunk")
-@pytest.mark.parametrize("part", ["available", "held", "busy"])
-def test_without_a_rule(storm: Path, replay: Path, programs: list[str], tmp_path: Path, part: str) -> None:
-    """A storm finds what a broker leaves behind without a rule, and the journals differ from the model."""
+@pytest.mark.parametrize("part", ["available", "held", "busy", "platform", "both"])
+def test_without_a_part(storm: Path, replay: Path, programs: list[str], tmp_path: Path, part: str) -> None:
+    """A storm finds what a program leaves behind without a rule, or as it is usually written. The journals differ from
+    the model.
+    """
     counts = "--seconds", "15", "--instances", "100", "--settle-seconds", "20", "--crash-points=some", "--without", part
     told = storming(storm, replay, programs, tmp_path, *counts, unjudged="100")
     assert _DIFFERS.search(told), told

@@ -76,7 +76,7 @@ func run(ctx context.Context, command string, isRead bool) (printed, said []byte
 		return nil, nil, err
 	}
 	kill := func() {
-		_ = syscall.Kill(-process.Process.Pid, syscall.SIGKILL)
+		killAll(process)
 		out.end() // a process that has left the group may keep the pipe open
 		errors.end()
 	}
@@ -104,6 +104,12 @@ func run(ctx context.Context, command string, isRead bool) (printed, said []byte
 		return nil, said, ctx.Err()
 	}
 	return nil, said, fmt.Errorf("it didn't end within %v", limit)
+}
+
+// killAll kills a command with all processes of its group, also if the command itself has left its group.
+func killAll(command *exec.Cmd) {
+	_ = syscall.Kill(-command.Process.Pid, syscall.SIGKILL)
+	_ = command.Process.Kill()
 }
 
 // A reader reads a pipe. A nil reader reads nothing.

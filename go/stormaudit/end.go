@@ -4,7 +4,6 @@ import (
 	"context"
 
 	"pippinterm/platform"
-	"pippinterm/stormusual"
 )
 
 // Left returns what the three disagree in at the end: each instance and each binding has to be ready in all three, or
@@ -30,12 +29,11 @@ func (s Sight) Left(ctx context.Context, usable Resources) ([]Wrong, error) {
 	return f.sorted(), failed
 }
 
-// isFinal returns whether a record may stay in a state at the end of a storm. A platform as platforms are usually written
-// forgets what has failed. One that is unsettled waits for an
+// isFinal returns whether a record may stay in a state at the end of a storm. One that is unsettled waits for an
 // operator, and the storm's operator removes it.
 func isFinal(state platform.State) bool {
 	switch state {
-	case Ready, Gone, platform.Withdrawn, platform.Abandoned, stormusual.Failed, stormusual.DeleteFailed:
+	case Ready, Gone, platform.Withdrawn, platform.Abandoned:
 		return true
 	}
 	return false

@@ -254,8 +254,6 @@ func TestInstances(t *testing.T) {
 		"abandoned":         {scene{state: platform.Abandoned, says: platform.Cleaning}, "", ""},
 		"wanted":            {scene{state: platform.Wanted, restless: true, held: "ready", exists: Whole}, "", "2 its record is still wanted"},
 		"unsettled, exists": {scene{state: platform.Unsettled, exists: Whole}, "", "2 its record is still unsettled"},
-		"failed":            {scene{state: "failed"}, "", ""},
-		"failed, exists":    {scene{state: "failed", exists: Whole}, "", "0 it exists, and its record says failed"},
 		"withdrawn, exists": {scene{state: platform.Withdrawn, exists: Whole}, "", "0 it exists, and its record says withdrawn"},
 		"an empty row":      {scene{unrecorded: true, held: "empty"}, "", ""},
 		"only a tombstone": {scene{unrecorded: true, held: "tombstone"},

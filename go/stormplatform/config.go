@@ -2,6 +2,7 @@ package stormplatform
 
 import (
 	"errors"
+	"io"
 	"time"
 
 	"pippinterm/faults"
@@ -20,15 +21,18 @@ type Config struct {
 	RequestTime, Late time.Duration
 	WaitTime          time.Duration // for the first request about an instance
 	Time, SettleTime  time.Duration // with faults, and then without
+	MinimizeTime      time.Duration // for the runs that shrink the list of faults; 0 for none
 	Commands          Commands
-	Journal           string // the folder below which the broker's journal is written, or empty for none
-	Folder            string // in which the folder of the broker is created; empty for the system's
+	Warnings          io.Writer // gets the last lines of an order command that fails, or orders nothing; or nil
+	Journal           string    // the folder below which the broker's journal is written, or empty for none
+	Folder            string    // in which the folder of the broker is created; empty for the system's
 }
 
-// Commands are commands of the shell that say what the platform has. Each may be empty.
+// Commands are commands of the shell that say what the platform has, and have it order. Each may be empty.
 type Commands struct {
 	List         string // prints the id of each instance that the platform has, one on a line
 	ListBindings string // prints the ids of the instance and the binding for each binding that the platform has
+	Order        string // has the platform create and delete instances and bindings, with urlVariable in its environment
 }
 
 func (c Config) check() error {
@@ -39,6 +43,8 @@ func (c Config) check() error {
 		return errors.New("every limit must be above 0")
 	case c.Commands.ListBindings != "" && c.Commands.List == "":
 		return errors.New("a list of bindings needs a list of instances")
+	case c.MinimizeTime > 0 && c.Commands.Order == "":
+		return errors.New("--minimize needs --order-command: in each further run, the platform has to order the same again")
 	}
 	for _, it := range c.List {
 		if it.Kind.IsRestart() {

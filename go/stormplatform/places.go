@@ -65,6 +65,16 @@ func (p *places) instances() (count int) {
 	return count
 }
 
+// hasBegun returns whether a request about an instance has come.
+func (p *places) hasBegun() bool {
+	select {
+	case <-p.began:
+		return true
+	default:
+		return false
+	}
+}
+
 // keys returns all keys, in the order in which the platform has named them.
 func (p *places) keys() []stormreport.Key {
 	p.mutex.Lock()

@@ -33,6 +33,8 @@ type Report struct {
 	Given     []string                `json:"fault_list"`
 	Unmet     []string                `json:"unmet_faults"` // those of the given list that no request has met
 	Untried   []string                `json:"untried"`      // what every storm has to try, and this one hasn't
+	Notes     []string                `json:"notes"`
+	stormreport.Shrunk
 
 	given  []faults.Numbered
 	course []stormreport.Finding // what is drawn if nothing was found
@@ -53,7 +55,8 @@ func (s *Storm) report(found *result) *Report {
 		Requests: len(found.exchanges), Settled: found.settled, Took: found.took.Seconds(),
 		Counts: stormreport.CountKinds(found.exchanges), Abandoned: run.Findings(found.abandoned),
 		False: run.Findings(found.false), Stuck: run.Findings(found.stuck), Exists: run.Findings(found.exists),
-		Broken: []stormreport.Broken{}, Failed: []string{}, Untried: []string{}, given: s.source.Given(), course: run.Course(),
+		Broken: []stormreport.Broken{}, Failed: []string{}, Untried: []string{}, Notes: []string{},
+		given: s.source.Given(), course: run.Course(),
 	}
 	if s.config.Commands.List != "" {
 		r.Known = knownByList
@@ -88,8 +91,8 @@ func (r *Report) IsClean() bool {
 // WriteJSON writes the report as a JSON object.
 func (r *Report) WriteJSON(w io.Writer) error { return stormreport.WriteJSON(w, r) }
 
-// WriteFaults writes the faults of the run as a list that faults.ReadList reads.
-func (r *Report) WriteFaults(w io.Writer) error { return faults.WriteList(w, r.given) }
+// WriteFaults writes the faults of the run as a list that faults.ReadList reads, or the list to which it was shrunk.
+func (r *Report) WriteFaults(w io.Writer) error { return faults.WriteList(w, r.Replayed(r.given)) }
 
 // WriteText writes the report for people.
 func (r *Report) WriteText(w io.Writer) error {
@@ -105,16 +108,33 @@ func (r *Report) WriteText(w io.Writer) error {
 	stormreport.WriteFindings(&text, "NOT CONVERGED", r.Stuck)
 	stormreport.WriteBroken(&text, "request", r.Broken)
 	r.writeExists(&text)
-	fmt.Fprintln(&text)
-	for _, it := range append(r.untried(), r.Failed...) {
-		fmt.Fprintf(&text, "%s\n", it)
-	}
-	if r.Ended != "" {
-		fmt.Fprintf(&text, "%s\n", r.Ended)
-	}
-	fmt.Fprintf(&text, "%s\n", r.summary())
+	r.WriteMinimal(&text, "abandoned")
+	r.writeEnd(&text)
 	_, err := io.WriteString(w, text.String())
 	return err
+}
+
+func (r *Report) writeEnd(w io.Writer) {
+	fmt.Fprintln(w)
+	for _, it := range r.notes() {
+		fmt.Fprintf(w, "%s\n", it)
+	}
+	for _, it := range append(r.untried(), r.Failed...) {
+		fmt.Fprintf(w, "%s\n", it)
+	}
+	if r.Ended != "" {
+		fmt.Fprintf(w, "%s\n", r.Ended)
+	}
+	fmt.Fprintf(w, "%s\n", r.summary())
+}
+
+// notes are what the report says about the list of faults that was to be shrunk.
+func (r *Report) notes() []string {
+	notes := append([]string{}, r.Notes...)
+	if r.MinimizeEnded != "" {
+		notes = append(notes, r.MinimizeEnded)
+	}
+	return notes
 }
 
 // untried says for people what the storm hasn't tried.
@@ -144,7 +164,7 @@ func (r *Report) convergence() string {
 	switch {
 	case r.Settled:
 		return fmt.Sprintf("nothing open %.1f s after the faults ended", r.Took)
-	case r.Ended != "":
+	case r.Ended != "" && r.MinimizeEnded == "": // otherwise only the shrinking was ended
 		return "ended before"
 	}
 	return fmt.Sprintf("not everything cleaned up within %.1f s after the faults ended", r.Took)
@@ -154,10 +174,12 @@ func (r *Report) convergence() string {
 func (r *Report) WriteHTML(w io.Writer) error {
 	page := &stormreport.Page{
 		Title: "Storm against a platform", Summary: r.summary(),
+		Minimal: r.MinimalLines("abandoned"), MinimalTitle: r.MinimalTitle(),
 		Sections: []stormreport.Section{
 			{Title: "Abandoned", Findings: r.Abandoned}, {Title: "False records", Findings: r.False},
 			{Title: "Not converged", Findings: r.Stuck},
 			{Title: "What exists, to compare with what the platform has", Findings: r.Exists},
+			{Title: "Abandoned with this list of faults", Findings: r.MinimalLost},
 		},
 		Course: r.course, Noun: "Request", Broken: r.Broken, Given: r.Given,
 	}
@@ -171,6 +193,7 @@ func (r *Report) WriteHTML(w io.Writer) error {
 	if r.Ended != "" {
 		page.Add("Ended", r.Ended)
 	}
+	page.Add("Note", r.notes()...)
 	page.Add("Failed", r.Failed...)
 	return page.Write(w)
 }

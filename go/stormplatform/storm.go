@@ -21,6 +21,9 @@ type Storm struct {
 	source  *faults.Source
 	places  *places
 	events  []stormreport.Event
+	// restTime is how long the operations of the broker may take once no request comes, and how long the last look may take
+	// after a signal. Tests lower it.
+	restTime time.Duration
 }
 
 // Start opens the broker, and listens. Close ends it.
@@ -31,7 +34,10 @@ func Start(ctx context.Context, config Config) (s *Storm, err error) {
 	if err := config.check(); err != nil {
 		return nil, err
 	}
-	s = &Storm{config: config, journal: faults.NewJournal(), places: newPlaces(), source: sourceOf(config)}
+	s = &Storm{
+		config: config, journal: faults.NewJournal(), places: newPlaces(), source: sourceOf(config),
+		restTime: 2*config.OperationTime + 10*time.Second,
+	}
 	if s.folder, err = os.MkdirTemp(config.Folder, "osb-storm-"); err != nil {
 		return nil, err
 	}
@@ -65,12 +71,34 @@ func (s *Storm) Close() error {
 	return either(s.shop.close(), os.RemoveAll(s.folder))
 }
 
-// Run waits for the first request about an instance, has faults befall the requests for a time, waits until the
-// platform has cleaned up, and returns what it has abandoned. If ctx is done, the run ends at once. Afterwards no
-// request is answered any more.
+// Run starts the order command, waits for the first request about an instance, has faults befall the requests for a time
+// or until the command has ended, waits until the platform has cleaned up, and returns what it has abandoned. If
+// MinimizeTime is above 0 and something was abandoned or a record was false, further runs at the same address shrink the
+// list of faults. If ctx is done, the run ends at once. Afterwards no request is answered any more.
 func (s *Storm) Run(ctx context.Context) *Report {
+	found := s.once(ctx)
+	report := s.report(found)
+	if s.config.MinimizeTime > 0 && found.isLoser() && len(found.failed) == 0 && ctx.Err() == nil {
+		s.minimize(ctx, found, report)
+	}
+	if ctx.Err() != nil {
+		report.Ended = endedBefore
+	}
+	return report
+}
+
+// endedBefore is why a run was ended by a signal.
+const endedBefore = "the run was ended before"
+
+// once is the run of the Storm.
+func (s *Storm) once(ctx context.Context) *result {
 	found := &result{}
-	found.ended = s.storm(ctx)
+	ordering, err := startOrders(s.config.Commands.Order, s.URL())
+	if err != nil {
+		found.ended, found.failed = "the order command can't be run", append(found.failed, err.Error())
+	} else {
+		found.ended = s.storm(ctx, ordering.ended())
+	}
 	if found.ended == "" {
 		s.source.End()
 		s.note("ends the faults")
@@ -79,36 +107,68 @@ func (s *Storm) Run(ctx context.Context) *Report {
 		found.took, found.settled = s.settle(ctx, calm)
 	}
 	if ctx.Err() != nil {
-		found.ended = "the run was ended before"
+		found.ended = endedBefore
 	}
+	hadEnded := ordering.hasEnded()
+	s.finish(ctx, found)
+	s.endOrders(ordering, hadEnded, found)
+	found.failed = append(found.failed, s.shop.failures()...)
+	return found
+}
+
+// finish ends the requests, and looks at what is left.
+func (s *Storm) finish(ctx context.Context, found *result) {
 	s.proxy.Close()
-	within, cancel := context.WithTimeout(context.Background(), 2*s.config.OperationTime+10*time.Second)
+	within, cancel := context.WithTimeout(context.Background(), s.restTime)
 	defer cancel()
 	if err := s.shop.rest(within); err != nil {
 		found.failed = append(found.failed, err.Error())
 	}
-	s.look(within, found)
+	s.lookLast(ctx, found)
 	if found.ended != "" { // nobody has waited
 		found.stuck = nil
 	}
-	found.failed = append(found.failed, s.shop.failures()...)
-	return s.report(found)
+}
+
+// lookLast looks at what is left. Each list command has a limit of its own. Once ctx is done, all of it has restTime.
+func (s *Storm) lookLast(ctx context.Context, found *result) {
+	failed := found.failed
+	if ctx.Err() == nil {
+		s.look(ctx, found)
+		if ctx.Err() == nil || len(found.failed) == len(failed) {
+			return
+		}
+		found.failed, found.ended = failed, endedBefore
+	}
+	within, cancel := context.WithTimeout(context.Background(), s.restTime)
+	defer cancel()
+	s.look(within, found)
 }
 
 func (s *Storm) note(what string) {
 	s.events = append(s.events, stormreport.Event{At: s.journal.Now(), Who: "osb-storm", What: what})
 }
 
-// storm waits for the first request, and then until the faults end. It returns why the run has ended before, or "".
-func (s *Storm) storm(ctx context.Context) string {
+// storm waits for the first request, and then until the faults end. ordered is closed once the order command has ended,
+// and is nil if there is none. It returns why the run has ended before, or "".
+func (s *Storm) storm(ctx context.Context, ordered <-chan struct{}) string {
 	waiting, cancel := context.WithTimeout(ctx, s.config.WaitTime)
 	defer cancel()
 	select {
 	case <-s.places.began:
+	case <-ordered:
+		if !s.places.hasBegun() {
+			return nothingOrdered
+		}
 	case <-waiting.Done():
 		return fmt.Sprintf("no request about an instance came within %v", s.config.WaitTime)
 	}
-	faults.Sleep(ctx, s.config.Time)
+	storming, end := context.WithTimeout(ctx, s.config.Time)
+	defer end()
+	select {
+	case <-ordered:
+	case <-storming.Done():
+	}
 	return ""
 }
 
@@ -152,6 +212,9 @@ type result struct {
 	exists           []stormreport.Found // what exists, without a list command
 	failed           []string
 }
+
+// isLoser returns whether something was abandoned, or a record was false.
+func (r *result) isLoser() bool { return len(r.abandoned)+len(r.false) > 0 }
 
 // look compares what exists with what the platform has.
 func (s *Storm) look(ctx context.Context, found *result) {

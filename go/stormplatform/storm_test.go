@@ -7,6 +7,7 @@ import (
 	"io"
 	"net/http"
 	"os"
+	"path/filepath"
 	"strings"
 	"testing"
 	"time"
@@ -395,6 +396,37 @@ func TestAfterRun(t *testing.T) {
 	}
 }
 
+// At the end of the run, too, a list command may take longer than the broker's operations.
+func TestListIsSlow(t *testing.T) {
+	t.Parallel()
+	config, _ := orderingConfig(t, 1)
+	config.Commands.List, config.SettleTime = "sleep 0.5; "+config.Commands.List, 20*time.Second
+	storm, err := Start(context.Background(), config)
+	if err != nil {
+		t.Fatal(err)
+	}
+	defer storm.Close()
+	storm.restTime = 200 * time.Millisecond
+	if report := storm.Run(context.Background()); len(report.Failed) > 0 || !report.Settled || !report.IsClean() {
+		t.Errorf("%q\n%s", report.Failed, textOf(t, report))
+	}
+}
+
+// A signal during the last look ends the list command. The list is asked for once more, and that is no failure.
+func TestListIsCutOff(t *testing.T) {
+	t.Parallel()
+	config, folder := orderingConfig(t, 1)
+	config.Commands.List = strings.ReplaceAll(
+		"[ ! -e F/first ] || [ -e F/last ] || { touch F/last; sleep 1000; }; [ -e F/first ] || { touch F/first; sleep 1000; }; ",
+		"F/", folder+"/") + config.Commands.List
+	ctx, cancel := context.WithCancel(context.Background())
+	go cancelOnce(filepath.Join(folder, "last"), cancel)
+	report, took := ordered(t, ctx, config)
+	if len(report.Failed) > 0 || report.Ended != endedBefore || report.Known != knownByList || took > 10*time.Second {
+		t.Errorf("%v %q\n%s", took, report.Failed, textOf(t, report))
+	}
+}
+
 // A list command that fails is reported, and no record is judged.
 func TestListFails(t *testing.T) {
 	config := configFor(t)
@@ -479,6 +511,7 @@ func TestConfigRejected(t *testing.T) {
 		"share":            func(c *Config) { c.Share = 1.1 },
 		"time":             func(c *Config) { c.Time = 0 },
 		"list of bindings": func(c *Config) { c.Commands.ListBindings = "x" },
+		"minimize":         func(c *Config) { c.MinimizeTime = time.Minute },
 		"restart":          func(c *Config) { c.List = []faults.Numbered{{Kind: faults.RestartAfter}} },
 		"user":             func(c *Config) { c.User = "a:b" },
 		"address":          func(c *Config) { c.Address = "127.0.0.1:99999" },

@@ -79,6 +79,15 @@ type Broken struct {
 	Number  string   `json:"number"`  // of the first such request
 	Count   int      `json:"count"`   // how many break the same rule
 	Numbers []string `json:"numbers"` // of all requests that have one, each once, in the order in which they were found
+	Each    []Breach `json:"each"`    // all of them, in the same order
+}
+
+// A Breach is one request or answer that breaks a rule.
+type Breach struct {
+	Number string `json:"number"` // of the request, or what the report has in its place
+	Reason string `json:"reason"`
+	Sent   string `json:"sent"`
+	Came   string `json:"came"`
 }
 
 // Breaches collects what breaks the standard. The zero value is ready to use.
@@ -93,16 +102,17 @@ func (b *Breaches) Add(failed conform.Result, number, first string) {
 	if b.at == nil {
 		b.at, b.known = map[string]int{}, map[[2]string]bool{}
 	}
+	if number != "" {
+		first = number
+	}
 	at, isKnown := b.at[failed.Name]
 	if !isKnown {
-		if number != "" {
-			first = number
-		}
 		at, b.at[failed.Name] = len(b.all), len(b.all)
 		b.all = append(b.all, Broken{Result: failed, Number: first, Numbers: []string{}})
 	}
 	it := &b.all[at]
 	it.Count++
+	it.Each = append(it.Each, Breach{first, failed.Reason, failed.Sent, failed.Came})
 	if its := [2]string{failed.Name, number}; number != "" && !b.known[its] {
 		b.known[its] = true
 		it.Numbers = append(it.Numbers, number)
@@ -115,6 +125,11 @@ func (b *Breaches) All() []Broken { return b.all }
 // Hidden returns the Broken without secrets.
 func (b Broken) Hidden(hide Hider) Broken {
 	b.Sent, b.Came, b.Reason = hide.In(b.Sent), hide.In(b.Came), hide.In(b.Reason)
+	each := make([]Breach, 0, len(b.Each))
+	for _, it := range b.Each {
+		each = append(each, Breach{hide.In(it.Number), hide.In(it.Reason), hide.In(it.Sent), hide.In(it.Came)})
+	}
+	b.Each = each
 	return b
 }
 

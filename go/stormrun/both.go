@@ -28,7 +28,6 @@ import (
 // A BothConfig says which programs a storm of both is about, and within which limits.
 type BothConfig struct {
 	Broker, Platform  string // the programs osb-broker and osb-platform
-	Self              string // the program osb-storm, which is the platform if that is to be one as usually written
 	Workers, Brokers  int    // how many workers the platform has, and how many brokers serve over one store
 	Store, Backend    string // InFiles and AsFolders, or InPostgreSQL
 	PostgreSQL        string // the URL of a server for them, unless the server is the storm's own
@@ -125,9 +124,7 @@ type Both struct {
 	places           *places
 	haproxy          *stormservers.HAProxy
 	store            platform.Store
-	orders           Orders       // what the operator can do: the commands, or usual
-	commands         *commands    // of osb-platform
-	usual            *usualOrders // a platform as platforms are usually written, or nil
+	commands         *commands // of osb-platform, with which the operator orders
 	auditor          *auditor
 	keyring          *keyring
 	unruly           *unruly // or nil
@@ -140,9 +137,6 @@ type Both struct {
 // Errors: a limit isn't above 0; a program can't be run; those of the folder and of the platform's store.
 func NewBoth(ctx context.Context, config BothConfig) (*Both, error) {
 	config.Unruly = config.Unruly || isRule(config.Without) && !config.Calm
-	if isUsualPlatform(config.Without) { // it can't have several workers
-		config.Workers = 1
-	}
 	if err := config.check(); err != nil {
 		return nil, err
 	}
@@ -271,11 +265,6 @@ func (b *Both) addPlatform(ctx context.Context) error {
 	chance := faults.Chance(b.config.Seed, "commands")
 	b.commands = newCommands(book, chance, b.platformLine(), journal, b.places.environment)
 	b.commands.triesOf = b.tries
-	b.orders = b.commands
-	if isUsualPlatform(b.config.Without) {
-		defer b.look()
-		return b.openUsual(ctx)
-	}
 	words := []string{
 		"broker", "add", brokerName, b.proxy.URL(), "--user", "platform", "--password-file", b.file("password"),
 		"--first-pace", "0.1", "--longest-pace", "1", "--longest-poll", "1.5",
@@ -314,9 +303,6 @@ func (b *Both) look() {
 
 // records returns all records, as the audit compares them.
 func (b *Both) records(ctx context.Context) (map[Key]stormaudit.Record, error) {
-	if b.usual != nil {
-		return b.usual.audited(ctx)
-	}
 	entries, err := b.store.List(ctx, platform.Filter{})
 	if err != nil {
 		return nil, err
@@ -350,7 +336,7 @@ func (b *Both) Close() error {
 	}
 	var all []error
 	var isOurs func(string) bool
-	if b.store != nil || b.usual != nil {
+	if b.store != nil {
 		if records, err := b.records(context.Background()); err == nil {
 			isOurs = func(instance string) bool {
 				_, isRecorded := records[Key{Instance: instance}]
@@ -360,9 +346,6 @@ func (b *Both) Close() error {
 	}
 	if b.store != nil {
 		all = append(all, b.store.Close())
-	}
-	if b.usual != nil {
-		all = append(all, b.usual.store.Close())
 	}
 	if b.places != nil {
 		all = append(all, b.places.close(isOurs))

@@ -55,9 +55,6 @@ func (b *Both) prepare() error {
 	for number := 0; number < b.config.Workers; number++ {
 		words := append(b.platformLine(), "run", "--worker", fmt.Sprintf("storm-%d", number+1), "--seconds",
 			fmt.Sprint(b.config.RequestTime.Seconds()), "--look-seconds", "0.2", "--stop-seconds", "5")
-		if b.usual != nil {
-			words = b.usualLine()
-		}
 		named := numbered(number, b.config.Workers) // a lease ends soon, with the tag storm
 		made, err := b.victim(whoPlatform, named, words, "OSB_MARGIN=1s", "OSB_PLATFORM_PASSWORD="+b.password)
 		if err != nil {
@@ -68,7 +65,7 @@ func (b *Both) prepare() error {
 	if b.config.CrashPoints != "" && !isUsualBroker(b.config.Without) { // such a broker doesn't come to them
 		b.share(b.brokers, crash.Places())
 	}
-	if b.config.CrashPoints != "" && b.usual == nil {
+	if b.config.CrashPoints != "" {
 		b.share(b.workers, workerPoints())
 	}
 	return nil
@@ -108,9 +105,6 @@ func (b *Both) victim(name string, number int, line []string, environment ...str
 	journal, err := b.journalOptions(name)
 	if err != nil {
 		return nil, err
-	}
-	if b.usual != nil && name == whoPlatform { // it writes none
-		journal = nil
 	}
 	file := fmt.Sprintf("%s-%d.log", name, number)
 	made := &victim{
@@ -175,9 +169,6 @@ func (b *Both) checkPoints(ctx context.Context) error {
 		return nil
 	}
 	for _, it := range []*victim{b.brokers[0], b.workers[0]} {
-		if b.usual != nil && it.name == whoPlatform {
-			continue
-		}
 		if err := b.probe(ctx, it, it.environment, "no-such-point", "crashpoints"); err != nil {
 			return err
 		}

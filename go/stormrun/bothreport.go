@@ -80,9 +80,7 @@ func (b *Both) take(report *Report, found *result) {
 	if b.unruly != nil {
 		p.UnrulyBindings = len(b.unruly.all())
 	}
-	if b.usual == nil {
-		report.Instances, report.Bindings = b.commands.counts()
-	}
+	report.Instances, report.Bindings = b.commands.counts()
 	if report.Ended == "" && p.Without == "" {
 		p.Untried = append(p.Untried, b.untried()...)
 		report.Untried = p.Untried

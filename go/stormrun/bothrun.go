@@ -46,10 +46,10 @@ func (b *Both) once(ctx context.Context) (*result, error) {
 func (b *Both) minimize(ctx context.Context, found *result, report *Report) {
 	limited, cancel := context.WithTimeout(ctx, b.config.MinimizeTime)
 	defer cancel()
-	report.shrink(limited, candidates(found), func(ctx context.Context, it candidate) (*result, error) {
+	report.shrink(limited, candidates(found), func(ctx context.Context, it stormreport.Candidate) (*result, error) {
 		config := b.config
 		config.Calm, config.CrashPoints, config.Unruly, config.password = true, "", false, b.password
-		config.List, config.only = append([]faults.Numbered{}, it.list...), it.only
+		config.List, config.only = append([]faults.Numbered{}, it.List...), it.Only
 		trial, err := NewBoth(ctx, config)
 		if err != nil {
 			return nil, err
@@ -83,9 +83,6 @@ func (b *Both) begin(ctx context.Context) error {
 		if err := awaitBroker(within, it); err != nil {
 			return fmt.Errorf("%w. Its log: %.1000s", err, lastOf(b.brokers[at].log))
 		}
-	}
-	if b.usual != nil { // it asks for no catalogue
-		return nil
 	}
 	for {
 		brokers, err := b.store.Brokers(within)
@@ -121,7 +118,7 @@ func (b *Both) lives(round int) (all []life) {
 
 // livesOf are those of a round. If only isn't nil, they are those of these instances, by their numbers in the round.
 func (b *Both) livesOf(round int, only map[int]bool) []life {
-	all := lives(b.config.Seed+int64(round), b.config.Instances, b.config.Time, b.usual == nil, only)
+	all := lives(b.config.Seed+int64(round), b.config.Instances, b.config.Time, true, only)
 	for at := range all {
 		all[at].number += round * b.config.Instances
 	}
@@ -133,7 +130,7 @@ func (b *Both) unvisited() (points []string) {
 	for _, it := range b.programs() {
 		points = append(points, it.unvisited()...)
 	}
-	if b.config.CrashPoints != "" && b.usual == nil {
+	if b.config.CrashPoints != "" {
 		_, _, ofCommands := b.commands.points()
 		points = append(points, ofCommands...)
 	}
@@ -146,7 +143,7 @@ func (b *Both) course(ctx context.Context) *result {
 	troubles := b.trouble(ctx)
 	begun := b.journal.Now()
 	c := &course{
-		orders: b.orders, keys: b.keys, events: b.events, source: b.source, now: b.journal.Now, lives: b.lives,
+		orders: b.commands, keys: b.keys, events: b.events, source: b.source, now: b.journal.Now, lives: b.lives,
 		isQuiet: func() bool { return b.proxy.Pending() == 0 && (b.unruly == nil || b.unruly.isDone(ctx)) },
 		time:    b.config.time(), settleTime: b.config.SettleTime,
 		watch: b.auditor, lookEach: lookEach / 2,
@@ -205,9 +202,6 @@ func (b *Both) compare(ctx context.Context, found *result) {
 	found.differences = append(append(found.differences, b.keyring.differences()...), ofAudit...)
 	if !isWhole {
 		found.differences = differences(found.differences).without(Stuck)
-		return
-	}
-	if b.usual != nil { // it has neither bindings nor commands
 		return
 	}
 	records, err := b.commands.Records(ctx)

@@ -130,7 +130,7 @@ var (
 func (b *Both) meddle(ctx context.Context) {
 	chance := faults.Chance(b.config.Seed, "operator")
 	for faults.Sleep(ctx, meddleEach) {
-		records, err := b.orders.Records(ctx)
+		records, err := b.commands.Records(ctx)
 		if err != nil {
 			continue
 		}
@@ -142,9 +142,7 @@ func (b *Both) meddle(ctx context.Context) {
 		for _, it := range all {
 			b.meddleWith(ctx, chance, it.Key, it.Record)
 		}
-		if b.usual == nil {
-			b.bindOne(ctx, chance, all)
-		}
+		b.bindOne(ctx, chance, all)
 	}
 }
 
@@ -179,8 +177,7 @@ func (b *Both) meddleWith(ctx context.Context, chance *rand.Rand, key Key, recor
 	switch {
 	case removed < isRemoved[record.State] && (place.Instance+place.Binding)%8 != 0:
 		withBindings := chance.Float64() < 0.7
-		do("removes it", func() error { return b.orders.Remove(ctx, key, withBindings && key.Binding == "") })
-	case b.usual != nil: // nothing is retried or abandoned but what has failed
+		do("removes it", func() error { return b.commands.Remove(ctx, key, withBindings && key.Binding == "") })
 	case retried < isRetried[record.State]:
 		do("retries it", func() error { return b.commands.Retry(ctx, key) })
 	case key.Binding == "" && abandoned < isAbandoned[record.State]:

@@ -13,12 +13,12 @@ func (r *Report) WriteHTML(w io.Writer) error {
 	page := &stormreport.Page{
 		Title:   "Storm against " + r.URL,
 		Summary: r.verdict(),
-		Minimal: r.minimalLines(), MinimalTitle: r.minimalTitle(),
+		Minimal: r.MinimalLines("lost"), MinimalTitle: r.MinimalTitle(),
 		Sections: []stormreport.Section{
 			{Title: "Lost", Findings: r.Lost, Kills: r.kills}, {Title: "False records", Findings: r.False, Kills: r.kills},
 			{Title: "Not converged", Findings: r.Stuck, Kills: r.kills},
 			{Title: "Disagreements", Findings: r.Disagree, Kills: r.kills},
-			{Title: "Lost with this list of faults", Findings: r.MinimalLost, Kills: r.minimalKills},
+			{Title: "Lost with this list of faults", Findings: r.MinimalLost, Kills: r.MinimalKills()},
 		},
 		Course: r.course, Kills: r.kills, Noun: "Answer", Broken: r.Broken, Given: r.Given,
 	}

@@ -153,7 +153,7 @@ func ofBinding(all []faults.Exchange, these ...int) []faults.Exchange {
 	return all
 }
 
-// All requests whose answers break a rule are in the JSON by their numbers, and only the first one is in the text.
+// All requests whose answers break a rule are in the JSON, each with its answer, and only the first one is in the text.
 func TestNumbers(t *testing.T) {
 	type x = [3]any
 	all := answers(x{"PUT", 201, `{}`}, x{"PUT", 201, `{}`}, x{"PUT", 200, `{}`}, x{"PUT", 201, `{}`}, x{"PUT", 201, `[]`})
@@ -165,13 +165,28 @@ func TestNumbers(t *testing.T) {
 			Name    string
 			Count   int
 			Numbers []string
+			Section string
+			Each    []stormreport.Breach
 		}
 	}
 	if err := json.Unmarshal([]byte(written["JSON"]), &read); err != nil {
 		t.Fatal(err)
 	}
-	wanted := "[{provision-repeated 3 [1.2 1.4 1.5]} {answers-are-objects 1 [1.5]}]"
-	if got := fmt.Sprint(read.Broken); got != wanted {
+	got := ""
+	for _, it := range read.Broken {
+		got += fmt.Sprintf("%s, section %s: %d %v\n", it.Name, it.Section, it.Count, it.Numbers)
+		for _, one := range it.Each {
+			got += fmt.Sprintf("  %s %.3s, %s\n", one.Number, one.Sent, one.Came)
+		}
+	}
+	wanted := `provision-repeated, section Provisioning: 3 [1.2 1.4 1.5]
+  1.2 PUT, 201 {}
+  1.4 PUT, 201 {}
+  1.5 PUT, 201 []
+answers-are-objects, section Body: 1 [1.5]
+  1.5 PUT, 201 []
+`
+	if got != wanted {
 		t.Error(got)
 	}
 	text := written["text"]

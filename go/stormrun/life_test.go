@@ -63,7 +63,7 @@ func TestCandidates(t *testing.T) {
 	}
 	lists := func() (all []string) {
 		for _, it := range candidates(found) {
-			all = append(all, fmt.Sprint(it.list))
+			all = append(all, fmt.Sprint(it.List))
 		}
 		return all
 	}

@@ -2,7 +2,6 @@ package stormrun
 
 import (
 	"context"
-	"errors"
 	"fmt"
 	"reflect"
 	"strings"
@@ -23,44 +22,6 @@ func listOf(t *testing.T, text string) []faults.Numbered {
 	return list
 }
 
-// The first candidate that loses something is shrunk. A list that loses nothing is tried twice, and none is tried again
-// once it is known that nothing is lost without faults.
-func TestShrink(t *testing.T) {
-	const one, other = "1.1 hang-up\n1.2 answer-lost\n", "2.1 hang-up\n2.2 answer-slow\n2.3 answer-lost\n2.4 hang-up\n"
-	for name, it := range map[string]struct {
-		needed  string // without these faults, nothing is lost
-		minimal []string
-		note    string
-		runs    int
-	}{
-		"the second": {"2.3 answer-lost", []string{"2.3 answer-lost"}, "", 9},
-		"two faults": {"2.1 hang-up 2.4 hang-up", []string{"2.1 hang-up", "2.4 hang-up"}, "", 33},
-		"no fault":   {"", []string{}, "something is lost without any fault, too", 2},
-		"nothing":    {"3.1 hang-up", nil, "in 4 runs with the faults of the lost instances alone, nothing was lost", 4},
-	} {
-		report := emptyReport()
-		report.shrink(context.Background(), []candidate{
-			{listOf(t, one), map[int]bool{1: true}}, {listOf(t, other), map[int]bool{2: true}},
-		}, func(_ context.Context, of candidate) (*result, error) {
-			found := &result{keys: newKeys(nil)}
-			if len(of.list) > 0 && !of.only[of.list[0].Number.Instance] {
-				t.Errorf("%s: %v is tried with the lives of %v", name, of.list, of.only)
-			}
-			if contains(of.list, it.needed) {
-				found.differences = []Difference{{Kind: Disagree, What: "they disagree"}}
-			}
-			return found, nil
-		})
-		if !reflect.DeepEqual(report.Minimal, it.minimal) || !strings.Contains(strings.Join(report.Notes, ""), it.note) ||
-			report.MinimizeRuns != it.runs || len(stormreport.ListLines(report.minimal)) != len(it.minimal) {
-			t.Errorf("%s: %v after %d runs, %q", name, report.Minimal, report.MinimizeRuns, report.Notes)
-		}
-		if hasLife := len(report.MinimalLost) == 1; hasLife != (it.minimal != nil) {
-			t.Errorf("%s: the lives are %v", name, report.MinimalLost)
-		}
-	}
-}
-
 // contains returns whether a list has these faults.
 func contains(list []faults.Numbered, needed string) bool {
 	words := strings.Fields(needed)
@@ -72,13 +33,21 @@ func contains(list []faults.Numbered, needed string) bool {
 	return true
 }
 
-// A run that fails loses nothing.
-func TestShrinkFailing(t *testing.T) {
-	report := emptyReport()
-	report.shrink(context.Background(), []candidate{{listOf(t, "1.1 hang-up"), nil}},
-		func(context.Context, candidate) (*result, error) { return nil, errors.New("no") })
-	if report.Minimal != nil || report.MinimizeRuns != tries {
-		t.Errorf("%v after %d runs", report.Minimal, report.MinimizeRuns)
+// The report says that something is lost without any fault, or that nothing was lost in the runs.
+func TestShrinkNotes(t *testing.T) {
+	for note, loses := range map[string]bool{
+		"--minimize: something is lost without any fault, too":                                true,
+		"--minimize: in 2 runs with the faults of the lost instances alone, nothing was lost": false,
+	} {
+		report, found := emptyReport(), &result{keys: newKeys(nil)}
+		if loses {
+			found.differences = []Difference{{Kind: Disagree, What: "they disagree"}}
+		}
+		report.shrink(context.Background(), []stormreport.Candidate{{List: listOf(t, "1.1 hang-up")}},
+			func(context.Context, stormreport.Candidate) (*result, error) { return found, nil })
+		if !reflect.DeepEqual(report.Notes, []string{note}) {
+			t.Errorf("%q", report.Notes)
+		}
 	}
 }
 
@@ -104,17 +73,17 @@ func TestShrinkCutOff(t *testing.T) {
 	} {
 		report, runs := emptyReport(), 0
 		ctx, cancel := context.WithCancel(context.Background())
-		report.shrink(expiring{ctx}, []candidate{{listOf(t, four), map[int]bool{2: true}}},
-			func(_ context.Context, of candidate) (*result, error) {
+		report.shrink(expiring{ctx}, []stormreport.Candidate{{List: listOf(t, four), Only: map[int]bool{2: true}}},
+			func(_ context.Context, of stormreport.Candidate) (*result, error) {
 				runs++
 				found := &result{keys: newKeys(nil)}
-				loses := contains(of.list, it.needed)
+				loses := contains(of.List, it.needed)
 				if runs == it.cutAt {
 					loses = it.lost
 					cancel()
 				}
 				if loses {
-					found.differences = []Difference{{Kind: Lost, What: fmt.Sprint(of.list)}}
+					found.differences = []Difference{{Kind: Lost, What: fmt.Sprint(of.List)}}
 				}
 				return found, nil
 			})
@@ -128,7 +97,7 @@ func TestShrinkCutOff(t *testing.T) {
 		if it.ended != "" && report.MinimizeRuns != it.cutAt-1 || it.ended != "" && runs != it.cutAt {
 			t.Errorf("%s: %d of %d runs count", name, report.MinimizeRuns, runs)
 		}
-		if it.minimal != nil && report.MinimalLost[0].What != fmt.Sprint(report.minimal) {
+		if it.minimal != nil && report.MinimalLost[0].What != fmt.Sprint(report.Replayed(nil)) {
 			t.Errorf("%s: the life is that of %s", name, report.MinimalLost[0].What)
 		}
 		for form, text := range reports(t, report) {

@@ -38,19 +38,14 @@ type Report struct {
 	Notes     []string           `json:"notes"`
 	Untried   []string           `json:"untried"` // what every storm has to try, and this one hasn't
 
-	Programs     *Programs `json:"programs,omitempty"` // of a storm of both programs
-	Given        []string  `json:"fault_list"`
-	Minimal      []string  `json:"minimal_fault_list,omitempty"` // nil unless a list was shrunk
-	MinimalLost  []Finding `json:"minimal_lost,omitempty"`
-	MinimizeRuns int       `json:"minimize_runs,omitempty"`
-	// MinimizeEnded is why --minimize was ended before the list was the shortest, or empty.
-	MinimizeEnded string `json:"minimize_ended,omitempty"`
+	Programs *Programs `json:"programs,omitempty"` // of a storm of both programs
+	Given    []string  `json:"fault_list"`
+	stormreport.Shrunk
 
-	given, minimal []faults.Numbered
+	given          []faults.Numbered
 	user, password string
-	// course is drawn if nothing was found. The kills are those of the run, and of the one with the list that was shrunk.
-	course              []Finding
-	kills, minimalKills []stormreport.Line
+	course         []Finding // what is drawn if nothing was found
+	kills          []stormreport.Line
 }
 
 // emptyReport returns a report without a member that is nil.
@@ -192,26 +187,5 @@ func (r *Report) unasked() []string {
 		stormreport.Counted(r.Unknown, "instance or binding", "instances and bindings"), option)}
 }
 
-// minimalTitle is what the list is called that was shrunk.
-func (r *Report) minimalTitle() string {
-	if r.MinimizeEnded != "" {
-		return "A list of faults that still loses one"
-	}
-	return "The shortest list of faults that still loses one"
-}
-
-// minimalLines are the faults of the list that was shrunk, or say that it needs none. It is nil if no list was shrunk.
-func (r *Report) minimalLines() []string {
-	if r.Minimal != nil && len(r.Minimal) == 0 {
-		return []string{"none: something is lost without any fault"}
-	}
-	return r.Minimal
-}
-
 // WriteFaults writes the faults of the run as a list that faults.ReadList reads, or the list to which it was shrunk.
-func (r *Report) WriteFaults(w io.Writer) error {
-	if r.Minimal != nil {
-		return faults.WriteList(w, r.minimal)
-	}
-	return faults.WriteList(w, r.given)
-}
+func (r *Report) WriteFaults(w io.Writer) error { return faults.WriteList(w, r.Replayed(r.given)) }

@@ -50,8 +50,8 @@ func hostileReport() *Report {
 	finding := Finding{Number: "1", Instance: "ours", Binding: hostile, What: hostile, Life: life}
 	return &Report{
 		URL: "http://" + hostile, Service: hostile, Plan: hostile, Ended: hostile, Inventory: hostile,
-		Lost: []Finding{finding}, False: []Finding{finding}, Stuck: []Finding{finding}, MinimalLost: []Finding{finding},
-		Minimal: []string{hostile}, Given: []string{hostile}, Notes: []string{hostile}, Failed: []string{hostile},
+		Lost: []Finding{finding}, False: []Finding{finding}, Stuck: []Finding{finding},
+		Shrunk: stormreport.Shrunk{MinimalLost: []Finding{finding}, Minimal: []string{hostile}}, Given: []string{hostile}, Notes: []string{hostile}, Failed: []string{hostile},
 		Leftovers: []conform.Leftover{{Instance: hostile, Reason: hostile}},
 		Broken:    []Broken{brokenWith(conform.Result{Reason: hostile, Sent: hostile, Came: hostile}, hostile)},
 	}

@@ -17,7 +17,7 @@ func (r *Report) WriteText(w io.Writer) error {
 	stormreport.WriteFindings(&text, "NOT CONVERGED", r.Stuck)
 	stormreport.WriteFindings(&text, "DISAGREEMENT", r.Disagree)
 	stormreport.WriteBroken(&text, "answer", r.Broken)
-	r.writeMinimal(&text)
+	r.WriteMinimal(&text, "lost")
 	r.writeEnd(&text)
 	_, err := io.WriteString(w, text.String())
 	return err
@@ -38,17 +38,6 @@ func (r *Report) writeCounts(w io.Writer) {
 	for _, it := range append(r.unasked(), stormreport.UnmetLines(r.Unmet)...) {
 		fmt.Fprintln(w, it)
 	}
-}
-
-func (r *Report) writeMinimal(w io.Writer) {
-	if r.Minimal == nil {
-		return
-	}
-	fmt.Fprintf(w, "\n%s (%d runs):\n", r.minimalTitle(), r.MinimizeRuns)
-	for _, it := range r.minimalLines() {
-		fmt.Fprintf(w, "  %s\n", it)
-	}
-	stormreport.WriteFindings(w, "with these faults", r.MinimalLost)
 }
 
 func (r *Report) writeEnd(w io.Writer) {

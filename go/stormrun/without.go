@@ -10,24 +10,24 @@ import (
 
 // A designPart is one of the design that can be taken out of programs that were built with the build tag storm.
 type designPart struct {
-	name         string
-	isOfPlatform bool
-	isRule       bool // of the broker about bindings: as long as the platform keeps its own, nothing goes wrong without it
-	// The whole broker, or the whole platform, is one as they are usually written.
-	isUsualBroker, isUsualPlatform bool
-
-	needsFolders bool // with databases, the server has the locks, or the work is otherwise
+	name          string
+	isOfPlatform  bool
+	isRule        bool // of the broker about bindings: as long as the platform keeps its own, nothing goes wrong without it
+	isUsualBroker bool // the whole broker is one as brokers are usually written
+	needsFolders  bool // with databases, the server has the locks, or the work is otherwise
 }
 
 var parts = []designPart{
 	{name: "tombstones"}, {name: "work", needsFolders: true}, {name: "busy"}, {name: "attempts", isOfPlatform: true},
 	{name: "locks", needsFolders: true}, {name: "available", isRule: true}, {name: "held", isRule: true},
-	{name: "broker", needsFolders: true, isUsualBroker: true}, {name: "platform", isUsualPlatform: true},
-	{name: "both", needsFolders: true, isUsualBroker: true, isUsualPlatform: true},
+	{name: "broker", needsFolders: true, isUsualBroker: true}, {name: "platform", isOfPlatform: true},
+	{name: withoutBoth, needsFolders: true, isUsualBroker: true},
 }
 
-// withoutAttempts is the part for which other faults come than usually.
-const withoutAttempts = "attempts"
+const (
+	withoutAttempts = "attempts" // for which other faults come than usually
+	withoutBoth     = "both"     // broker and platform, each out of its program
+)
 
 // Parts returns the names of the parts.
 func Parts() (names []string) {
@@ -46,11 +46,10 @@ func partOf(name string) designPart {
 	return designPart{}
 }
 
-func isPart(name string) bool          { return partOf(name).name != "" }
-func isRule(name string) bool          { return partOf(name).isRule }
-func needsFolders(name string) bool    { return partOf(name).needsFolders }
-func isUsualBroker(name string) bool   { return partOf(name).isUsualBroker }
-func isUsualPlatform(name string) bool { return partOf(name).isUsualPlatform }
+func isPart(name string) bool        { return partOf(name).name != "" }
+func isRule(name string) bool        { return partOf(name).isRule }
+func needsFolders(name string) bool  { return partOf(name).needsFolders }
+func isUsualBroker(name string) bool { return partOf(name).isUsualBroker }
 
 // weights are how often the kinds of faults are chosen. Without attempts, most answers come too late or never: then the
 // 200 to a Provision that arrived twice is taken for that to a Deprovision that was swallowed.
@@ -89,9 +88,9 @@ func (b *Both) isKilled(v *victim) bool {
 func (c BothConfig) withoutOf(program string) []string {
 	of := partOf(c.Without)
 	switch {
-	case of.isUsualBroker && program == whoBroker:
-		return []string{"OSB_WITHOUT=broker"}
-	case of.name == "" || of.isUsualPlatform || of.isOfPlatform != (program == whoPlatform):
+	case of.name == withoutBoth:
+		return []string{"OSB_WITHOUT=" + program}
+	case of.name == "" || of.isOfPlatform != (program == whoPlatform):
 		return nil
 	}
 	return []string{"OSB_WITHOUT=" + c.Without}

@@ -13,7 +13,10 @@ import (
 
 // A part is taken out of the program that has it, and of no other.
 func TestWithout(t *testing.T) {
-	for name, wanted := range map[string]string{"": "", "work": whoBroker, "held": whoBroker, "attempts": whoPlatform} {
+	for name, wanted := range map[string]string{
+		"": "", "work": whoBroker, "held": whoBroker, "attempts": whoPlatform,
+		"broker": whoBroker, "platform": whoPlatform,
+	} {
 		config := fakes(t)
 		config.Without, config.Share = name, 0.4
 		b, err := NewBoth(context.Background(), config)
@@ -84,43 +87,24 @@ func TestReportWithout(t *testing.T) {
 	}
 }
 
-// With a platform as they are usually written, osb-storm itself is the one worker. It has no bindings, and its broker
-// may be a usual one, too.
-func TestUsualPlatform(t *testing.T) {
-	ctx := context.Background()
-	for _, name := range []string{"platform", "both"} {
-		config := fakes(t)
-		config.Without, config.Workers, config.Self, config.CrashPoints = name, 3, "/osb-storm", SomePoints
-		config.Journal = filepath.Join(t.TempDir(), "journal")
-		b, err := NewBoth(ctx, config)
-		if err != nil {
-			t.Fatal(err)
+// In a storm with both as they are usually written, each program is. Only the broker comes to no crash points.
+func TestWithoutBoth(t *testing.T) {
+	config := fakes(t)
+	config.Without, config.CrashPoints = withoutBoth, SomePoints
+	b, err := NewBoth(context.Background(), config)
+	if err != nil {
+		t.Fatal(err)
+	}
+	defer b.Close()
+	for _, it := range b.programs() {
+		if !strings.HasSuffix(strings.Join(it.environment, "\n"), "\nOSB_WITHOUT="+it.name) {
+			t.Errorf("%s: %v", it, it.environment)
 		}
-		defer b.Close()
-		line := strings.Join(b.workers[0].line, " ")
-		if len(b.workers) != 1 || !strings.HasPrefix(line, "/osb-storm usual-platform --store "+b.folder) ||
-			strings.Contains(line, "journal") || len(b.workers[0].open) > 0 {
-			t.Errorf("%s: %s", name, line)
+		if (len(it.open) == 0) != (it.name == whoBroker) {
+			t.Errorf("%s: %v", it, it.open)
 		}
-		variables, words := strings.Join(b.brokers[0].environment, "\n"), strings.Join(b.brokers[0].line, " ")
-		isUsual := strings.Contains(variables, "OSB_WITHOUT=broker") && strings.Contains(words, "--first-poll=false")
-		if isUsual != (name == "both") || (len(b.brokers[0].open) == 0) != isUsual {
-			t.Errorf("%s: the broker is a usual one: %v", name, isUsual)
-		}
-		key := b.keys.instance(1)
-		if err := b.orders.Create(ctx, key); err != nil {
-			t.Fatal(err)
-		}
-		if err := either(b.orders.Remove(ctx, key, true), b.orders.Bind(ctx, key)); err == nil {
-			t.Error("it has bindings")
-		}
-		record, err := b.orders.Record(ctx, key)
-		if err != nil || record != (Record{State: "ordered", Known: true}) {
-			t.Errorf("%v %v", record, err)
-		}
-		audited, err := b.records(ctx)
-		if it := audited[key]; err != nil || it.State != "ordered" || it.Rests || it.Plan.String() != b.plan(key) {
-			t.Errorf("%v %v", audited, err)
-		}
+	}
+	if words := strings.Join(b.brokers[0].line, " "); !strings.Contains(words, "--first-poll=false") {
+		t.Error(words)
 	}
 }

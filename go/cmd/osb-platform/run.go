@@ -240,7 +240,8 @@ func (r *running) openEngine(ctx context.Context, own string) (err error) {
 	if err != nil {
 		return err
 	}
-	r.engine = platform.NewEngine(r.journal.engineStore(store), r.journal.client(with), r.vault, options, r.observer)
+	journaled := storeForStorm(r.journal.engineStore(store))
+	r.engine = platform.NewEngine(journaled, r.journal.client(with), r.vault, options, r.observer)
 	return nil
 }
 

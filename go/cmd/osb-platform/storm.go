@@ -12,6 +12,14 @@ import (
 	"pippinterm/storm"
 )
 
+// storeForStorm returns the store of the engine: one of a platform as platforms are usually written if OSB_WITHOUT says so.
+func storeForStorm(store platform.Store) platform.Store {
+	if os.Getenv("OSB_WITHOUT") == "platform" {
+		return storm.Forgetful(store)
+	}
+	return store
+}
+
 // forStorm makes of the client and the options what a storm tries: leases that end soon, by the duration in OSB_MARGIN,
 // and a platform without attempts if OSB_WITHOUT says so.
 func forStorm(
@@ -25,7 +33,7 @@ func forStorm(
 		options.Margin = margin
 	}
 	switch part := os.Getenv("OSB_WITHOUT"); part {
-	case "":
+	case "", "platform": // of which storeForStorm takes care
 		return with, options, nil
 	case "attempts":
 		return storm.WithoutAttempts(with, store), options, nil

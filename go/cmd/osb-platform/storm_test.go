@@ -22,6 +22,7 @@ func TestForStorm(t *testing.T) {
 		{options: given},
 		{margin: "1500ms", options: platform.Options{Worker: "one", Margin: 1500 * time.Millisecond}},
 		{without: "attempts", options: given, isOther: true},
+		{without: "platform", options: given},
 		{margin: "soon", fails: "OSB_MARGIN"},
 		{without: "tombstones", fails: `without "tombstones"`},
 	} {

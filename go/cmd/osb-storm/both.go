@@ -151,9 +151,6 @@ func (s *bothSettings) start(ctx context.Context) (both *stormrun.Both, err erro
 			return nil, err
 		}
 	}
-	if s.config.Self, err = os.Executable(); err != nil {
-		return nil, err
-	}
 	s.config.Seed, s.config.Share, s.config.MinimizeTime = s.seed, s.share(), s.forMinimize()
 	if s.config.List, err = s.list(); err != nil {
 		return nil, err

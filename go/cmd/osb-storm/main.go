@@ -46,7 +46,7 @@ Of osb-broker and osb-platform, it tests both together.
 
 docs/storm.md says how to run it against a broker or a platform of your own.`,
 	}
-	root.AddCommand(conformCommand(o), brokerCommand(o), platformCommand(o), bothCommand(o), usualCommand())
+	root.AddCommand(conformCommand(o), brokerCommand(o), platformCommand(o), bothCommand(o))
 	root.CompletionOptions.DisableDefaultCmd = true
 	return root
 }

@@ -34,12 +34,20 @@ SIGHUP.
 To find out what the platform has, give --list-command, and --list-bindings-command for the bindings. Without them,
 osb-storm judges by the platform's requests, and lists what you have to compare yourself.
 
+With --order-command, osb-storm runs a command that has the platform create and delete instances and bindings. The
+command finds the URL of the broker in OSB_STORM_URL. The faults end once the command has ended, or after --seconds. At
+the end of the run, the command is killed with all processes of its group. If the command fails, or orders nothing,
+its last lines are printed on standard error.
+
+With --minimize, osb-storm finds the fewest faults with which the platform abandons something: it runs the order command
+again and again, each time with fewer faults, and with a broker that is empty and listens at the same address.
+
 environment:
   OSB_BROKER_PASSWORD      the password, if --password-file isn't given
 
 exit status: 0 nothing was abandoned; 1 something was abandoned, a record was false, not everything converged, a
 request broke a MUST, no request came, no request had a fault though --fault-percent or --faults asks for some, or a
-signal ended the run; 2 change something first: an argument or a file; 70 any other error`
+signal ended the run; 2 change something first: an argument or a file; 70 any other error, such as a command that fails`
 
 func platformCommand(o *outcome) *cobra.Command {
 	s := &platformSettings{}
@@ -71,16 +79,21 @@ func (s *platformSettings) addPlatform(made *cobra.Command) {
 		"a `command` that prints the id of each instance that the platform has, one on a line")
 	flags.StringVar(&config.Commands.ListBindings, "list-bindings-command", "",
 		"a `command` that prints the ids of the instance and the binding for each binding that the platform has")
+	flags.StringVar(&config.Commands.Order, "order-command", "",
+		"a `command` that has the platform create and delete instances and bindings at the broker OSB_STORM_URL")
 }
 
 // addStorm adds the options about the storm.
 func (s *platformSettings) addStorm(made *cobra.Command) {
 	flags, config := made.Flags(), &s.config
 	flags.Var(program.Seconds(&config.WaitTime, 10*time.Minute), "wait-seconds", "for the first request about an instance")
-	flags.Var(program.Seconds(&config.Time, time.Minute), "seconds", "from then on until the faults end")
+	flags.Var(program.Seconds(&config.Time, time.Minute), "seconds",
+		"from then on until the faults end, unless --order-command ends before")
 	flags.Var(program.Seconds(&config.SettleTime, 2*time.Minute), "settle-seconds",
 		"for the platform to clean up after the faults")
 	s.addFaults(made)
+	s.addMinimize(made, "if something is abandoned or a record is false, shrink the list of faults to the shortest one that "+
+		"still loses one; with --order-command")
 	flags.Var(program.Seconds(&config.RequestTime, time.Minute), "request-seconds",
 		"for which the platform waits for an answer")
 	flags.Var(program.Seconds(&config.Late, 6*time.Second), "late-seconds", "the bound of every delay")
@@ -122,7 +135,8 @@ func (s *platformSettings) start(ctx context.Context, warnings io.Writer) (storm
 	if s.config.Password, err = s.password(warnings); err != nil {
 		return nil, err
 	}
-	s.config.Seed, s.config.Share = s.seed, s.share()
+	s.config.Seed, s.config.Share, s.config.MinimizeTime = s.seed, s.share(), s.forMinimize()
+	s.config.Warnings = warnings
 	if s.config.List, err = s.list(); err != nil {
 		return nil, err
 	}
