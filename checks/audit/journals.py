@@ -27,7 +27,7 @@ What a line names is that of the story, unless one of these words follows: `plan
 from __future__ import annotations
 
 import json
-from collections.abc import Callable, Mapping
+from collections.abc import Mapping
 from dataclasses import dataclass, field
 from pathlib import Path
 from typing import Any
@@ -39,6 +39,8 @@ OTHER = "00000000-0000-0000-0000-0000000000ff"
 PLANS = {"sync": "00000000-0000-0000-0000-0000000000b1", "async": "00000000-0000-0000-0000-0000000000b2"}
 NAMED = "plan", "service", "attributes", "accepts", "work-plan", "work-id", "state"
 """What a line may name in another way than its story does."""
+METHODS = {"claim": "record", "command": "record", "abandon": "record", "credentials": "known"}
+"""The methods of Journal for the verbs that have another name."""
 EMPTY: Mapping[str, str] = {}
 
 
@@ -130,22 +132,6 @@ class Journal:
         words = [it for it in words if it.partition("=")[0] not in NAMED]
         flags = [it for it in words if it.startswith(("!", "@", "saw="))]
         who, verb, *rest = [it for it in words if it not in flags]
-        verbs: dict[str, Callable[[str, str, list[str], dict[str, Any]], None]]
-        verbs = {"claim": self._record, "take": self._take, "command": self._record, "abandon": self._record}
-        verbs |= {
-            "change": self._change,
-            "send": self._send,
-            "hear": self._hear,
-            "lose": self._lose,
-            "arrive": self._arrive,
-        }
-        verbs |= {
-            "answer": self._answer,
-            "look": self._look,
-            "credentials": self._known,
-            "begin": self._begin,
-            "end": self._end,
-        }
         more: dict[str, Any] = {"instance": self.instance, **({"binding": binding} if binding else {})}
         digest = next((it[1:] for it in flags if it.startswith("@")), "")
         more |= {"credentials": digest} if digest else {}
@@ -157,7 +143,7 @@ class Journal:
         saw = next((it[4:] for it in flags if it.startswith("saw=")), None)
         of = binding or self.instance
         more |= {"saw": held_text(saw, self.plan, of, self.named)} if saw is not None else {}
-        verbs[verb](who, verb, rest, more)
+        getattr(self, f"_{METHODS.get(verb, verb)}")(who, verb, rest, more)
         if "!undone" in flags or "!doubtful" in flags:
             doubtful = {"doubtful": True} if "!doubtful" in flags else {}
             self.write(who, "undone", {"change": self.changes[who], **self._key(more), **doubtful})

@@ -183,6 +183,21 @@ RULES = {
         "P2 take 2 cleaning/2 from cleaning/2/deprovision; B arrive 9 x poll",
         "create I; crash I platform; timeout I; send I; timeout I",
     ),
+    "a doubtful change that another process has made before": Rule(
+        PENDING + "P lose r1; P take 1 cleaning/1; P claim cleaning/2/deprovision; P send r2 deprovision 2; "
+        "P2 claim cleaning/2/deprovision from cleaning/1 !doubtful; P lose r2; P take 2 cleaning/2",
+        "create I; arrive I 1; timeout I; send I; timeout I",
+    ),
+    "a call of a worker that was paused, and whose lock was gone": Rule(
+        PENDING + "B look absent; B2 create; B2 look whole; B2 change 0 ready from pending-provision; "
+        "B begin create; B end create failed; B answer 1 500 other-error",
+        "create I; arrive I 1; work I part; work I whole; end I done",
+    ),
+    "a doubtful change behind the last one that counts": Rule(
+        PENDING + "B create; B change 1 ready; B answer 1 201; P hear r1 201; P take 1 ready/1; "
+        "P2 claim cleaning/1 from wanted/1/provision !doubtful",
+        MADE,
+    ),
     "a doubtful change that is the last one": Rule(
         PENDING + "B create; B change 1 ready !doubtful",
         "create I; arrive I 1; work I part; work I whole",
@@ -211,6 +226,13 @@ RULES = {
         "P hear r2 200 in-progress; P take 2 polling/2; P claim polling/3/poll; P send r3 poll 3; B arrive 3 r3 poll; "
         "B answer 3 200 succeeded saw=ready",
         f"{BEGUN}; work I part; work I whole; arrive I 2; finish I ok; take I 1; send I; arrive I 3",
+        "async",
+    ),
+    "two changes of one commit that a request hasn't seen": Rule(
+        MAKING + "P lose r2; P take 2 polling/2; P claim cleaning/3/deprovision; P send r3 deprovision 3; B create; "
+        "B look whole; B arrive 3 r3 deprovision; B change 0 ready; B change 3 ready+deprovision; B arrive 2 r2 poll; "
+        "B answer 2 200 in-progress saw=making",
+        f"{BEGUN}; timeout I; expire I; send I; work I part; work I whole; arrive I 2; finish I ok; arrive I 3",
         "async",
     ),
     "a change while a request waits": Rule(

@@ -22,6 +22,8 @@ class BrokerSide:
     def __init__(self, known: Known) -> None:
         self.known = known
         self.open: list[Visit] = []
+        self.idle: dict[tuple[str, tuple[str, int] | None, str, str], Line] = {}
+        """The calls that have begun while no work was pending and no operation ran."""
 
     def step(self, line: Line) -> None:
         """Goes through a line."""
@@ -175,6 +177,7 @@ class BrokerSide:
 
     def _changed(self, line: Line) -> None:
         life, visit = self.known.life(line.key), self._visit(line)
+        self._flush(line, life)
         self._check_chain(line, life)
         if visit is not None and visit.key != line.key:
             raise unjudged(line, "the broker has deleted a binding by itself whose creation had failed")
@@ -317,6 +320,8 @@ class BrokerSide:
         life, call, is_begun = self.known.life(line.key), line.of["call"], line.of["stage"] == "begun"
         is_done, number = line.of.get("result") == "done", life.number_of(line.of.get("credentials", ""))
         if call in ("create", "delete"):
+            if self._is_idle(line, life, is_begun, is_done):
+                return
             if is_begun:
                 life.known = life.credentials if call == "delete" and life.resource == "whole" else 0
                 self._become(line, life, "part", 0)
@@ -326,6 +331,27 @@ class BrokerSide:
             self._become(line, life, line.of["found"], life.known)
         elif call == "credentials" and is_done and (life.resource, life.credentials) != ("whole", number):
             self._become(line, life, "whole", number)
+
+    def _is_idle(self, line: Line, life: Life, is_begun: bool, is_done: bool) -> bool:
+        """Whether a call counts for nothing: it begins while no work is pending and no operation runs, and it fails. A
+        worker makes such a call if it was paused, and its lock was gone. If the call succeeds, it counts.
+        """
+        call = line.process, line.visit, line.key, line.of["call"]
+        if is_begun:
+            if life.held.work == "-" and not life.held.is_running:
+                self.idle[call] = line
+            return call in self.idle
+        begun = self.idle.pop(call, None)
+        if begun is None:
+            return False
+        if is_done:
+            self._become(begun, life, "part", 0)
+        return not is_done
+
+    def _flush(self, line: Line, life: Life) -> None:
+        """A process changes a row while a call of its own goes on, for which no work was pending: the call counts."""
+        for call in [it for it in self.idle if it[0] == line.process and it[2] == line.key]:
+            self._become(self.idle.pop(call), life, "part", 0)
 
     def _become(self, line: Line, life: Life, resource: str, credentials: int) -> None:
         number = credentials if resource == "whole" else 0

@@ -2,7 +2,7 @@
 from __future__ import annotations
 
 from bisect import bisect
-from typing import Iterable, Iterator, Sequence
+from typing import Iterable, Iterator, Mapping, Sequence
 
 from osb_audit.lines import Line
 
@@ -33,29 +33,44 @@ def ordered(lines: Iterable[Line]) -> list[Line]:
 def _uncommitted(lines: Sequence[Line], undone: frozenset[tuple[str, int]]) -> set[Line]:
     """The changes that don't count, though nothing says that they were undone."""
     last: dict[tuple[str, Row], Line] = {}
-    following: dict[Line, Line] = {}
-    latest: dict[Row, Line] = {}
     for line in lines:
         if line.event != "arrived":  # a request that has only arrived doesn't show that a change before it is committed
             last[line.process, row_of(line)] = line
-        if line.event == "changed":
-            if row_of(line) in latest:
-                following[latest[row_of(line)]] = line
-            latest[row_of(line)] = line
-    found: set[Line] = set()
     seen = {it for line in lines if line.event == "answered" and "saw" in line.of for it in _seen(line)}
-    for line in lines:
-        if line.event != "changed":
-            continue
-        is_doubtful = line.change in undone
-        if not is_doubtful and last[line.process, row_of(line)] is not line:
-            continue
-        after = following.get(line)
-        if after is None:
-            if is_doubtful and (row_of(line), line.of["after"]) not in seen:
-                found.add(line)
-        elif after.of["before"] != line.of["after"]:
+    changes = [it for it in lines if it.event == "changed"]
+    unsure = {it for it in changes if it.change in undone or last[it.process, row_of(it)] is it}
+    found: set[Line] = set()
+    following: dict[Row, Line] = {}  # the next change of each row that counts
+    for line in reversed(changes):
+        row = row_of(line)
+        if line in unsure and _is_lost(line, following.get(row), line.change in undone, seen):
             found.add(line)
+        else:
+            following[row] = line
+    return found | _made_before([it for it in changes if it not in found], unsure)
+
+
+def _is_lost(line: Line, following: Line | None, is_doubtful: bool, seen: set[tuple[Row, str]]) -> bool:
+    """Whether a change of which nobody knows doesn't count: the next one hasn't found what it has left, or there is
+    none, and no request has seen it.
+    """
+    if following is not None:
+        return bool(following.of["before"] != line.of["after"])
+    return is_doubtful and (row_of(line), line.of["after"]) not in seen
+
+
+def _made_before(changes: Sequence[Line], unsure: set[Line]) -> set[Line]:
+    """The changes of which nobody knows, and that have left what another one had left already. The last change of a row
+    isn't one of them.
+    """
+    texts: dict[Row, str] = {}
+    latest = {row_of(it): it for it in changes}
+    found: set[Line] = set()
+    for line in changes:
+        row, after = row_of(line), line.of["after"]
+        if line in unsure and line is not latest[row] and texts.get(row) == after != line.of["before"]:
+            found.add(line)
+        texts[row] = after
     return found
 
 
@@ -97,9 +112,11 @@ def _fitting(lines: Iterable[Line], line: Line, text: str, done: set[Line]) -> L
 
 
 def _postponed(lines: list[Line]) -> list[Line]:
-    """The same lines, with a change behind the arrival of a request that was decided on what was held before it.
+    """The same lines, with changes behind the arrival of a request that was decided on what was held before them.
 
-    The line of a change is written before its commit. A request that arrives in between doesn't see the change.
+    The line of a change is written before its commit. A request that arrives in between doesn't see the change. One
+    commit may have several changes of a row, each of which has found what the one before has left. The requests that
+    make them have all arrived before the first of these changes.
     """
     changes: dict[Row, list[int]] = {}
     arrived: dict[tuple[str, int], int] = {}
@@ -113,8 +130,7 @@ def _postponed(lines: list[Line]) -> list[Line]:
         if line.event == "answered" and "saw" in line.of and line.visit in arrived:
             begun = arrived[line.visit]
             for row, saw in _seen(line):
-                late = _unseen(lines, changes.get(row, []), begun, at, saw)
-                if late is not None:
+                for late in _unseen(lines, changes.get(row, []), arrived, begun, at, saw):
                     moves[late] = max(moves.get(late, 0), begun)
     return list(_moved(lines, moves)) if moves else lines
 
@@ -126,17 +142,46 @@ def _seen(line: Line) -> Iterator[tuple[Row, str]]:
         yield (line.side, ""), line.of["saw_instance"]
 
 
-def _unseen(lines: Sequence[Line], changes: Sequence[int], begun: int, end: int, saw: str) -> int | None:
-    """The change before a request's arrival that the request hasn't seen, or None if it has seen another one."""
+def _unseen(
+    lines: Sequence[Line],
+    changes: Sequence[int],
+    arrived: Mapping[tuple[str, int], int],
+    begun: int,
+    end: int,
+    saw: str,
+) -> Sequence[int]:
+    """The changes before a request's arrival that the request hasn't seen, or none if it has seen another one."""
     behind = bisect(changes, begun)
     if behind == 0 or lines[changes[behind - 1]].of["after"] == saw:
-        return None
+        return ()
     if any(lines[it].of["after"] == saw for it in changes[behind : bisect(changes, end)]):
-        return None
-    last = changes[behind - 1]
-    change = lines[last]
-    is_over = any(it.process == change.process and it.visit == change.visit for it in lines[last + 1 : begun])
-    return last if change.of["before"] == saw and not (is_over and change.visit) else None
+        return ()
+    for first in range(behind - 1, -1, -1):
+        at = changes[first]
+        if lines[at].process != lines[changes[behind - 1]].process or _is_over(lines, arrived, at, begun):
+            return ()
+        if lines[at].of["before"] == saw:
+            return changes[first:behind]
+    return ()
+
+
+def _is_over(lines: Sequence[Line], arrived: Mapping[tuple[str, int], int], at: int, end: int) -> bool:
+    """Whether a later line of the same process shows that a change is committed: one of the same request, or of a
+    request that has arrived behind the change, and has changed the row again or seen what the change has left.
+    """
+    change = lines[at]
+    row = row_of(change)
+    for it in lines[at + 1 : end]:
+        if it.visit is None or it.process != change.process:
+            continue
+        if it.visit == change.visit:
+            return True
+        if arrived.get(it.visit, -1) > at:
+            if it.event == "changed" and row_of(it) == row:
+                return True
+            if it.event == "answered" and "saw" in it.of and (row, change.of["after"]) in _seen(it):
+                return True
+    return False
 
 
 def _moved(lines: Sequence[Line], moves: dict[int, int]) -> Iterator[Line]:
