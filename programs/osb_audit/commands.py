@@ -15,11 +15,12 @@ from typing import Callable, Iterable, Iterator, TypeVar
 from osb_audit import words
 from osb_replay_log import signals
 from osb_replay_log.engines import Engine, Processes
-from osb_replay_log.faults import NO_MEMORY, REFUSED_WORDS, UNABLE, UNREAD, UNWRITTEN, Unreplayed, shown, unwritten
+from osb_replay_log.faults import NO_MEMORY, REFUSED_WORDS, UNABLE, UNREAD, UNWRITTEN, Unreplayed, unwritten
 from osb_replay_log.logs import Log
 from osb_replay_log.program import Program, built
 from osb_replay_log.progress import Progress
 from osb_replay_log.spool import Room
+from osb_replay_log.starting import refuse
 
 _TOP = Path(__file__).resolve().parents[2]
 _CHUNK = 8 << 20
@@ -55,14 +56,9 @@ def run(given: list[str]) -> int:
     try:
         return _audit(asked)
     except Unreplayed as error:
-        return _refuse(REFUSED_WORDS if error.status == UNREAD else error.status, error.said)
+        return refuse(words.PROGRAM, REFUSED_WORDS if error.status == UNREAD else error.status, error.said)
     except MemoryError:
-        return _refuse(NO_MEMORY, "out of memory")
-
-
-def _refuse(status: int, said: str) -> int:
-    print(f"{words.PROGRAM}: {shown(said)}", file=sys.stderr)
-    return status
+        return refuse(words.PROGRAM, NO_MEMORY, "out of memory")
 
 
 def _audit(asked: argparse.Namespace) -> int:

@@ -12,11 +12,12 @@ from contextlib import ExitStack, closing
 from osb_replay_log import divided, reports, schedulers, signals, words, work
 from osb_replay_log.dask_engine import Dask, Missing
 from osb_replay_log.engines import Engine, Processes
-from osb_replay_log.faults import NO_MEMORY, REFUSED_WORDS, UNABLE, UNREAD, UNWRITTEN, Unreplayed, shown, unwritten
+from osb_replay_log.faults import NO_MEMORY, REFUSED_WORDS, UNABLE, UNREAD, UNWRITTEN, Unreplayed, unwritten
 from osb_replay_log.logs import Log, from_paths
 from osb_replay_log.program import Program, built
 from osb_replay_log.progress import Progress
 from osb_replay_log.spool import Room
+from osb_replay_log.starting import refuse
 
 _TRIES = 30
 """How often a room is tried to be removed, in three seconds."""
@@ -29,14 +30,9 @@ def run(given: list[str]) -> int:
         {"replay": _replay, "split": _split, "merge": _merge}[asked.command](asked)
         return 0
     except Unreplayed as error:
-        return _refuse(error.status, error.said)
+        return refuse(words.PROGRAM, error.status, error.said)
     except MemoryError:
-        return _refuse(NO_MEMORY, "out of memory")
-
-
-def _refuse(status: int, said: str) -> int:
-    print(f"{words.PROGRAM}: {shown(said)}", file=sys.stderr)
-    return status
+        return refuse(words.PROGRAM, NO_MEMORY, "out of memory")
 
 
 def _replay(asked: argparse.Namespace) -> None:
