@@ -1,6 +1,7 @@
 """Makes all packages of a release, with their checksums and a bill of materials.
 
-The same checkout and the same SOURCE_DATE_EPOCH, by default the time of the last commit, give the same bytes.
+The same sources, in any folder, and the same SOURCE_DATE_EPOCH, by default the time of the last commit, give the same
+bytes.
 """
 
 from __future__ import annotations

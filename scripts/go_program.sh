@@ -78,14 +78,15 @@ check_tools() {
 }
 
 # compile LIBRARY: builds the program over the library in this folder, under another name until it is whole. A program
-# that was there is replaced and not written over: one that runs has it open.
+# that was there is replaced and not written over: one that runs has it open. It has no build ID, since the digest of
+# scripts/go and what debuggers read name the folder of the checkout: so another checkout gives the same bytes.
 compile() {
-    local new=$program.new.$$ static=
+    local new=$program.new.$$ static='-extldflags -Wl,--build-id=none'
     mkdir -p "${program%/*}" && rm -f "$program".new.* || return
-    ! can_link_statically || static='-linkmode external -extldflags "-static -lsqlite3 -lm"'
+    ! can_link_statically || static='-linkmode external -extldflags "-static -Wl,--build-id=none -lsqlite3 -lm"'
     # If this shell is ended, so is the build.
     LIBOSB_FOLDER=$1 setpriv --pdeathsig TERM "$top/scripts/go" build -trimpath -o "$new" \
-        -tags 'libsqlite3 netgo osusergo sqlite_omit_load_extension' -ldflags "$static" "./cmd/$who" \
+        -tags 'libsqlite3 netgo osusergo sqlite_omit_load_extension' -ldflags "-buildid= $static" "./cmd/$who" \
         </dev/null >"$program.log" 2>&1 9<&- || { cat "$program.log" >&2 && return 1; }
     mv -f "$new" "$program" && echo "$digest" >"$new.digest" && mv -f "$new.digest" "$program.digest"
 }

@@ -75,6 +75,7 @@ def test_package(dist: Path, version: str, debian: Fresh, tmp_path: Path) -> Non
     check_replay(debian)
     check_audit(debian)
     check_storm(debian)
+    check_command_lines(debian)
     with debian.booted():
         instance = check_services(debian)
         update(debian, new, version, instance)
@@ -152,6 +153,49 @@ def check_storm(debian: Fresh) -> None:
         kill %1; wait"""
     )
     assert re.search(r"^MUST: [4-9]\d passed, 0 failed, ", printed, re.MULTILINE), printed
+
+
+def check_command_lines(debian: Fresh) -> None:
+    """Also if systemd doesn't run: both services start by the command lines of their units, with the environment and
+    the secrets that systemd would give them. An instance is created and deleted, and SIGTERM ends both with status 0.
+    """
+    printed = debian.run(
+        f"""{LOOPBACK}
+        cd /tmp
+        umask 077
+        mkdir -p state/osb-broker state/osb-platform credentials
+        echo secret >credentials/password
+        osb-platform key --to credentials/key
+        export CREDENTIALS_DIRECTORY=/tmp/credentials
+        ({command_line(debian, "osb-broker")}) 2>broker.log & broker=$!
+        ({command_line(debian, "osb-platform")}) >platform.log 2>&1 & platform=$!
+        trap 'tail -n 20 broker.log platform.log >&2' ERR
+        export OSB_PLATFORM_STORE=/tmp/state/osb-platform/instances.sqlite
+        export OSB_PLATFORM_KEY_FILE=/tmp/credentials/key
+        for it in {{1..300}}; do
+            if curl -s http://127.0.0.1:8080/healthz && [ -e $OSB_PLATFORM_STORE ]; then break; fi >/dev/null
+            sleep 0.1
+        done
+        OSB_PLATFORM_PASSWORD=secret osb-platform broker add local http://127.0.0.1:8080 --store-password
+        timeout 60 osb-platform create --id first --service folder --plan at-once --wait
+        ls state/osb-broker/instances | wc -l
+        timeout 60 osb-platform remove first --wait >/dev/null
+        ls state/osb-broker/instances | wc -l
+        kill $broker $platform
+        wait $broker
+        wait $platform"""
+    )
+    assert printed.splitlines() == ["first", "1", "0"]
+
+
+def command_line(debian: Fresh, name: str) -> str:
+    """What systemd would run for a service whose state is in /tmp/state."""
+    unit = (debian.top / "lib/systemd/system" / f"{name}.service").read_text().replace("%S", "/tmp/state")
+    (line,) = re.findall("^ExecStart=(.*)$", unit, re.MULTILINE)
+    (options,) = re.findall("^EnvironmentFile=-(.*)$", unit, re.MULTILINE)
+    variables = " ".join(re.findall("^Environment=(.*)$", unit, re.MULTILINE))
+    assert variables and "/tmp/state" in variables
+    return f"set -a; {variables}; . {options}; exec {line}"
 
 
 def client(command: str) -> str:

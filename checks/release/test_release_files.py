@@ -61,16 +61,20 @@ def digest(file: Path) -> str:
 @pytest.mark.whole
 @pytest.mark.long(45)
 def test_same_bytes_twice(dist: Path, version: str, tmp_path: Path, monkeypatch: pytest.MonkeyPatch) -> None:
-    """Also if files of an earlier release are in the folder, and under another umask, time zone and language."""
+    """Also from a checkout in another folder, beside files of an earlier release, and under another umask, time zone
+    and language.
+    """
     created = datetime.fromisoformat(bill(dist, version)["creationInfo"]["created"].replace("Z", "+00:00"))
     monkeypatch.setenv("SOURCE_DATE_EPOCH", str(int(created.timestamp())))
     monkeypatch.setenv("TZ", "Asia/Kathmandu")
     monkeypatch.setenv("LC_ALL", "C")
     shutil.copytree(dist, tmp_path / "again")
     (tmp_path / "again" / f"osb-{version}.oci.tar").write_text("of an earlier release")
+    unbuilt = shutil.ignore_patterns(".git", "out", "build", "dist", "__pycache__")
+    shutil.copytree(TOP, tmp_path / "checkout", symlinks=True, ignore=unbuilt)
     before = os.umask(0o077)
     try:
-        make(tmp_path / "again")
+        make(tmp_path / "again", tmp_path / "checkout")
     finally:
         os.umask(before)
     assert sums(tmp_path / "again") == sums(dist)
