@@ -4,12 +4,12 @@ from __future__ import annotations
 
 from collections.abc import Callable
 
-from binding_wire import model
-from osb import Body, Id, OsbError, Refusal, Request, Status, binding_wire, wire
+from binding_wire import cases, model
+from osb import Id, OsbError, Refusal, Request, Status, binding_wire, wire
+from osb_tests.support import status_of
 from wire.cases import data, given, split, text, told
-from wire.library import BODIES, FAULTS, asked, refused, words
+from wire.library import FAULTS, asked, read_answer, refused, words
 
-WORDS = {body: word.replace("-", " ") for word, body in BODIES.items()} | {Body.OTHER_ERROR: "another error"}
 OF_MODES = {
     **FAULTS,
     Status.NOT_A_BOOLEAN: model.NOT_A_FLAG,
@@ -18,11 +18,15 @@ OF_MODES = {
 
 
 def request(rest: str) -> list[str]:
+    """Both calls that read a request say the same of it."""
     prefix, longest, method, target, body = split(rest, 5)
+    asking = method, data(target), data(body), int(longest), given(prefix) or ""
     try:
-        it = binding_wire.receive_binding_request(method, data(target), data(body), int(longest), given(prefix) or "")
+        it = binding_wire.receive_binding_request(*asking)
     except Refusal as refusal:
+        assert status_of(lambda: binding_wire.read_binding_request(*asking)) == refusal.status
         return refused(refusal)
+    assert binding_wire.read_binding_request(*asking) == it.asked
     kind, _, others = asked(it.asked.asked).partition(" ")
     if it.asked.is_fetch:
         kind, others = "fetch", others.rpartition(" ")[0] + " -"
@@ -47,10 +51,8 @@ def named(rest: str) -> list[str]:
 def answer(rest: str) -> list[str]:
     kind, status, body = split(rest, 3)
     said = data(body)
-    taken = wire.read_answer(words(kind), int(status), said)
     found = binding_wire.read_binding(words(kind), int(status), said)
-    shown = "none" if taken is None else f"{taken.status} {WORDS[taken.body]}"
-    return [shown, told("object", None if found is None else found.decode())]
+    return [read_answer(kind, int(status), said), told("object", None if found is None else found.decode())]
 
 
 def fetched(rest: str) -> list[str]:
@@ -92,16 +94,8 @@ def retrievable(rest: str) -> list[str]:
     return [str(binding_wire.bindings_retrievable(data(document), Id.of_text(service))).lower()]
 
 
-CALLS: dict[str, Callable[[str], list[str]]] = {
-    "answer": answer,
-    "app": app,
-    "fetched": fetched,
-    "modes": modes,
-    "named": named,
-    "request": request,
-    "retrievable": retrievable,
-    "stored": stored,
-}
+# The functions here have the names of those in binding_wire.cases.
+CALLS: dict[str, Callable[[str], list[str]]] = {call: globals()[it.__name__] for call, it in cases.CALLS.items()}
 
 
 def read(line: str) -> list[str]:

@@ -5,12 +5,11 @@ from __future__ import annotations
 import json
 
 from hypothesis import strategies as st
-from wire.lines import AT_ONCE, NAMED_IDS, SEEDS, Lines, changed, hexed, some
+from wire.lines import AT_ONCE, KINDS, NAMED_IDS, SEEDS, Lines, changed, changed_requests, hexed, some
 from wire.texts import (
     IDS,
     IN_BODY,
     IN_PROVISION,
-    IN_TARGET,
     SOUND_VALUE,
     STATUSES,
     WHOLE_BODY,
@@ -62,19 +61,7 @@ def whole_requests(draw: st.DrawFn) -> Asked:
     return Asked(method, target, body, draw(st.sampled_from([10_000] * 15 + [200])))
 
 
-def changed_request(asked: Asked, seed: int, prefix: str) -> list[str]:
-    """Lines with the variants of the target, or of the body."""
-    method, target, body, longest = asked
-    if prefix != "-":
-        target = target.replace(b"/v2", b"/broker/v2", 1)
-    pairs = [(it, body) for it in variants(target, IN_TARGET, seed, AT_ONCE)]
-    if body and seed % 2 == 0:
-        pairs = [(target, it) for it in variants(body, IN_PROVISION, seed, AT_ONCE)]
-    return [f"request {prefix} {longest} {method} {hexed(one)} {hexed(other)}" for one, other in pairs]
-
-
-REQUESTS = st.builds(changed_request, whole_requests(), SEEDS, st.sampled_from(["-"] * 5 + ["/broker"]))
-KINDS = st.sampled_from(["provision", "deprovision", "poll"])
+REQUESTS = changed_requests(whole_requests())
 SENT = some(
     st.builds(lambda kind, *texts: " ".join(["named", kind, *map(hexed, texts)]), KINDS, *[NAMED_IDS for _ in range(4)])
 )

@@ -5,7 +5,6 @@ The rules are those of `wire.model`, and of the bindings what the crate osb_bind
 
 from __future__ import annotations
 
-import urllib.parse
 from typing import Any, NamedTuple
 
 from wire import model
@@ -34,17 +33,6 @@ def place_at(path: bytes) -> tuple[bytes, bytes, bool] | None:
     if slash and end != b"last_operation":
         return None
     return instance, binding, bool(slash)
-
-
-def id_text(segment: bytes, what: str) -> str:
-    """The text of an id, decoded."""
-    try:
-        text = urllib.parse.unquote_to_bytes(segment).decode()
-    except UnicodeDecodeError:
-        text = ""
-    if text in (".", "..") or model.number_of(text) is None:
-        raise Refused(f"400 The {what} id must be UTF-8 of 1 to 255 bytes, and no dot segment.")
-    return text
 
 
 def body_ids(body: bytes) -> tuple[str | None, str | None]:
@@ -81,20 +69,10 @@ def received(method: str, prefix: bytes, target: bytes, body: bytes, longest: in
     kind = METHODS.get((method, places[0][2]))
     if kind is None:
         raise Refused("405 The target has no such method.")
-    instance, binding = id_text(places[0][0], "instance"), id_text(places[0][1], "binding")
+    instance, binding = model.id_text(places[0][0], "instance"), model.id_text(places[0][1], "binding")
     if len(body) > longest:
         raise Refused("413 The body is too long.")
-    pairs = model.query_pairs(query)
-    service, plan, accepts = None, None, None
-    if kind != "provision":
-        service = model.named(model.one(pairs, "service_id"), "service_id", kind == "deprovision")
-        plan = model.named(model.one(pairs, "plan_id"), "plan_id", kind == "deprovision")
-    if kind != "fetch":
-        accepts = model.one(pairs, "accepts_incomplete")
-        if accepts not in (None, "true", "false"):
-            raise Refused("400 accepts_incomplete must be true or false.")
-    if kind == "poll":
-        model.one(pairs, "operation")
+    service, plan, accepts = model.of_query(kind, query)
     if kind == "provision":
         service, plan = body_ids(body)
     said = "-" if kind == "fetch" else accepts or "false"

@@ -519,23 +519,5 @@ class Instance:
 
 
 # The method of each event.
-EVENTS = {
-    "create": "create",
-    "send": "send",
-    "expire": "expire",
-    "retry": "retry",
-    "remove": "remove",
-    "timeout": "timeout",
-    "crash-platform": "crash_platform",
-    "arrive": "arrive",
-    "put-off": "put_off",
-    "take": "take",
-    "garbled": "garbled",
-    "gateway": "gateway",
-    "end": "end",
-    "end-unknown": "end_unknown",
-    "finish": "finish",
-    "give-up-waiting": "give_up_waiting",
-    "crash-broker": "crash_broker",
-    "work": "become",
-}
+EVENTS = {it: it.replace("-", "_") for it in (*(event.partition(" ")[0] for event in PLAIN), *NUMBERED)}
+EVENTS["work"] = "become"

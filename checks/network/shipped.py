@@ -18,13 +18,6 @@ BODIES = {"error" if body is osb.Body.OTHER_ERROR else str(body): body for body 
     "AsyncRequired": osb.Body.ASYNC_REQUIRED,
     "ConcurrencyError": osb.Body.CONCURRENCY_ERROR,
 }
-OUTCOMES = {
-    "done": osb.Outcome.DONE,
-    "before": osb.Outcome.BEFORE,
-    "after": osb.Outcome.AFTER,
-    "refused 400": osb.Outcome.REFUSED_400,
-    "refused 422": osb.Outcome.REFUSED_422,
-}
 WORDS = {body: word for word, body in BODIES.items()}
 # The statuses by which a record or a holding says that an event doesn't apply.
 SKIPPED = {
@@ -38,6 +31,17 @@ SKIPPED = {
     osb.Status.NOT_A_PROVISION,
     osb.Status.NOT_WAITING,
 }
+
+
+def is_done(call: Callable[..., None], *given: object) -> bool:
+    """Does the call with what is given, and returns whether it applied."""
+    try:
+        call(*given)
+    except osb.OsbError as error:
+        if error.status not in SKIPPED:
+            raise
+        return False
+    return True
 
 
 class Shipped(Instance):
@@ -57,15 +61,7 @@ class Shipped(Instance):
 
     def apply(self, change: Callable[[osb.Record], osb.Record]) -> bool:
         """Whether there is a record, and the change applies to it."""
-        if self.record is None:
-            return False
-        try:
-            self.note(change(self.record))
-        except osb.OsbError as error:
-            if error.status not in SKIPPED:
-                raise
-            return False
-        return True
+        return self.record is not None and is_done(lambda it: self.note(change(it)), self.record)
 
     def created(self) -> None:
         record, request = osb.Record.create(ONE, SERVICE, PLAN, self.accepts)
@@ -125,25 +121,18 @@ class Shipped(Instance):
     def end(self, outcome: str) -> bool:
         if not can_have_ended(self.mode, self.held, outcome, self.resource):
             return False
-        try:
-            holding, answer = self.holding.end(MODES[self.mode], OUTCOMES[outcome])
-        except osb.OsbError as error:
-            if error.status not in SKIPPED:
-                raise
-            return False
-        self.hold(holding)
-        self.answer_request(Answer(answer.status, WORDS[answer.body]))
-        return True
+
+        def ended() -> None:
+            how = osb.Outcome[outcome.upper().replace(" ", "_")]
+            holding, answer = self.holding.end(MODES[self.mode], how)
+            self.hold(holding)
+            self.answer_request(Answer(answer.status, WORDS[answer.body]))
+
+        return is_done(ended)
 
     def change(self, change: Callable[[osb.Holding], osb.Holding]) -> bool:
         """Whether the change applies to the holding."""
-        try:
-            self.hold(change(self.holding))
-        except osb.OsbError as error:
-            if error.status not in SKIPPED:
-                raise
-            return False
-        return True
+        return is_done(lambda: self.hold(change(self.holding)))
 
     def finish(self, how: str) -> bool:
         if how == "ok" and self.resource != {True: "whole", False: "absent", None: "-"}[is_made(self.held)]:

@@ -145,11 +145,14 @@ def test_program_on_worked(replay: Path, name: str) -> None:
 
 
 @pytest.mark.slow
+@pytest.mark.parametrize("options", [[], ["--settle"], ["--trace"]], ids=" ".join)
 @pytest.mark.parametrize("is_binding", [False, True], ids=["instance", "binding"])
-def test_program_on_faults(replay: Path, is_binding: bool) -> None:
+def test_program_on_faults(replay: Path, is_binding: bool, options: list[str]) -> None:
+    """The first faulty line is named, and nothing is written."""
+    front = with_ids(WORKED["synchronous"][0]).encode() + b"\r\n"
     for name, line in FAULTS:
-        wanted = Ran(1, "", f"osb-replay: line 2: {name}\n")
-        assert run(replay, "network", given=b"\r\n" + filled(line, is_binding)) == wanted, line
+        wanted = Ran(1, "", f"osb-replay: line {front.count(10) + 1}: {name}\n")
+        assert run(replay, "network", *options, given=front + filled(line, is_binding) + b"\nbogus\n") == wanted, line
 
 
 @pytest.mark.slow

@@ -1,18 +1,21 @@
 """What `osb-replay trace` is to write, once more: from the tables of docs/, and by no code of the crates.
 
-It takes schedules without a fault.
+It takes schedules without a fault. The tables of both sides are those of `network.model`.
 """
 
 from __future__ import annotations
 
-from collections.abc import Callable, Iterator
+from collections.abc import Iterator
 from dataclasses import dataclass, field
 
+from network import model
+from network.model import DUE, Answer, Request, Row, error, state_after
+
 HEADER = "line\tevent\tstep\tplatform\tbroker\tout\tanswer"
-DUE = {"polling": "poll", "cleaning": "deprovision", "cleaning-polling": "poll"}
 REMOVABLE = ("polling", "ready", "unsettled")
 
-Answer = tuple[int, str]
+# The words for a body, where the trace has others than the model.
+WORDS = {"empty": "", "error": "Other"}
 
 
 @dataclass
@@ -27,7 +30,8 @@ class Cell:
     travelling: Answer | None = None
 
     def columns(self) -> str:
-        answer = "-" if self.travelling is None else "-".join(filter(None, map(str, self.travelling)))
+        status, body = self.travelling or ("", "")
+        answer = "-".join(filter(None, (str(status), WORDS.get(body, body)))) or "-"
         return "\t".join((self.platform or "none", self.phase or "none", self.out or "-", answer))
 
     def close(self, state: str) -> None:
@@ -45,94 +49,16 @@ class World:
         return self.cells.get(instance, Cell())
 
 
-def provision(cell: Cell, mode: str | None, outcome: str) -> Answer:
-    """The broker's table for a Provision. The row's plan is the record's: no id is used again."""
-    if mode is None:
-        return 400, "Other"
-    if mode == "async" and not cell.accepts:
-        return 422, "AsyncRequired"
-    if cell.phase is not None:
-        known: dict[str, Answer] = {"making": (202, ""), "ready": (200, ""), "deleting": (422, "ConcurrencyError")}
-        return known.get(cell.phase, (500, "Other"))
-    if outcome == "before":
-        return 500, "Other"
-    cell.phase = "ready" if mode == "sync" else "making"
-    if outcome == "after":
-        return 500, "Other"
-    return (201, "") if mode == "sync" else (202, "")
-
-
-def deprovision(cell: Cell, mode: str | None, outcome: str) -> Answer:
-    """The broker's table for a Deprovision, which always accepts an asynchronous operation here."""
-    if cell.phase is None:
-        return 410, "Other"
-    if cell.phase == "making":
-        return 422, "ConcurrencyError"
-    if cell.phase == "deleting":
-        return 202, ""
-    if outcome == "before":
-        return 500, "Other"
-    cell.phase = None if mode == "sync" else "deleting"
-    if outcome == "after":
-        return 500, "Other"
-    return (200, "") if mode == "sync" else (202, "")
-
-
-def poll(cell: Cell, _mode: str | None, outcome: str) -> Answer:
-    """The broker's table for a Poll."""
-    if cell.phase is None:
-        return 410, "Other"
-    if outcome != "done":
-        return 500, "Other"
-    if cell.phase in ("making", "deleting"):
-        return 200, "in-progress"
-    return 200, "succeeded" if cell.phase == "ready" else "failed"
-
-
-HANDLED: dict[str, Callable[[Cell, str | None, str], Answer]] = {
-    "provision": provision,
-    "deprovision": deprovision,
-    "poll": poll,
-}
-
-
-def provisioned(answer: Answer) -> str:
-    """The platform's table for the answer to a Provision."""
-    status, body = answer
-    if status in (200, 201) and body == "":
-        return "ready"
-    if status == 202 and body == "":
-        return "polling"
-    if status in (200, 408, 409):
-        return "unsettled"
-    if status == 422:
-        return "gone" if body == "AsyncRequired" else "unsettled"
-    return "gone" if 400 <= status <= 499 else "cleaning"
-
-
-def polled(state: str, answer: Answer) -> str:
-    """The platform's table for the answer to a Poll."""
-    status, body = answer
-    if status == 200 and body == "succeeded":
-        return "ready" if state == "polling" else "gone"
-    if status == 200 and body == "failed":
-        return "cleaning"
-    return "gone" if status == 410 and state == "cleaning-polling" else state
-
-
-def deprovisioned(answer: Answer) -> str:
-    """The platform's table for the answer to a Deprovision."""
-    status, body = answer
-    if status == 410 or (status == 200 and body == ""):
-        return "gone"
-    return "cleaning-polling" if status == 202 and body == "" else "cleaning"
-
-
-def answered(cell: Cell, answer: Answer) -> str:
-    assert cell.platform is not None
-    if cell.out == "provision":
-        return provisioned(answer)
-    return polled(cell.platform, answer) if cell.out == "poll" else deprovisioned(answer)
+def handled(cell: Cell, mode: str | None, outcome: str) -> Answer:
+    """The answer of the broker. The row's plan is the record's: no id is used again."""
+    assert cell.out is not None
+    if cell.out == "poll" and cell.phase is not None and outcome != "done":
+        return error(500)
+    row = None if cell.phase is None else Row(0, cell.phase)
+    request = Request(cell.out, cell.accepts or cell.out != "provision")
+    after, answer = model.handled(mode or "-", row, request, outcome)
+    cell.phase = after.phase if after else None
+    return answer
 
 
 def timed_out(state: str) -> str:
@@ -174,19 +100,18 @@ def apply(world: World, cell: Cell, words: list[str]) -> None:
     elif verb == "send":
         cell.out = DUE[cell.platform]
     elif verb in ("deliver", "repeat"):
-        assert cell.out is not None
-        answer = HANDLED[cell.out](cell, world.plans.get(cell.plan), last)
+        answer = handled(cell, world.plans.get(cell.plan), last)
         cell.travelling = answer if verb == "deliver" else cell.travelling
     elif verb == "lose":
         cell.travelling = None
     elif verb == "garble":
         assert cell.travelling is not None
-        cell.travelling = cell.travelling[0], "malformed"
+        cell.travelling = Answer(cell.travelling.status, "malformed")
     elif verb == "gateway":
-        cell.travelling = int(last), "malformed"
+        cell.travelling = Answer(int(last), "malformed")
     elif verb == "answer":
-        assert cell.travelling is not None
-        cell.close(answered(cell, cell.travelling))
+        assert cell.out is not None and cell.travelling is not None
+        cell.close(state_after(cell.platform, cell.out, cell.travelling))
     elif verb == "timeout":
         cell.close(timed_out(cell.platform))
     elif verb == "finish":

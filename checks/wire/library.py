@@ -5,6 +5,8 @@ from __future__ import annotations
 from collections.abc import Callable
 
 from osb import Answer, Body, Endpoints, Id, Kind, OsbError, Plan, Refusal, Request, Status, wire
+from osb_tests.support import status_of
+from wire import cases
 from wire.cases import LETTERS, data, given, split, text, told
 
 FAULTS = {
@@ -44,6 +46,13 @@ BODIES = {
     "ConcurrencyError": Body.CONCURRENCY_ERROR,
     "error": Body.OTHER_ERROR,
 }
+WORDS = {body: word.replace("-", " ") for word, body in BODIES.items()} | {Body.OTHER_ERROR: "another error"}
+
+
+def read_answer(kind: str, status: int, body: bytes) -> str:
+    """What a platform reads of an answer."""
+    answer = wire.read_answer(words(kind), status, body)
+    return "none" if answer is None else f"{answer.status} {WORDS[answer.body]}"
 
 
 def refused(refusal: Refusal) -> list[str]:
@@ -80,11 +89,15 @@ def number(rest: str) -> list[str]:
 
 
 def request(rest: str) -> list[str]:
+    """Both calls that read a request say the same of it."""
     prefix, longest, method, target, body = split(rest, 5)
+    asking = method, data(target), data(body), int(longest), given(prefix) or ""
     try:
-        it = wire.receive_request(method, data(target), data(body), int(longest), given(prefix) or "")
+        it = wire.receive_request(*asking)
     except Refusal as refusal:
+        assert status_of(lambda: wire.read_request(*asking)) == refusal.status
         return refused(refusal)
+    assert wire.read_request(*asking) == it.asked
     texts = [("instance", it.instance), ("service", it.service), ("plan", it.plan)]
     parts = [(name, getattr(it.parts, name)) for name in ("parameters", "context", "maintenance_info", "others")]
     return [asked(it.asked), *(told(name, found) for name, found in texts + parts)]
@@ -190,25 +203,8 @@ def version(rest: str) -> list[str]:
     return [told("version", wire.plan_version(data(it), Id.of_text(text(service)), Id.of_text(text(plan))))]
 
 
-CALLS: dict[str, Callable[[str], list[str]]] = {
-    "answer": answer,
-    "asks": asks,
-    "conflict": conflict,
-    "details": details,
-    "digest": digest,
-    "document": document,
-    "id": number,
-    "identity": identity,
-    "member": member,
-    "misnamed": misnamed,
-    "named": named,
-    "parameters": parameters,
-    "plans": plans,
-    "request": request,
-    "request-identity": request_identity,
-    "served": served,
-    "version": version,
-}
+# The functions here have the names of those in wire.cases.
+CALLS: dict[str, Callable[[str], list[str]]] = {call: globals()[it.__name__] for call, it in cases.CALLS.items()}
 
 
 def read(line: str) -> list[str]:

@@ -68,7 +68,11 @@ def changed_request(asked: Asked, seed: int, prefix: str) -> list[str]:
     return [f"request {prefix} {longest} {method} {hexed(one)} {hexed(other)}" for one, other in pairs]
 
 
-REQUESTS = st.builds(changed_request, whole_requests(), SEEDS, st.sampled_from(["-"] * 5 + ["/broker"]))
+def changed_requests(wholes: st.SearchStrategy[Asked]) -> Lines:
+    return st.builds(changed_request, wholes, SEEDS, st.sampled_from(["-"] * 5 + ["/broker"]))
+
+
+REQUESTS = changed_requests(whole_requests())
 NUMBERS = some(st.builds(lambda text: f"id {hexed(text)}", IDS))
 KINDS = st.sampled_from(["provision", "deprovision", "poll"])
 SENT = some(

@@ -178,14 +178,14 @@ def kind_at(method: str, prefix: bytes, path: bytes) -> tuple[str, bytes]:
     return kind, segment
 
 
-def instance_text(segment: bytes) -> str:
-    """The text of the instance's id, decoded."""
+def id_text(segment: bytes, what: str) -> str:
+    """The text of an id, decoded."""
     try:
         text = urllib.parse.unquote_to_bytes(segment).decode()
     except UnicodeDecodeError:
         text = ""
     if text in (".", "..") or number_of(text) is None:
-        raise Refused("400 The instance id must be UTF-8 of 1 to 255 bytes, and no dot segment.")
+        raise Refused(f"400 The {what} id must be UTF-8 of 1 to 255 bytes, and no dot segment.")
     return text
 
 
@@ -205,6 +205,22 @@ def query_pairs(query: bytes) -> list[tuple[str, str]]:
     """The parameters. The bytes that aren't UTF-8 become U+FFFD, as those of an escape do."""
     quoted = urllib.parse.quote_from_bytes(query, safe="%&=+;/?:@!$'()*,~#[]")
     return urllib.parse.parse_qsl(quoted, keep_blank_values=True, errors="replace")
+
+
+def of_query(kind: str, query: bytes) -> tuple[str | None, str | None, str | None]:
+    """The service, the plan, and `accepts_incomplete`, as far as a request of the kind has them in its query."""
+    pairs = query_pairs(query)
+    service, plan, accepts = None, None, None
+    if kind != "provision":
+        service = named(one(pairs, "service_id"), "service_id", kind == "deprovision")
+        plan = named(one(pairs, "plan_id"), "plan_id", kind == "deprovision")
+    if kind != "fetch":
+        accepts = one(pairs, "accepts_incomplete")
+        if accepts not in (None, "true", "false"):
+            raise Refused("400 accepts_incomplete must be true or false.")
+    if kind == "poll":
+        one(pairs, "operation")
+    return service, plan, accepts
 
 
 class Received(NamedTuple):
@@ -235,19 +251,10 @@ def received(method: str, prefix: bytes, target: bytes, body: bytes, longest: in
     """What is taken of a request, or `Refused` with the status and the description."""
     path, _, query = target.partition(b"?")
     kind, segment = kind_at(method, prefix, path)
-    instance = instance_text(segment)
+    instance = id_text(segment, "instance")
     if len(body) > longest:
         raise Refused("413 The body is too long.")
-    pairs = query_pairs(query)
-    service, plan = None, None
-    if kind != "provision":
-        service = named(one(pairs, "service_id"), "service_id", kind == "deprovision")
-        plan = named(one(pairs, "plan_id"), "plan_id", kind == "deprovision")
-    accepts = one(pairs, "accepts_incomplete")
-    if accepts not in (None, "true", "false"):
-        raise Refused("400 accepts_incomplete must be true or false.")
-    if kind == "poll":
-        one(pairs, "operation")
+    service, plan, accepts = of_query(kind, query)
     if kind == "provision":
         service, plan = body_ids(body)
     return Received(kind, instance, service, plan, accepts == "true", body if kind == "provision" else b"")

@@ -1,46 +1,59 @@
-"""Compares what the library reads and writes with Python's json, urllib, base64 and hashlib.
+"""Compares what the library reads and writes with Python's json, urllib, base64 and hashlib, of instances and bindings.
 
-Each test takes whole texts that hypothesis makes, and of each some others with an edit or two.
+Each test takes whole texts that hypothesis makes, and of each some others with an edit or two. In ./check it takes a
+hundred times as many of bindings: 100,000 requests, and as many bodies.
 
-OSB_EXAMPLES=100 compares a hundred times as many, drawn at random (checks/generated.py): 100,000 requests, and as many
-bodies.
+OSB_EXAMPLES=100 compares a hundred times as many in `make test`, too, drawn at random (checks/generated.py).
 """
 
 from __future__ import annotations
 
-from pathlib import Path
-
+import binding_wire.cases
+import binding_wire.library
+import binding_wire.lines
 import pytest
+import wire.cases
+import wire.library
+import wire.lines
 from generated import examples
 from hypothesis import given
-from wire.cases import CALLS, TEXT, wanted
-from wire.library import read
-from wire.lines import LINES
+from whole import WHOLE
 
-pytestmark = pytest.mark.slow
+TIMES = 100 if WHOLE else 1
+"""How many times as many examples are taken of bindings."""
+
+READERS = {
+    "instances": (wire.cases, wire.library),
+    "bindings": (binding_wire.cases, binding_wire.library),
+}
+LINES = [pytest.param("instances", *it, id=what) for what, it in wire.lines.LINES.items()]
+LINES += [
+    pytest.param("bindings", lines, TIMES * count, id=f"of bindings: {what}", marks=pytest.mark.long(100))
+    for what, (lines, count) in binding_wire.lines.LINES.items()
+]
+
+# The package osb has loaded the library.
+pytestmark = [pytest.mark.slow, pytest.mark.usefixtures("library")]
 
 
-@pytest.fixture(autouse=True)
-def _library(library: Path) -> None:
-    """Every test needs the library, which the package osb has loaded."""
-
-
-def test_cases() -> None:
+@pytest.mark.parametrize("of", READERS)
+def test_cases(of: str) -> None:
     """Each line of `lines.txt`, which names each call."""
-    lines = [line for line in TEXT.read_text().splitlines() if line and not line.startswith("#")]
-    assert {line.partition(" ")[0] for line in lines} == set(CALLS)
+    cases, library = READERS[of]
+    lines = [line for line in cases.TEXT.read_text().splitlines() if line and not line.startswith("#")]
+    assert {line.partition(" ")[0] for line in lines} == set(cases.CALLS)
     for line in lines:
-        assert read(line) == wanted(line), line
+        assert library.read(line) == cases.wanted(line), line
 
 
-@pytest.mark.parametrize("what", LINES)
-def test_lines(what: str) -> None:
-    lines, count = LINES[what]
+@pytest.mark.parametrize(("of", "lines", "count"), LINES)
+def test_lines(of: str, lines: wire.lines.Lines, count: int) -> None:
+    cases, library = READERS[of]
 
     @examples(count)
     @given(some=lines)
     def compared(some: list[str]) -> None:
         for line in some:
-            assert read(line) == wanted(line), line
+            assert library.read(line) == cases.wanted(line), line
 
     compared()

@@ -9,7 +9,6 @@ OSB_EXAMPLES=10 compares ten times as many, drawn at random (checks/generated.py
 from __future__ import annotations
 
 import json
-from pathlib import Path
 
 import osb
 import pytest
@@ -18,6 +17,8 @@ from hypothesis import given
 from hypothesis import strategies as st
 from osb import wire
 from wire import model
+from wire.library import asked as asked_of
+from wire.library import read_answer
 from wire.texts import (
     BODY,
     IN_BODY,
@@ -32,28 +33,8 @@ from wire.texts import (
     whole_requests,
 )
 
-WORDS = {
-    osb.Body.MALFORMED: "malformed",
-    osb.Body.EMPTY: "empty",
-    osb.Body.IN_PROGRESS: "in progress",
-    osb.Body.SUCCEEDED: "succeeded",
-    osb.Body.FAILED: "failed",
-    osb.Body.ASYNC_REQUIRED: "AsyncRequired",
-    osb.Body.CONCURRENCY_ERROR: "ConcurrencyError",
-    osb.Body.OTHER_ERROR: "another error",
-}
-
-pytestmark = pytest.mark.slow
-
-
-@pytest.fixture(autouse=True)
-def _library(library: Path) -> None:
-    """Every test needs the library, which the package osb has loaded."""
-
-
-def read_answer(kind: str, status: int, body: bytes) -> str:
-    answer = wire.read_answer(osb.Kind[kind.upper()], status, body)
-    return "none" if answer is None else f"{answer.status} {WORDS[answer.body]}"
+# The package osb has loaded the library.
+pytestmark = [pytest.mark.slow, pytest.mark.usefixtures("library")]
 
 
 def read_request(asked: Asked) -> str:
@@ -61,7 +42,7 @@ def read_request(asked: Asked) -> str:
         it = wire.read_request(asked.method, asked.target, asked.body, asked.longest)
     except osb.Refusal as refusal:
         return f"{refusal.http_status} {json.loads(refusal.body)['description']}"
-    return f"{it.kind} {it.id} {it.service or '-'} {it.plan or '-'} {str(it.accepts_incomplete).lower()}"
+    return asked_of(it)
 
 
 @examples(1000)
