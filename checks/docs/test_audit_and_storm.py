@@ -37,6 +37,7 @@ NOT_RUN = {
         "0 lost, ": "it isn't a command",
         "   (umask 077; echo 'the password' >password)\n   ./osb-storm platform ": YOURS,
         "   ./osb-storm platform --listen 127.0.0.1:8090 --password-file password ": YOURS,
+        "./osb-storm platform --listen 127.0.0.1:8090 --password-file password --minimize ": YOURS,
         "./osb-storm both --seconds 120 --workers 3 ": "it takes minutes. checks/storm has a shorter one",
         "for program in ": "it takes minutes. checks/storm visits all crash points",
         "./osb-storm both --without work ": "checks/storm builds the programs that it needs, and runs it",
@@ -242,6 +243,18 @@ def test_storm_of_a_platform(texts: list[str], workdir: Workdir, port: int) -> N
     ids, _, printed = out.partition("--\n")
     assert "\n0 abandoned, 0 false records, " in printed and AUDITED.search(printed), printed
     assert len(ids.split()) >= 4, out
+
+
+@covers(STORM, "export OSB_PLATFORM_STORE=/tmp/storm-orders/store ")
+def test_orders_of_a_platform(texts: list[str], workdir: Workdir, port: int) -> None:
+    """The order command has osb-platform create four instances, or more if a creation fails, and none is abandoned."""
+    text = texts[0].replace(":8090", f":{port}").replace("/tmp/", f"{workdir.folder}/")
+    text = text.replace("--store-password", "--store-password --first-pace 0.1 --longest-pace 0.3")
+    text = text.replace("run --seconds 2 ", "run --seconds 1 --look-seconds 0.1 ")
+    times = "--late-seconds 1", "--operation-seconds 0.5", "--fault-percent 20", "--seed=1"
+    out = workdir.run(shorter(text, *times))
+    created = re.search("^([0-9]+) instances, ", out, re.MULTILINE)
+    assert created is not None and int(created[1]) >= 4 and "\n0 abandoned, 0 false records, " in out, out
 
 
 @covers(STORM, "./osb-broker serve --help ", "./osb-storm both --journal ")

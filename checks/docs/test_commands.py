@@ -10,7 +10,7 @@ from pathlib import Path
 import pytest
 from docs.pages import TOP, blocks, covers, packages, read
 from docs.workdir import Workdir, needs, wait_for
-from go.toolchain import NEEDS, SOURCES, TOOLS
+from go.toolchain import NEEDS, TOOLS, needs_packages
 
 ONE = "00000000-0000-0000-0000-000000000001"
 
@@ -160,9 +160,7 @@ _EXAMPLE = "go/examples/folders"
 def needs_go(*others: str) -> None:
     """Skips the test unless Go and what its packages need is installed."""
     needs("go", "pkg-config", "cc", *others)
-    for name, package in NEEDS.items():
-        if not (SOURCES / "src" / name).is_dir():
-            pytest.skip(f"{name} isn't installed (Debian: {package})")
+    needs_packages()
 
 
 def served_in_go(build: str, port: int) -> str:
