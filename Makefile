@@ -4,16 +4,21 @@ SHELL := /usr/bin/bash
 MAKEFLAGS += --no-builtin-rules --jobs=$(shell nproc) $(if $(filter quick,$(MAKECMDGOALS)),--output-sync=target)
 PYTHON = $(or $(shell . scripts/python.sh && python_with pytest,xdist),/usr/bin/python3)
 FAST = not slow and not postgres and not browser and not alone
-# Debian has staticcheck as sources only (golang-honnef-go-tools-dev). The first `make quick` builds it, in half a minute.
+# Debian has staticcheck as sources only (golang-honnef-go-tools-dev). To build it, and to look at all libraries of Go for
+# the first time, costs half of what `make quick` costs then. So `make quick` runs it only once it is built.
 STATICCHECK = $(CURDIR)/build/staticcheck
 
-.PHONY: help quick test check one prebuilt generate format release
+.PHONY: help quick staticcheck test check one prebuilt generate format release
 .PHONY: quick-format quick-rattle quick-lint quick-shell quick-go quick-types quick-tests
 
 help: ## print this list
-	@awk -F ':.*## ' '/^[a-z]+:.*## / { printf "make %-10s %s\n", $$1, $$2 }' $(MAKEFILE_LIST)
+	@awk -F ':.*## ' '/^[a-z]+:.*## / { printf "make %-12s %s\n", $$1, $$2 }' $(MAKEFILE_LIST)
 
-quick: quick-format quick-rattle quick-lint quick-shell quick-go quick-types quick-tests ## format, lint, types, and tests that start no process: half a minute
+# What takes longest begins first. The others keep the processors busy beside two processes of pytest.
+quick: quick-go quick-types quick-tests quick-format quick-shell quick-lint quick-rattle ## format, lint, types, and tests that start no process: half a minute
+
+staticcheck: $(STATICCHECK) ## build staticcheck and look at all Go with it; from then on, make quick does so, too
+	scripts/go $(STATICCHECK) ./...
 
 test: ## the tests, over the prebuilt library: some minutes
 	./check --tests
@@ -58,17 +63,20 @@ quick-lint:
 quick-shell:
 	scripts/files bash | xargs shellcheck
 
-quick-go: $(if $(wildcard /usr/share/gocode/src/honnef.co/go/tools/cmd/staticcheck),$(STATICCHECK))
+quick-go:
 	scripts/go vet ./...
-	if [ -x $(STATICCHECK) ]; then scripts/go $(STATICCHECK) ./...; fi
+	if [ -x $(STATICCHECK) ]; then scripts/go $(STATICCHECK) ./...; else \
+		echo "staticcheck isn't built, and wasn't run. Run make staticcheck once"; fi
 
 quick-types:
 	scripts/files python | xargs mypy --scripts-are-modules
 
 quick-tests:
-	$(PYTHON) -m pytest -q -n 4 -m '$(FAST)'
+	$(PYTHON) -m pytest -q -n 2 -m '$(FAST)'
 
 $(STATICCHECK):
+	@[ -d /usr/share/gocode/src/honnef.co/go/tools ] || \
+		{ echo "make staticcheck needs Debian's golang-honnef-go-tools-dev" >&2; exit 1; }
 	GO111MODULE=off GOFLAGS= GOPATH=/usr/share/gocode go build -o $@ honnef.co/go/tools/cmd/staticcheck
 
 .ONESHELL:
