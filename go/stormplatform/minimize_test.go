@@ -155,7 +155,7 @@ func TestMinimizeEnds(t *testing.T) {
 				config.MinimizeTime = time.Second
 			}
 			report, took := ordered(t, ctx, config)
-			if !reflect.DeepEqual(report.Minimal, it.minimal) || report.MinimizeEnded != it.ended || took > 20*time.Second {
+			if !reflect.DeepEqual(report.Minimal, it.minimal) || report.MinimizeEnded != it.ended || took > time.Minute {
 				t.Errorf("%v\n%s", took, textOf(t, report))
 			}
 			if (report.Ended == endedBefore) != it.isSignal || len(report.Failed)+len(report.Notes) > 0 || report.IsClean() {

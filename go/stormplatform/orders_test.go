@@ -46,7 +46,7 @@ func orderingConfig(t *testing.T, count int, list ...string) (Config, string) {
 	}
 	config.List = append([]faults.Numbered{}, config.List...)
 	config.Commands = Commands{Order: command, List: "cat " + filepath.Join(folder, "listed")}
-	config.Time, config.SettleTime = 30*time.Second, 300*time.Millisecond
+	config.Time, config.SettleTime = 5*time.Minute, 300*time.Millisecond
 	config.RequestTime, config.Journal = unhurried, filepath.Join(folder, "journals")
 	return config, folder
 }
@@ -90,11 +90,11 @@ func TestNothingOrdered(t *testing.T) {
 		"echo nothing; exit 4": "exit status 4",
 	} {
 		config, _ := orderingConfig(t, 0)
-		config.Commands, config.List, config.WaitTime = Commands{Order: command}, nil, time.Minute
+		config.Commands, config.List = Commands{Order: command}, nil
 		var warned bytes.Buffer
 		config.Warnings = &warned
 		report, took := ordered(t, context.Background(), config)
-		if report.Ended != "no request about an instance came until the order command ended" || took > 20*time.Second {
+		if report.Ended != "no request about an instance came until the order command ended" || took > 50*time.Second {
 			t.Errorf("%v\n%s", took, textOf(t, report))
 		}
 		if failed := strings.Join(report.Failed, ""); !strings.HasSuffix(failed, failure) || (failed == "") != (failure == "") {
@@ -121,9 +121,9 @@ func TestOrderEnds(t *testing.T) {
 			t.Parallel()
 			config, folder := orderingConfig(t, 1)
 			config.Commands.Order += strings.ReplaceAll(it.after, "FOLDER", folder)
-			config.Time, config.SettleTime = it.time, 20*time.Second
+			config.Time, config.SettleTime = it.time, time.Minute
 			report, took := ordered(t, context.Background(), config)
-			if len(report.Failed) > 0 || !report.IsClean() || !report.Settled || took > 20*time.Second {
+			if len(report.Failed) > 0 || !report.IsClean() || !report.Settled || took > 50*time.Second {
 				t.Errorf("%v\n%s", took, textOf(t, report))
 			}
 			text, err := os.ReadFile(filepath.Join(folder, "child"))

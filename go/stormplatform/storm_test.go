@@ -18,13 +18,14 @@ import (
 	"pippinterm/stormsold"
 )
 
-// configFor is a Config of short times.
+// configFor is a Config of short times. A platform without a mistake settles in a second or two, and on a busy machine in
+// the time to settle.
 func configFor(t *testing.T) Config {
 	t.Helper()
 	return Config{
 		Address: "127.0.0.1:0", User: "platform", Password: "secret", OperationTime: 200 * time.Millisecond, Seed: 1,
-		Share: 0.5, RequestTime: 300 * time.Millisecond, Late: 600 * time.Millisecond, WaitTime: 10 * time.Second,
-		Time: 3 * time.Second, SettleTime: 8 * time.Second, Folder: t.TempDir(),
+		Share: 0.5, RequestTime: 300 * time.Millisecond, Late: 600 * time.Millisecond, WaitTime: time.Minute,
+		Time: 3 * time.Second, SettleTime: time.Minute, Folder: t.TempDir(),
 	}
 }
 
@@ -79,7 +80,7 @@ func TestNothingAbandoned(t *testing.T) {
 			t.Parallel()
 			untilEnough(t, func(seed int64) *Report {
 				config := configFor(t)
-				config.Seed, config.FirstPoll, config.SettleTime = seed, firstPoll, time.Minute
+				config.Seed, config.FirstPoll = seed, firstPoll
 				report := stormed(t, config, mistakes{}, isListed)
 				if !report.IsClean() || len(report.Broken) > 0 || !report.Settled {
 					t.Error(textOf(t, report))
@@ -118,7 +119,7 @@ func untilEnough(t *testing.T, run func(seed int64) *Report) {
 }
 
 // unhurried is a time for a request that a busy machine doesn't exceed. No fault of these tests waits for it.
-const unhurried = 3 * time.Second
+const unhurried = 20 * time.Second
 
 // listOf is a list of faults: the same for each instance and its first binding.
 func listOf(kinds map[int]faults.Kind) []faults.Numbered {
@@ -190,7 +191,6 @@ func TestMistakes(t *testing.T) {
 			t.Parallel()
 			config := configFor(t)
 			config.List, config.Time, config.RequestTime = listOf(it.kinds), time.Second, unhurried
-			config.SettleTime = time.Minute
 			if report := stormed(t, config, mistakes{}, it.isListed); !report.IsClean() || len(report.Broken) > 0 {
 				t.Errorf("without the mistake:\n%s", textOf(t, report))
 			}
@@ -256,7 +256,7 @@ func TestRules(t *testing.T) {
 		t.Run(rule, func(t *testing.T) {
 			t.Parallel()
 			config := configFor(t)
-			config.Share, config.Time, config.SettleTime, config.RequestTime = 0, 2*time.Second, time.Minute, unhurried
+			config.Share, config.Time, config.RequestTime = 0, 2*time.Second, unhurried
 			if wrong.noIDs { // the broker rejects each deletion, so nothing settles
 				config.SettleTime = time.Second
 			}
@@ -400,7 +400,7 @@ func TestAfterRun(t *testing.T) {
 func TestListIsSlow(t *testing.T) {
 	t.Parallel()
 	config, _ := orderingConfig(t, 1)
-	config.Commands.List, config.SettleTime = "sleep 0.5; "+config.Commands.List, 20*time.Second
+	config.Commands.List, config.SettleTime = "sleep 0.5; "+config.Commands.List, time.Minute
 	storm, err := Start(context.Background(), config)
 	if err != nil {
 		t.Fatal(err)
@@ -422,7 +422,7 @@ func TestListIsCutOff(t *testing.T) {
 	ctx, cancel := context.WithCancel(context.Background())
 	go cancelOnce(filepath.Join(folder, "last"), cancel)
 	report, took := ordered(t, ctx, config)
-	if len(report.Failed) > 0 || report.Ended != endedBefore || report.Known != knownByList || took > 10*time.Second {
+	if len(report.Failed) > 0 || report.Ended != endedBefore || report.Known != knownByList || took > time.Minute {
 		t.Errorf("%v %q\n%s", took, report.Failed, textOf(t, report))
 	}
 }
