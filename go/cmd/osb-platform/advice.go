@@ -67,6 +67,12 @@ const (
 	removeYours                    // the broker holds it, and nobody else has the id
 	removeNothing                  // the broker holds nothing
 	removeWhateverIs               // nobody knows what the broker holds, but nobody else has the id
+	waitForBroker                  // of a deletion: the broker works on it
+	retryNothing                   // of a deletion: nothing exists
+	repairPart                     // of a deletion: a part may exist
+	repairWhole                    // of a deletion: it exists
+	askAboutOther                  // of a deletion: the broker holds something else
+	askWhetherExists               // of a deletion: nobody knows whether it exists
 )
 
 // advise chooses the advice. A deletion is advised only if the answers don't contradict each other, and if it can't
@@ -97,6 +103,30 @@ func advise(last, fetch said, known circumstances) advice {
 	return askAboutGone
 }
 
+// adviseDeletion chooses the advice about what is to be deleted. At a broker without tombstones, the last operation may be
+// the creation or the deletion, so only a Fetch shows what exists.
+func adviseDeletion(last client.Told, fetch said, hasTombstones bool) advice {
+	says := saidByLast(last, hasTombstones)
+	if says == saysHeld && !hasTombstones {
+		says = saysNothing
+	}
+	switch {
+	case areContrary(says, fetch):
+		return askAboutContrary
+	case says == saysPending && last.State == "in progress":
+		return waitForBroker
+	case says == saysOther:
+		return askAboutOther
+	case says == saysHeld || fetch == saysHeld:
+		return repairWhole
+	case says == saysPending:
+		return repairPart
+	case says == saysNone && hasTombstones:
+		return retryNothing
+	}
+	return askWhetherExists
+}
+
 // circumstances are what else the advice depends on.
 type circumstances struct {
 	isFetched     bool // a Fetch was answered
@@ -114,16 +144,24 @@ func (q question) isOthers() bool {
 		(failure.Kind == "provision" || failure.Kind == "bind")
 }
 
-// advice is the sentence that leads on for a row that waits for a decision, or empty. fetched is nil if nothing was
-// fetched.
+// advice is the sentence that leads on for a row that waits for a decision or is to be deleted, or empty. fetched is nil
+// if nothing was fetched.
 func (q question) advice(last client.Told, fetched *client.Told) string {
-	if q.entry.State != platform.Unsettled || !q.entry.Rests() {
-		return ""
-	}
 	known := circumstances{
 		isFetched: fetched != nil, hasTombstones: q.hasTombstones(), isOwnID: q.entry.IsOwnID, isOthers: q.isOthers(),
 	}
-	chosen := advise(saidByLast(last, known.hasTombstones), saidByFetch(fetched), known)
+	var chosen advice
+	switch q.entry.State {
+	case platform.Unsettled:
+		if !q.entry.Rests() {
+			return ""
+		}
+		chosen = advise(saidByLast(last, known.hasTombstones), saidByFetch(fetched), known)
+	case platform.Cleaning, platform.CleaningPolling:
+		chosen = adviseDeletion(last, saidByFetch(fetched), known.hasTombstones)
+	default:
+		return ""
+	}
 	id, remove := printable(idOf(q.entry)), "remove"
 	if q.entry.Key.IsBinding {
 		remove = "unbind"
@@ -145,4 +183,14 @@ var advices = map[advice]string{
 	removeNothing: "the broker has nothing. Run 'REMOVE ID': the record becomes gone",
 	removeWhateverIs: "the answer doesn't say what the broker holds, but nobody else has this id. Run 'REMOVE ID': " +
 		"that deletes it at the broker if it exists",
+	waitForBroker: "the broker works on it: run 'osb-platform ask ID' again later",
+	retryNothing:  "the broker has nothing. Run 'osb-platform retry ID': the record becomes gone",
+	repairPart: "the last operation has failed, and a part of it may exist. Ask the broker's operator to repair that, and " +
+		"then run 'osb-platform retry ID'",
+	repairWhole: "it exists. 'osb-platform show ID' says in 'last reason' why it isn't deleted. Once the broker's operator " +
+		"has repaired that, run 'osb-platform retry ID'",
+	askAboutOther: "the broker holds something else under this id. Ask its operator whether anything of yours is left. " +
+		"If not, end the record: 'osb-platform abandon ID --because TEXT'",
+	askWhetherExists: "the answers don't say whether it exists. Ask the broker's operator. If it exists, 'last reason' of " +
+		"'osb-platform show ID' is what to repair. Then run 'osb-platform retry ID'",
 }

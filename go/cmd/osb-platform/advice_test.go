@@ -86,7 +86,42 @@ func TestAdvice(t *testing.T) {
 	}
 }
 
-// For what doesn't wait for a decision there is no advice. A binding is deleted by unbind.
+// What 'ask' advises about what is to be deleted, after each answer about the last operation and each answer to the Fetch,
+// with tombstones and without:
+//
+//	R  it exists: have the cause repaired    P  a part may exist: have that repaired
+//	N  nothing exists: retry                 w  the broker works on it
+//	?  ask the operator whether it exists    L  the broker holds something else: ask the operator
+//	!  the answers contradict each other
+func TestAdviceOfDeletions(t *testing.T) {
+	texts := map[byte]string{
+		'R': "it exists. 'osb-platform show one' says in 'last reason' why", 'P': "a part of it may exist",
+		'N': "Run 'osb-platform retry one': the record becomes gone", 'w': "run 'osb-platform ask one' again later",
+		'?': "the answers don't say whether it exists. Ask the broker's operator",
+		'L': "the broker holds something else under this id. Ask its operator", '!': "the answers contradict each other",
+	}
+	for catalogue, want := range map[string][]string{
+		`{"services": [], "x-osb-tombstones": true}`: {
+			"RR!!RR", "wwwwww", "PRPPPP", "N!NNNN", "LLLLLL", "?R????", "?R????", "?R????", "?R????"},
+		`{"services": []}`: {
+			"?R????", "wwwwww", "PRPPPP", "?!????", "?R????", "?R????", "?R????", "?R????", "?R????"},
+	} {
+		for _, state := range []platform.State{platform.Cleaning, platform.CleaningPolling} {
+			for row, last := range lastAnswers {
+				for column, fetched := range fetchAnswers {
+					q := question{entry: platform.Entry{State: state}}
+					q.entry.Names.Instance, q.broker.Catalogue = "one", []byte(catalogue)
+					letter := want[row][column]
+					if got := q.advice(last, fetched); !strings.Contains(got, texts[letter]) || strings.Contains(got, "remove") {
+						t.Errorf("%s, %s, last operation %+v, Fetch %+v: %q, want %c", catalogue, state, last, fetched, got, letter)
+					}
+				}
+			}
+		}
+	}
+}
+
+// For what neither waits for a decision nor is to be deleted there is no advice. A binding is deleted by unbind.
 func TestAdviceOfOthers(t *testing.T) {
 	of := func(state platform.State) question {
 		entry := platform.Entry{State: state}
@@ -94,7 +129,7 @@ func TestAdviceOfOthers(t *testing.T) {
 		return question{entry: entry}
 	}
 	for state, want := range map[platform.State]string{
-		platform.Ready: "", platform.Cleaning: "",
+		platform.Ready: "", platform.Polling: "", platform.Gone: "",
 		platform.Unsettled: "the broker holds it. If it is yours, run 'osb-platform unbind one/app': that deletes it at " +
 			"the broker",
 	} {

@@ -23,8 +23,8 @@ func askCommand(a *app) *cobra.Command {
 each fact on a line with its name before a tab. If the catalogue says that the instance or the binding is retrievable,
 it is fetched, too. Its parameters and credentials aren't printed.
 
-Only GET is sent, and the record stays as it is. For what is unsettled, the last fact says what to do next. If the
-answers contradict each other, no deletion is advised.`,
+Only GET is sent, and the record stays as it is. For what is unsettled or is to be deleted, the last fact says what to
+do next. If the answers contradict each other, no deletion is advised.`,
 		Example: `  osb-platform ask my-database`,
 		Args:    wants("ID"),
 		RunE: a.over(needsKey, func(ctx context.Context, c *cobra.Command, s session, arguments []string) error {
