@@ -23,6 +23,10 @@ pytestmark = pytest.mark.slow
 PAGE = "docs/install.md"
 SECRETS = ("sudo sh -c 'umask 077; ", "sudo osb-platform key ")
 """The beginnings of the page's blocks that write a secret, and start the service that has it."""
+BY_HAND = "mkdir -p -m 700 /var/lib/osb-broker "
+"""The beginning of the page's block that starts both programs without systemd."""
+FIRST_INSTANCE = ("export OSB_PLATFORM_STORE=", "osb-platform bind first ")
+"""The beginnings of the page's blocks that create an instance and a binding, and delete both."""
 INSTALL = "apt-get install -y -qq --no-install-recommends"
 OLDER = "0.2.99"
 """A version from which the package is updated."""
@@ -76,6 +80,7 @@ def test_package(dist: Path, version: str, debian: Fresh, tmp_path: Path) -> Non
     check_audit(debian)
     check_storm(debian)
     check_command_lines(debian)
+    check_without_systemd(debian)
     with debian.booted():
         instance = check_services(debian)
         update(debian, new, version, instance)
@@ -188,6 +193,36 @@ def check_command_lines(debian: Fresh) -> None:
     assert printed.splitlines() == ["first", "1", "0"]
 
 
+def check_without_systemd(debian: Fresh) -> None:
+    """By the page's commands, both programs start by hand, and the first instance is created and deleted. The state is
+    below /tmp here: /var/lib has that of the services.
+    """
+    starts, *uses = (commands(it).replace("/var/", "/tmp/var/") for it in (BY_HAND, *FIRST_INSTANCE))
+    printed = debian.run(
+        f"""{LOOPBACK}
+        mkdir -p /tmp/var/log /tmp/var/lib
+        {starts}
+        trap 'tail -n 20 /tmp/var/log/*.log >&2' ERR
+        for it in {{1..300}}; do
+            if curl -s http://127.0.0.1:8080/healthz && ls /tmp/var/lib/osb-platform/*.sqlite; then break; fi
+            sleep 0.1
+        done >/dev/null 2>&1
+        {"".join(uses)}
+        kill %1 %2
+        wait %1
+        wait %2
+        rm -r /tmp/var /etc/osb/*"""
+    )
+    assert_first_instance(printed)
+
+
+def assert_first_instance(printed: str) -> None:
+    """What the commands of FIRST_INSTANCE print."""
+    instance, binding, credentials, *listed = printed.splitlines()
+    assert (instance, binding) == ("first", "first/app") and json.loads(credentials)
+    assert [it.split("\t")[:2] for it in listed] == [["first", "ready"], ["first/app", "ready"]]
+
+
 def command_line(debian: Fresh, name: str) -> str:
     """What systemd would run for a service whose state is in /tmp/state."""
     unit = (debian.top / "lib/systemd/system" / f"{name}.service").read_text().replace("%S", "/tmp/state")
@@ -228,9 +263,7 @@ def check_services(debian: Fresh) -> str:
 
 def check_first_instance(debian: Fresh) -> None:
     """In one shell, the page's first instance and its binding are created and deleted."""
-    printed = debian.run(commands("export OSB_PLATFORM_STORE=") + commands("osb-platform bind first")).splitlines()
-    assert printed[:2] == ["first", "first/app"]
-    assert json.loads(printed[2])
+    assert_first_instance(debian.run("".join(commands(it) for it in FIRST_INSTANCE)))
     assert instances(debian) == set()
 
 
