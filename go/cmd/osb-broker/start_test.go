@@ -34,8 +34,10 @@ func TestAddressInUse(t *testing.T) {
 	}
 	defer used.Close()
 	address := used.Addr().String()
-	says := ": can't listen: listen tcp " + address + ": bind: address already in use"
-	unusable(t, "--listen "+address+says, "serve", "--state", t.TempDir(), "--listen", address)
+	says := ": can't listen: listen tcp " + address + ": bind: address already in use. "
+	unusable(t, "--listen "+address+says+"Stop", "serve", "--state", t.TempDir(), "--listen", address)
+	unusable(t, "--listen "+address+says+"A program has this address alone: stop it", "serve", "--state", t.TempDir(),
+		"--listen", address, "--share-port")
 	unusable(t, "--health-listen "+address+says, "serve", "--state", t.TempDir(), "--listen", "127.0.0.1:0",
 		"--health-listen", address)
 }

@@ -9,6 +9,7 @@ package server
 import (
 	"context"
 	"crypto/tls"
+	"errors"
 	"fmt"
 	"net"
 	"sync"
@@ -80,7 +81,12 @@ func Listen(ctx context.Context, address string, options Options) (*Listener, er
 		config.Control = share
 	}
 	listener, err := config.Listen(ctx, "tcp", address)
-	if err != nil {
+	switch {
+	case errors.Is(err, syscall.EADDRINUSE) && options.Share:
+		return nil, fmt.Errorf("can't listen: %w. A program has this address alone: stop it, or choose another address", err)
+	case errors.Is(err, syscall.EADDRINUSE):
+		return nil, fmt.Errorf("can't listen: %w. Stop the program that has this address, or choose another one", err)
+	case err != nil:
 		return nil, fmt.Errorf("can't listen: %w", err)
 	}
 	return &Listener{
