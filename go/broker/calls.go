@@ -110,17 +110,28 @@ func (c *calls) withCredentials(ctx context.Context) (There, error) {
 
 // keep makes the object of the binding from its credentials.
 func (c *calls) keep(credentials json.RawMessage) error {
+	object, err := BindingObject(credentials)
+	if err == nil {
+		c.binding = object
+	}
+	return err
+}
+
+// BindingObject returns the object of a binding with these credentials, as a Bind and a Fetch are answered (sections
+// Binding and Fetching a Service Binding).
+//
+// Errors: if the credentials aren't JSON, or can't be sent (osb.CheckBinding).
+func BindingObject(credentials json.RawMessage) (json.RawMessage, error) {
 	object, err := json.Marshal(struct {
 		Credentials json.RawMessage `json:"credentials"`
 	}{credentials})
 	if err != nil {
-		return fmt.Errorf("the credentials aren't JSON: %w", err)
+		return nil, fmt.Errorf("the credentials aren't JSON: %w", err)
 	}
 	if err := osb.CheckBinding(object); err != nil {
-		return fmt.Errorf("the credentials can't be sent: %w", err)
+		return nil, fmt.Errorf("the credentials can't be sent: %w", err)
 	}
-	c.binding = object
-	return nil
+	return object, nil
 }
 
 // settled returns what exists once that would outlive a power cut.

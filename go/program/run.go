@@ -75,7 +75,7 @@ func Run(ctx context.Context, root *cobra.Command) (status int) {
 	if errors.As(err, &known) {
 		status, hint = known.status, ""
 	}
-	report(root, oneLine(err.Error())+hint)
+	report(root, OneLine(err.Error())+hint)
 	return status
 }
 

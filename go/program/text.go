@@ -6,9 +6,9 @@ import (
 	"unicode"
 )
 
-// oneLine returns a text as one line for a terminal. White space becomes single blanks, and a character that isn't
+// OneLine returns a text as one line for a terminal. White space becomes single blanks, and a character that isn't
 // printable, such as that of an escape sequence, becomes an escape of Go.
-func oneLine(text string) string {
+func OneLine(text string) string {
 	var line strings.Builder
 	for _, r := range strings.Join(strings.Fields(text), " ") {
 		if unicode.IsPrint(r) {

@@ -113,10 +113,24 @@ func (p *program) capabilities(ctx context.Context) (found capable, err error) {
 	return found, p.wrapped(call, err)
 }
 
+// A CallError is the error of a call, with the program and the call.
+type CallError struct {
+	Program, Call string
+	Err           error
+}
+
+// Error returns the text of Err after the program and the call.
+func (c *CallError) Error() string {
+	return fmt.Sprintf("command: %s %s: %v", c.Program, c.Call, c.Err)
+}
+
+// Unwrap returns Err.
+func (c *CallError) Unwrap() error { return c.Err }
+
 // wrapped names the program and the call in an error.
 func (p *program) wrapped(call string, err error) error {
 	if err == nil {
 		return nil
 	}
-	return fmt.Errorf("command: %s %s: %w", p.path, call, err)
+	return &CallError{Program: p.path, Call: call, Err: err}
 }
