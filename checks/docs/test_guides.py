@@ -138,7 +138,7 @@ def test_wrong_arguments_are_found(arguments: str) -> None:
 @pytest.mark.usefixtures("platform")
 def test_options_of_the_broker() -> None:
     """Each option that the guide names is the broker's, or that of a platform which changes its password."""
-    options = set(options_of("".join(help_of("osb-broker", it) for it in ("serve", "rekey"))))
+    options = set(options_of("".join(help_of("osb-broker", it) for it in ("serve", "try", "rekey"))))
     options |= set(options_of(help_of("osb-platform", "broker", "set")))
     named = set(re.findall(r"(?<![\w-])--[a-z][a-z-]*", read(BROKER)))
     assert len(named) > 20

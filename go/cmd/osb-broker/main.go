@@ -10,9 +10,19 @@ import (
 	"pippinterm/program"
 )
 
-func main() { os.Exit(program.Run(context.Background(), rootCommand())) }
+func main() {
+	outcome := &outcome{}
+	status := program.Run(context.Background(), rootCommand(outcome))
+	if status == program.StatusDone {
+		status = outcome.status
+	}
+	os.Exit(status)
+}
 
-func rootCommand() *cobra.Command {
+// An outcome is what a command has found. It is the exit status of the program if the command itself has succeeded.
+type outcome struct{ status int }
+
+func rootCommand(o *outcome) *cobra.Command {
 	root := &cobra.Command{
 		Use:     "osb-broker",
 		Short:   "A broker under the Open Service Broker API 2.17",
@@ -24,9 +34,10 @@ holdings there, in SQLite.
 
     OSB_BROKER_PASSWORD=secret ./osb-broker serve
 
-docs/broker-guide.md says how to run it, and how to sell something of your own.`,
+docs/broker-guide.md says how to run it, and how to sell something of your own. 'osb-broker try' tests a backend
+of your own without a broker.`,
 	}
-	root.AddCommand(serveCommand(), passwordCommand(), keyCommand(), rekeyCommand())
+	root.AddCommand(serveCommand(), tryCommand(o), passwordCommand(), keyCommand(), rekeyCommand())
 	root.CompletionOptions.DisableDefaultCmd = true
 	return root
 }

@@ -194,7 +194,7 @@ func TestUnusable(t *testing.T) {
 		environment, arguments []string
 		says                   string
 	}{
-		{nil, nil, "a command is missing: key, password, rekey, serve"},
+		{nil, nil, "a command is missing: key, password, rekey, serve, try"},
 		{nil, []string{"sell"}, "sell"},
 		{nil, []string{"serve"}, "OSB_BROKER_PASSWORD"},
 		{[]string{password}, []string{"serve", "--threads", "0"}, "threads"},

@@ -62,7 +62,7 @@ func serveCommand() *cobra.Command {
 		Long:  "Serve the catalogue, instances and bindings until SIGTERM.\n" + environment,
 		RunE:  func(c *cobra.Command, _ []string) error { return serve(c.Context(), s, os.Stderr) },
 	}
-	made.SetUsageTemplate(strings.ReplaceAll(made.UsageTemplate(), ".FlagUsages", ".FlagUsagesWrapped 110"))
+	wrapUsage(made)
 	flags := made.Flags()
 	flags.SortFlags = false
 	s.addPlaces(flags)
@@ -70,6 +70,11 @@ func serveCommand() *cobra.Command {
 	s.addRules(flags)
 	s.addLimits(flags)
 	return made
+}
+
+// wrapUsage breaks the lines of the options in the help of a command.
+func wrapUsage(made *cobra.Command) {
+	made.SetUsageTemplate(strings.ReplaceAll(made.UsageTemplate(), ".FlagUsages", ".FlagUsagesWrapped 110"))
 }
 
 // stateFolder is where the state is if no folder is named.

@@ -6,4 +6,4 @@ import "pippinterm/program/pages"
 
 // With the build tag pages this isn't the program, but what writes its manual pages (release/). SOURCE_DATE_EPOCH is
 // their date.
-func init() { pages.AtEpoch(rootCommand()) }
+func init() { pages.AtEpoch(rootCommand(&outcome{})) }

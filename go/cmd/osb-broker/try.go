@@ -1,0 +1,257 @@
+package main
+
+import (
+	"context"
+	"encoding/json"
+	"errors"
+	"fmt"
+	"io"
+	"os"
+	"os/signal"
+	"syscall"
+	"time"
+
+	"github.com/spf13/cobra"
+	"github.com/spf13/pflag"
+
+	"pippinterm/backend/postgres"
+	"pippinterm/broker"
+	"pippinterm/broker/try"
+	"pippinterm/program"
+	"pippinterm/program/logs"
+)
+
+const tryHelp = `Test a backend without a broker and without a store.
+
+The command creates two instances with new random ids and, if the backend and the plan support it, three
+bindings. It repeats calls as a broker does after a crash, looks after each call what exists, and deletes
+what it has created. Each call is a line on standard output with its result. Credentials aren't printed.
+
+  ok      look instance 1: none
+  ok      create instance 1
+  FAILED  look instance 1: part, and not whole
+
+Only the first plan of the catalogue is tried, unless you pass --plan or --all-plans: an instance may be
+expensive. A rejected creation (exit status 3 of the program) counts as failed, because the calls after it
+can't be tried. Pass --parameters that the plan accepts.
+
+After SIGINT or SIGTERM, the command deletes what it has created, for at most --stop-seconds. A second
+signal ends it at once.
+
+The command needs no password of a platform. With --backend postgresql://.., it needs the server's password
+and key, as serve does, and a broker must have used the server before.
+
+environment:
+  OSB_BACKEND_KEY, PGPASSWORD, PGPASSFILE, BACKEND_..   as for 'osb-broker serve'
+
+exit status: 0 all calls did what the guide says; 1 a call failed, something couldn't be deleted, or a
+signal ended the test; 2 change something first: an argument, a file, a program that can't be run, or one
+that doesn't report its capabilities; 75 the server of the backend is away; 70 any other error`
+
+// tried are the options of `osb-broker try`.
+type tried struct {
+	settings   *settings
+	plans      []string
+	areAll     bool // whether all plans are tried
+	parameters string
+	isOwn      bool // whether the state folder is a new temporary one
+}
+
+// sharedOptions are the options of serve that configure backends, and how long the end may take.
+var sharedOptions = []string{"backend", "catalog", "customer-address", "backend-key-file", "command-seconds",
+	"connections-per-instance", "stop-seconds"}
+
+func tryCommand(o *outcome) *cobra.Command {
+	t := &tried{settings: &settings{}}
+	made := &cobra.Command{
+		Use: "try", Short: "Test a backend of your own", Long: tryHelp,
+		Example: `  osb-broker try --backend command:./mine --catalog mine.json
+  osb-broker try --backend command:./mine --catalog mine.json --plan small --parameters '{"size": "small"}'`,
+		RunE: func(c *cobra.Command, _ []string) (err error) {
+			o.status, err = t.run(c.Context(), c.OutOrStdout(), c.ErrOrStderr())
+			return err
+		},
+	}
+	wrapUsage(made)
+	t.add(made.Flags())
+	return made
+}
+
+// add adds the options. Those that serve has, too, are the same.
+func (t *tried) add(flags *pflag.FlagSet) {
+	flags.SortFlags = false
+	ofServe := pflag.NewFlagSet("", pflag.ContinueOnError)
+	t.settings.addPlaces(ofServe)
+	t.settings.addAccess(ofServe)
+	t.settings.addRules(ofServe)
+	t.settings.addLimits(ofServe)
+	for _, name := range sharedOptions {
+		flags.AddFlag(ofServe.Lookup(name))
+	}
+	flags.StringArrayVar(&t.plans, "plan", nil,
+		"try the plan with this `name or id`; may be given several times. Default: the first plan of the first service")
+	flags.BoolVar(&t.areAll, "all-plans", false, "try all plans, one after the other")
+	flags.StringVar(&t.parameters, "parameters", "", "the parameters of each instance, an object of `JSON`")
+	flags.StringVar(&t.settings.state, "state", "", "the `folder` with what --backend doesn't place elsewhere. "+
+		"Default: a new temporary folder, which is removed if nothing has failed")
+}
+
+// run tries the backend, and writes a line for each call. It returns the exit status.
+func (t *tried) run(ctx context.Context, out, stderr io.Writer) (status int, err error) {
+	if err := t.checkParameters(); err != nil {
+		return 0, program.Unusable(err)
+	}
+	syscall.Umask(0o077) // as serve does: the program inherits it
+	queue := logs.NewQueue(stderr)
+	defer func() {
+		until, cancel := context.WithTimeout(ctx, time.Second)
+		defer cancel()
+		_ = queue.Close(until)
+	}()
+	stop, forget := signal.NotifyContext(ctx, syscall.SIGTERM, syscall.SIGINT)
+	defer forget()
+	go func() {
+		<-stop.Done()
+		forget() // a second signal ends the process
+	}()
+	if err := t.openState(); err != nil {
+		return 0, program.Unusable(err)
+	}
+	report := &tryReport{out: out}
+	err = t.tryAll(stop, logs.New(queue), report)
+	return t.end(report, err)
+}
+
+// checkParameters checks that the parameters are an object, if there are any.
+func (t *tried) checkParameters() error {
+	if t.parameters == "" {
+		return nil
+	}
+	var object map[string]json.RawMessage
+	err := json.Unmarshal([]byte(t.parameters), &object)
+	if err == nil && object == nil {
+		err = errors.New("want an object")
+	}
+	return wrapped("--parameters", err)
+}
+
+// openState creates the state folder, a temporary one if none is named.
+func (t *tried) openState() (err error) {
+	s := t.settings
+	if s.state == "" {
+		s.state, err = os.MkdirTemp("", "osb-broker-try-")
+		t.isOwn = err == nil
+	} else {
+		err = os.MkdirAll(s.state, 0o700)
+	}
+	return wrapped("the state folder can't be created", err)
+}
+
+// end writes the end of the report, and removes a temporary state folder if nothing has failed. It returns the exit
+// status. failed is the error of the test itself.
+func (t *tried) end(report *tryReport, failed error) (status int, err error) {
+	if t.isOwn && report.isClean() {
+		if err := os.RemoveAll(t.settings.state); err != nil && failed == nil {
+			failed = fmt.Errorf("the temporary state folder can't be removed: %w", err)
+		}
+	} else if t.isOwn {
+		report.line("kept", "the state folder "+t.settings.state)
+	}
+	if failed != nil {
+		return 0, failed
+	}
+	if err := report.end(); err != nil {
+		return 0, fmt.Errorf("the report can't be written: %w", err)
+	}
+	if !report.isClean() {
+		return statusFailedCalls, nil
+	}
+	return program.StatusDone, nil
+}
+
+// tryAll opens the backend as serve does, and tries each plan that is asked for.
+func (t *tried) tryAll(ctx context.Context, log *logs.Logger, report *tryReport) error {
+	p := &parts{}
+	defer p.closeAll()
+	if err := p.openBackend(ctx, t.settings, log); err != nil {
+		return err
+	}
+	if err := p.openLocks(t.settings); err != nil {
+		return err
+	}
+	if err := hasOwner(ctx, p.backend); err != nil {
+		return err
+	}
+	_, sellsBindings := p.backend.(broker.BindingBackend)
+	catalogue, err := catalogueOf(t.settings.catalogue, p.sells, sellsBindings)
+	if err != nil {
+		return err
+	}
+	plans, err := t.chosen(catalogue.Document())
+	if err != nil {
+		return program.Unusable(err)
+	}
+	for _, plan := range plans {
+		if err := t.tryPlan(ctx, p, plan, report); err != nil {
+			return err
+		}
+	}
+	return nil
+}
+
+// hasOwner returns an error if the backend is a PostgreSQL server that no store has used. Such a server belongs to its
+// first store for good, and a test has none.
+func hasOwner(ctx context.Context, backend broker.Backend) error {
+	databases, isServer := backend.(*postgres.Databases)
+	if !isServer {
+		return nil
+	}
+	owner, err := databases.Owner(ctx)
+	if err == nil && owner == "" {
+		return program.Unusable(errors.New("no broker has used this server yet. Start 'osb-broker serve' over it once"))
+	}
+	return away("the backend can't be used", err)
+}
+
+// chosen returns the plans that are asked for.
+func (t *tried) chosen(document []byte) ([]try.Plan, error) {
+	all, err := try.Plans(document)
+	switch {
+	case err != nil:
+		return nil, err
+	case t.areAll && len(t.plans) > 0:
+		return nil, errors.New("give --plan or --all-plans, and not both")
+	case len(all) == 0:
+		return nil, errors.New("the catalogue has no plan")
+	case t.areAll:
+		return all, nil
+	case len(t.plans) == 0:
+		return all[:1], nil
+	}
+	var chosen []try.Plan
+	for _, name := range t.plans {
+		plan, err := try.Choose(all, name)
+		if err != nil {
+			return nil, fmt.Errorf("--plan: %w", err)
+		}
+		chosen = append(chosen, plan)
+	}
+	return chosen, nil
+}
+
+// tryPlan tries one plan, unless ctx is done.
+func (t *tried) tryPlan(ctx context.Context, p *parts, plan try.Plan, report *tryReport) error {
+	if ctx.Err() != nil {
+		return nil
+	}
+	report.line("try", plan.String())
+	result, err := try.Run(ctx, p.backend, p.locks, try.Options{
+		Plan: plan, Parameters: json.RawMessage(t.parameters), CleanUp: t.settings.stopTime,
+		Report: report.step,
+	})
+	if err != nil {
+		return err
+	}
+	report.add(result)
+	return nil
+}

@@ -1,0 +1,319 @@
+package main
+
+import (
+	"bytes"
+	"encoding/json"
+	"os"
+	"os/exec"
+	"path/filepath"
+	"regexp"
+	"strings"
+	"syscall"
+	"testing"
+	"time"
+
+	"pippinterm/broker/postgres/pgtest"
+)
+
+const examples = "../../../examples/broker/"
+
+// A tryRun is a run of `osb-broker try`.
+type tryRun struct {
+	status         int
+	stdout, stderr string
+	temporary      []string // what it has left in the folder for temporary files
+}
+
+// runTry runs `osb-broker try` to its end, without the password of a platform. start is called once it runs.
+func runTry(t *testing.T, environment []string, start func(*exec.Cmd), arguments ...string) tryRun {
+	t.Helper()
+	temporary := t.TempDir()
+	environment = append([]string{"TMPDIR=" + temporary}, environment...)
+	command := osbBroker(environment, append([]string{"try"}, arguments...)...)
+	var stdout, stderr bytes.Buffer
+	command.Stdout, command.Stderr = &stdout, &stderr
+	if err := command.Start(); err != nil {
+		t.Fatal(err)
+	}
+	late := time.AfterFunc(time.Minute, func() { _ = command.Process.Kill() })
+	defer late.Stop()
+	if start != nil {
+		start(command)
+	}
+	_ = command.Wait()
+	left, err := filepath.Glob(temporary + "/*")
+	if err != nil {
+		t.Fatal(err)
+	}
+	return tryRun{command.ProcessState.ExitCode(), stdout.String(), stderr.String(), left}
+}
+
+// lines are the lines of standard output that begin with a word.
+func (r tryRun) lines(word string) (found []string) {
+	for _, line := range strings.Split(r.stdout, "\n") {
+		if strings.HasPrefix(line, word+" ") {
+			found = append(found, strings.TrimSpace(strings.TrimPrefix(line, word)))
+		}
+	}
+	return found
+}
+
+// last is the last line of standard output.
+func (r tryRun) last() string {
+	lines := strings.Split(strings.TrimSuffix(r.stdout, "\n"), "\n")
+	return lines[len(lines)-1]
+}
+
+// backendWith writes a backend in sh. The text comes before the calls that the backend then has, and may exit.
+func backendWith(t *testing.T, text string) string {
+	t.Helper()
+	path := filepath.Join(t.TempDir(), "backend")
+	program := "#!/bin/sh\n" + text + `
+case $1 in
+    look) [ -e "$OSB_NAME" ] && echo '{"exists": "whole"}' || echo '{"exists": "none"}' ;;
+    create) : >"$OSB_NAME" ;;
+    delete) rm -f "$OSB_NAME" ;;
+    *) exit 5 ;;
+esac
+`
+	if err := os.WriteFile(path, []byte(program), 0o700); err != nil {
+		t.Fatal(err)
+	}
+	return "command:" + path
+}
+
+// unbindable is a catalogue for a backend that has no bindings.
+func unbindable(t *testing.T) string {
+	t.Helper()
+	path := filepath.Join(t.TempDir(), "catalogue")
+	text := bytes.ReplaceAll(catalogueWith(""), []byte(`"bindable": true`), []byte(`"bindable": false`))
+	if err := os.WriteFile(path, text, 0o600); err != nil {
+		t.Fatal(err)
+	}
+	return path
+}
+
+// The example of the guide does all that it has to do, and leaves nothing behind.
+func TestTryExample(t *testing.T) {
+	run := runTry(t, nil, nil, "--backend", "command:"+examples+"databases", "--catalog", examples+"own-catalogue.json")
+	credentials := "credentials: an object with the members database, token"
+	for _, line := range []string{
+		"capabilities: bindings, credentials", "look instance 1: none", "create instance 1 again",
+		"create-binding 1: " + credentials, "credentials of binding 2: those of create-binding",
+		"delete-binding 1 again", "delete instance 2",
+	} {
+		if !strings.Contains(run.stdout, "\nok      "+line+"\n") {
+			t.Errorf("there is no line %q", line)
+		}
+	}
+	if run.status != 0 || run.last() != "48 ok, 0 failed" || run.stderr != "" || len(run.temporary) > 0 ||
+		!strings.HasPrefix(run.stdout, "try     plan now of service database\n") {
+		t.Errorf("status %d, %s%s, left are %v", run.status, run.stdout, run.stderr, run.temporary)
+	}
+	if token := regexp.MustCompile(`[0-9a-f]{8}-`).FindString(run.stdout); token != "" {
+		t.Errorf("an id or a token is shown: %s", run.stdout)
+	}
+}
+
+// Folders are tried by the same calls, and in the folders that serve would use.
+func TestTryFolders(t *testing.T) {
+	state := t.TempDir()
+	run := runTry(t, nil, nil, "--state", state, "--all-plans")
+	plans := strings.Join(run.lines("try"), ", ")
+	if run.status != 0 || run.last() != "96 ok, 0 failed" || run.stderr != "" ||
+		plans != "plan at-once of service folder, plan by-worker of service folder" {
+		t.Errorf("status %d, %s%s", run.status, run.stdout, run.stderr)
+	}
+	if _, err := os.Stat(state + "/instances"); err != nil || len(sold(t, state)) > 0 || len(run.temporary) > 0 {
+		t.Errorf("%v, %v exists, and %v", err, sold(t, state), run.temporary)
+	}
+}
+
+// Plans are tried in the order in which they are named, with the parameters.
+func TestTryPlans(t *testing.T) {
+	seen := filepath.Join(t.TempDir(), "seen")
+	backend := backendWith(t, `[ "$1" != create ] || cat >>"$BACKEND_SEEN"`)
+	run := runTry(t, []string{"BACKEND_SEEN=" + seen}, nil, "--backend", backend, "--plan", "by-worker", "--plan",
+		atOnce, "--parameters", `{"size": "small"}`)
+	if run.status != 0 || run.last() != "38 ok, 0 failed" || len(run.lines("try")) != 2 {
+		t.Errorf("status %d, %s%s", run.status, run.stdout, run.stderr)
+	}
+	text, err := os.ReadFile(seen)
+	if err != nil {
+		t.Fatal(err)
+	}
+	var plans []string
+	for decoder := json.NewDecoder(bytes.NewReader(text)); decoder.More(); {
+		var read struct {
+			Plan string `json:"plan_id"`
+			Body struct {
+				Parameters struct{ Size string }
+			}
+		}
+		if err := decoder.Decode(&read); err != nil || read.Body.Parameters.Size != "small" {
+			t.Fatalf("%+v, %v", read, err)
+		}
+		plans = append(plans, read.Plan[len(read.Plan)-2:])
+	}
+	if got := strings.Join(plans, " "); got != "b2 b2 b2 b2 b1 b1 b1 b1" {
+		t.Errorf("the plans of the creations are %s", got)
+	}
+}
+
+// A mistake of a program ends with status 1. Its line has the reason, and the state folder is kept.
+func TestTryMistakes(t *testing.T) {
+	const repeated = `[ "$1" != create ] || [ ! -e "$OSB_NAME" ] || `
+	for name, it := range map[string]struct{ text, line, last string }{
+		"not repeatable": {repeated + `{ echo 'first' >&2; printf 'it \033exists\n' >&2; exit 1; }`,
+			`create instance 1 again: exit status 1: it \x1bexists`, "17 ok, 2 failed"},
+		"output that isn't JSON": {repeated + `{ echo done; exit; }`,
+			"create instance 1 again: exit status 0: standard output isn't the JSON that is expected: " +
+				"invalid character 'd' looking for beginning of value", "17 ok, 2 failed"},
+		"no such state": {`[ "$1" != look ] || { echo '{"exists": "no"}'; exit; }`,
+			`look instance 1: "exists" is "no", and not none, part or whole`, "8 ok, 11 failed"},
+		"killed": {repeated + `kill -9 $$`, "create instance 1 again: signal: killed", "17 ok, 2 failed"},
+		"a process goes on": {`[ "$1" != create ] || [ -e ../once ] || { : >../once; sleep 10 >/dev/null 2>&1 & }`,
+			"look instance 1: a process that an earlier call has started still runs, and has the lock of that call " +
+				"open (descriptor 3)", ""},
+		"rejected": {`[ "$1" != create ] || { echo '{"status": 400, "error": "Full", "description": "No."}'; exit 3; }`,
+			"create instance 1: rejected with 400 Full: No.", "5 ok, 2 failed"},
+	} {
+		it := it
+		t.Run(name, func(t *testing.T) {
+			t.Parallel()
+			run := runTry(t, nil, nil, "--backend", backendWith(t, it.text), "--catalog", unbindable(t))
+			failed := run.lines("FAILED")
+			if run.status != 1 || len(failed) == 0 || run.stderr != "" || it.last != "" && run.last() != it.last {
+				t.Fatalf("status %d, %s%s", run.status, run.stdout, run.stderr)
+			}
+			if !strings.Contains(strings.Join(failed, "\n")+"\n", it.line+"\n") {
+				t.Errorf("%q isn't among %q", it.line, failed)
+			}
+			kept := run.lines("kept")
+			if len(run.temporary) != 1 || len(kept) != 1 || kept[0] != "the state folder "+run.temporary[0] {
+				t.Errorf("kept are %v, and reported %q", run.temporary, kept)
+			}
+			if ids := run.lines("id"); len(ids) != 2 {
+				t.Errorf("the ids are %q", ids)
+			}
+		})
+	}
+}
+
+// What can't be deleted is named. The program has the umask that serve gives it.
+func TestTryLeft(t *testing.T) {
+	run := runTry(t, nil, nil, "--backend", backendWith(t, `[ "$1" != delete ] || exit 1`), "--catalog", unbindable(t))
+	left, folder := run.lines("left"), filepath.Join(run.temporary[0], "command")
+	found, err := filepath.Glob(folder + "/[0-9a-f]*")
+	if err != nil || len(found) != 2 || len(left) != 2 || run.status != 1 {
+		t.Fatalf("status %d, %s%s, %v exists, %v", run.status, run.stdout, run.stderr, found, err)
+	}
+	for _, path := range found {
+		if !strings.Contains(strings.Join(left, "\n"), " "+filepath.Base(path)+" couldn't be deleted") {
+			t.Errorf("%s isn't named in %q", path, left)
+		}
+		if file, err := os.Stat(path); err != nil || file.Mode().Perm() != 0o600 {
+			t.Errorf("%v, %v", file, err)
+		}
+	}
+}
+
+// signalAt sends a signal to the program once a file exists.
+func signalAt(t *testing.T, path string, signal os.Signal) func(*exec.Cmd) {
+	return func(command *exec.Cmd) {
+		for _, err := os.Stat(path); err != nil; _, err = os.Stat(path) {
+			time.Sleep(5 * time.Millisecond)
+		}
+		if err := command.Process.Signal(signal); err != nil {
+			t.Error(err)
+		}
+	}
+}
+
+// slow is a backend whose creations create all, say so in the file begun of the state folder, and don't end. The text
+// comes before the calls.
+func slow(t *testing.T, text string) string {
+	return backendWith(t, text+"\n"+`[ "$1" != create ] || { : >"$OSB_NAME"; : >../begun; sleep 60; }`)
+}
+
+// A signal ends the call that runs, and what exists is deleted.
+func TestTryStops(t *testing.T) {
+	for _, signal := range []os.Signal{syscall.SIGTERM, os.Interrupt} {
+		state := t.TempDir()
+		run := runTry(t, nil, signalAt(t, state+"/begun", signal),
+			"--state", state, "--backend", slow(t, ""), "--catalog", unbindable(t))
+		wanted := "try     plan small of service shelf\nok      capabilities: neither bindings nor credentials\n" +
+			"ok      look instance 1: none\nok      delete instance 1\nok      look instance 1: none\n" +
+			"stopped by a signal, before all calls were tried\n4 ok, 0 failed\n"
+		left, err := filepath.Glob(state + "/command/[0-9a-f]*")
+		if run.status != 1 || run.stdout != wanted || run.stderr != "" || len(left) > 0 || err != nil {
+			t.Errorf("%v: status %d, %s%s, %v is left, %v", signal, run.status, run.stdout, run.stderr, left, err)
+		}
+	}
+}
+
+// The deletions after a signal end with --stop-seconds, or at once with a second signal.
+func TestTryStopsLate(t *testing.T) {
+	const neverDeletes = `[ "$1" != delete ] || { : >../deleting; sleep 60; }`
+	state := t.TempDir()
+	run := runTry(t, nil, signalAt(t, state+"/begun", os.Interrupt), "--state", state, "--stop-seconds", "0.2",
+		"--backend", slow(t, neverDeletes), "--catalog", unbindable(t))
+	if left := run.lines("left"); run.status != 1 || len(left) != 1 || !strings.HasPrefix(left[0], "instance 1: ") {
+		t.Errorf("status %d, %s%s", run.status, run.stdout, run.stderr)
+	}
+	state = t.TempDir()
+	run = runTry(t, nil, func(command *exec.Cmd) {
+		signalAt(t, state+"/begun", os.Interrupt)(command)
+		signalAt(t, state+"/deleting", os.Interrupt)(command)
+	}, "--state", state, "--backend", slow(t, neverDeletes), "--catalog", unbindable(t))
+	if run.status != -1 || run.last() != "ok      look instance 1: none" {
+		t.Errorf("status %d, %s%s", run.status, run.stdout, run.stderr)
+	}
+}
+
+// What an author has to change first ends with status 2 and one line, and leaves no folder.
+func TestTryUnusable(t *testing.T) {
+	catalogue := unbindable(t)
+	for says, arguments := range map[string][]string{
+		"/nowhere/b":                        {"--backend", "command:/nowhere/b"},
+		"capabilities: exit status 1: out":  {"--backend", backendWith(t, "echo out >&2; exit 1")},
+		"/nowhere/c":                        {"--catalog", "/nowhere/c"},
+		"can't be the catalogue":            {"--backend", backendWith(t, ""), "--catalog", examples + "own-catalogue.json"},
+		`no plan has the name or id "huge"`: {"--plan", "huge"},
+		"--plan or --all-plans":             {"--plan", "at-once", "--all-plans"},
+		"--parameters: ":                    {"--parameters", "{"},
+		"--parameters: want an object":      {"--parameters", "null"},
+		"--command-seconds":                 {"--command-seconds", "0"},
+		"unknown flag: --listen":            {"--listen", "127.0.0.1:0"},
+		"the state folder":                  {"--state", catalogue},
+		"PGPASSWORD":                        {"--backend", "postgresql://u:pw@h/d"},
+		"OSB_BACKEND_KEY":                   {"--backend", "postgresql://u@127.0.0.1:1/d"},
+	} {
+		run := runTry(t, nil, nil, arguments...)
+		isLine := strings.HasPrefix(run.stderr, "osb-broker: ") && strings.Count(run.stderr, "\n") == 1
+		if run.status != 2 || !isLine || !strings.Contains(run.stderr, says) || run.stdout != "" || len(run.temporary) > 0 {
+			t.Errorf("%v: status %d, %s%s, left are %v", arguments, run.status, run.stdout, run.stderr, run.temporary)
+		}
+	}
+}
+
+// A server that no broker has used is rejected, because it would belong to the store of the test for good.
+func TestTryDatabases(t *testing.T) {
+	address, environment := postgresql(t)
+	environment = append(environment[1:], "OSB_BACKEND_KEY="+strings.Repeat("k", 32))
+	db := pgtest.DB(t, pgtest.URL(t))
+	pgtest.Exec(t, db, "DROP SCHEMA IF EXISTS osb_try CASCADE", "CREATE SCHEMA osb_try")
+	t.Cleanup(func() { pgtest.Exec(t, db, "DROP SCHEMA osb_try CASCADE") })
+	address = pgtest.With(t, address, "search_path", "osb_try")
+	arguments := []string{"--backend", address, "--customer-address", "localhost:5432"}
+	run := runTry(t, environment, nil, arguments...)
+	if run.status != 2 || !strings.Contains(run.stderr, "no broker has used this server") || len(run.temporary) > 0 {
+		t.Errorf("status %d, %s%s", run.status, run.stdout, run.stderr)
+	}
+	s := start(t, append([]string{password}, environment...), append([]string{"--state", t.TempDir()}, arguments...)...)
+	s.stop()
+	run = runTry(t, environment, nil, arguments...)
+	if run.status != 0 || run.last() != "48 ok, 0 failed" || strings.Contains(run.stdout, "postgresql://") {
+		t.Errorf("status %d, %s%s", run.status, run.stdout, run.stderr)
+	}
+}
