@@ -10,7 +10,7 @@ from typing import Callable
 import osb_audit.words
 import pytest
 from docs.guides import BROKER, CREATE, healthy, moved, statuses
-from docs.pages import block, blocks, covers, packages, pages, read
+from docs.pages import blocks, covers, packages, pages, read
 from docs.programs import help_of, is_read_by, options_of
 from docs.workdir import Workdir, needs
 from osb import Id
@@ -65,23 +65,28 @@ def test_broker(texts: list[str], workdir: Workdir, port: int) -> None:
     assert statuses(second) == ["202", "202", "409"]
 
 
-@covers(BROKER, "mkdir -p build/try\n")
-def test_backend_by_hand(texts: list[str], workdir: Workdir) -> None:
-    """An instance exists once it is created. The binding has a token. Nothing is left in the end."""
-    out = workdir.run(f"{texts[0]}ls build/try\n")
-    look, created = map(json.loads, out.splitlines())
-    assert look == {"exists": "whole"} and "token" in created["credentials"]
-
-
-@covers(BROKER, "OSB_BROKER_PASSWORD=secret ./osb-broker serve --state build/databases ", "service=11111111-")
+@covers(
+    BROKER,
+    "cp examples/broker/databases mine\n",
+    "./osb-broker try ",
+    "OSB_BROKER_PASSWORD=secret ./osb-broker serve --state build/mine ",
+    "service=$(jq ",
+)
 def test_backend_of_a_reader(texts: list[str], workdir: Workdir, port: int) -> None:
-    """It sells a database, with a binding."""
-    serve, ids = texts
-    standard, one, life = moved(block(BROKER, CREATE), port).partition("one=")
-    listed = f"{standard}{ids}{one}{life}".replace("ls build/broker/instances", "ls build/databases/command")
-    out = workdir.run(f"{moved(serve, port).strip()} &\n{healthy(port)}{listed}kill %1; wait $!\n")
-    assert statuses(out) == ["201", "201", "200", "200"]
-    assert out.count(f"{FIRST}\n") == 1 and '"token"' in out
+    """The copy of the example has no mistake, and ids of its own. It sells a database, with a binding. Nothing is left
+    in the end.
+    """
+    needs("jq")
+    copy, attempt, serve, life = texts
+    serving = f"{moved(serve, port).strip()} &\n{healthy(port)}{moved(life, port)}kill %1; wait $!\n"
+    out = workdir.run(f"{copy}{attempt}echo --\n{serving}ls build/mine/command\n")
+    tried, _, served = out.partition("--\n")
+    assert tried.endswith("\n48 ok, 0 failed\n")
+    assert "\nok      create-binding 1: credentials: an object with the members database, token\n" in tried
+    assert statuses(served) == ["201", "201", "200", "200"]
+    assert '"token"' in served and served.endswith("\n{}\n")  # ls lists nothing
+    ids = re.findall(r'"id": "(\S+)"', (workdir.top / "mine.json").read_text())
+    assert len(set(ids)) == 3 and not any(it.startswith("11111111-") for it in ids)
 
 
 # A Bind of an instance that doesn't exist, and one whose body lacks the ids.

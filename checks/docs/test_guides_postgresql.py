@@ -111,13 +111,16 @@ psql -XAtc 'SELECT current_database()' -c 'SET ROLE NONE' -c 'CREATE SCHEMA own'
     "hostssl  all ",
     "umask 077\n",
     "export OSB_BROKER_PASSWORD=secret PGPASSFILE=",
+    "for n in 1 2 3; do\n",
+    "ask $one/service_bindings/app\n",
     "./osb-broker key > new.key\n",
 )
 def test_broker(texts: list[str], workdir: Workdir, port: int, machines: dict[str, Machine]) -> None:
-    """The credentials of a binding open the database that it sells, until the key is replaced. Nothing is left once the
-    instance is deleted. All is done in the order of the page, with the roles, databases and passwords of the page.
+    """The credentials of a binding open the database that it sells, until the key is replaced. Of three brokers, one is
+    killed, and the others go on. Nothing is left once the instances are deleted. All is done in the order of the page,
+    with the roles, databases and passwords of the page.
     """
-    of_db, of_shop, right, broker_rule, shop_rules, secrets, serve, rekey = (
+    of_db, of_shop, right, broker_rule, shop_rules, secrets, serve, several, others, rekey = (
         moved(placed(it, machines), port) for it in texts
     )
     db, shop = machines["db"], machines["shop"]
@@ -130,11 +133,16 @@ def test_broker(texts: list[str], workdir: Workdir, port: int, machines: dict[st
     shop.admit(shop_rules)
     create, delete = moved(block(BROKER, CREATE), port).split("ls build/broker/instances\n")
     start, stop = f"{serve.strip()} &\n{healthy(port)}", "kill $!; wait $!\n"
+    serving = 'until [ $(grep -c \'"event":"serving"\' ../err) = 4 ]; do sleep 0.05; done\n'  # the first, and three
+    three = (
+        f"{several}{serving}kill -9 %1\n{others}"
+        'ask -X DELETE "${one%/*}/my-third?service_id=$service&plan_id=$plan"\nkill %2 %3\nwait\n'
+    )
     out = workdir.run(
         f"{secrets}{start}{{\n{create}}} >answers\ncat answers\nuri=$(grep -o 'postgresql://[^\"]*' answers)\n{USE}"
-        f"{stop}{rekey}if psql -Xc '' \"$uri\"; then exit 1; fi\n{start}{delete}{stop}"
+        f"{stop}{three}{rekey}if psql -Xc '' \"$uri\"; then exit 1; fi\n{start}{delete}{stop}"
     )
-    assert statuses(out) == ["201", "201", "200", "200"]
+    assert statuses(out) == ["201", "201", "200", "201", "200", "200", "200"]
     sold = "osb_" + str(Id.of_text("my-first")).replace("-", "")
     assert f"\n{sold}\n" in out
     names = "SELECT datname FROM pg_database UNION ALL SELECT rolname FROM pg_roles;"
