@@ -71,20 +71,23 @@ def test_broker(texts: list[str], workdir: Workdir, port: int) -> None:
     "./osb-broker try ",
     "OSB_BROKER_PASSWORD=secret ./osb-broker serve --state build/mine ",
     "service=$(jq ",
+    'ask -X DELETE "$one/service_bindings/',
 )
 def test_backend_of_a_reader(texts: list[str], workdir: Workdir, port: int) -> None:
     """The copy of the example has no mistake, and ids of its own. It sells a database, with a binding. Nothing is left
     in the end.
     """
     needs("jq")
-    copy, attempt, serve, life = texts
-    serving = f"{moved(serve, port).strip()} &\n{healthy(port)}{moved(life, port)}kill %1; wait $!\n"
+    copy, attempt, serve, create, delete = texts
+    life = f"{moved(create, port)}ls build/mine/command\n{delete}"
+    serving = f"{moved(serve, port).strip()} &\n{healthy(port)}{life}kill %1; wait $!\n"
     out = workdir.run(f"{copy}{attempt}echo --\n{serving}ls build/mine/command\n")
     tried, _, served = out.partition("--\n")
     assert tried.endswith("\n48 ok, 0 failed\n")
     assert "\nok      create-binding 1: credentials: an object with the members database, token\n" in tried
-    assert statuses(served) == ["201", "201", "200", "200"]
-    assert '"token"' in served and served.endswith("\n{}\n")  # ls lists nothing
+    assert statuses(served) == ["201", "201", "200", "200", "200"]
+    assert served.count('"token"') == 2 and served.count(f"\n{FIRST}\n") == 1  # what ls lists
+    assert served.endswith("\n{}\n")  # the last ls lists nothing
     ids = re.findall(r'"id": "(\S+)"', (workdir.top / "mine.json").read_text())
     assert len(set(ids)) == 3 and not any(it.startswith("11111111-") for it in ids)
 
