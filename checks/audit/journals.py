@@ -1,8 +1,8 @@
 """Journals that are written by hand: a story is a list of short lines, each of which is a line of a journal.
 
 The words of a line are split by spaces. B is the broker, P the platform. A second process of a side is B2 or P2. The
-life is the instance, unless the line ends with `of binding`. `HELD` and `RECORD` are the short forms of held_text and
-record_text.
+life is the instance, unless the line ends with `of binding`. A line that begins with a digit is about another instance,
+whose id ends with this digit. `HELD` and `RECORD` are the short forms of held_text and record_text.
 
     P claim RECORD               changed, cause claim       B arrive VISIT REQUEST KIND    arrived
     P take ATTEMPT RECORD        changed, cause take        B change VISIT HELD            changed; VISIT 0 of none
@@ -11,7 +11,7 @@ record_text.
     P hear REQUEST STATUS BODY   answered                   B begin create|delete          work, begun alone
     P lose REQUEST               answered, lost             B end CALL RESULT              work, ended alone
     P abandon RECORD             changed, state abandoned   B credentials                  work, begun and ended
-                                                            B answer VISIT STATUS BODY     answered
+    P stop, B stop               stopped                    B answer VISIT STATUS BODY     answered
 
 Each change has as `before` what the last change of its row has left, unless `from HELD` or `from RECORD` follows. A
 word `!undone` or `!doubtful` behind a change has the line `undone` follow. Each word `@DIGEST` names credentials, and
@@ -110,7 +110,7 @@ class Journal:
     of_broker: dict[str, Any] = field(default_factory=started)
     time: int = 1_700_000_000_000_000
     lines: dict[str, list[str]] = field(default_factory=dict)
-    texts: dict[tuple[str, str], str] = field(default_factory=dict)
+    texts: dict[tuple[str, str, str], str] = field(default_factory=dict)
     changes: dict[str, int] = field(default_factory=dict)
     requests: dict[tuple[str, str], str] = field(default_factory=dict)
     named: dict[str, str] = field(default_factory=dict)
@@ -128,11 +128,12 @@ class Journal:
     def _tell(self, words: list[str]) -> None:
         binding = BINDING if words[-2:] == ["of", "binding"] else ""
         words = words[:-2] if binding else words
+        instance = f"{self.instance[:-1]}{words.pop(0)}" if words[0].isdigit() else self.instance
         self.named = dict(it.split("=", 1) for it in words if it.partition("=")[0] in NAMED)
         words = [it for it in words if it.partition("=")[0] not in NAMED]
         flags = [it for it in words if it.startswith(("!", "@", "saw="))]
         who, verb, *rest = [it for it in words if it not in flags]
-        more: dict[str, Any] = {"instance": self.instance, **({"binding": binding} if binding else {})}
+        more: dict[str, Any] = {"instance": instance, **({"binding": binding} if binding else {})}
         digest = next((it[1:] for it in flags if it.startswith("@")), "")
         more |= {"credentials": digest} if digest else {}
         more |= {"life": 1, "life_before": 0} if "!returned" in flags else {}
@@ -141,7 +142,7 @@ class Journal:
             self._end(who, verb, [verb, "done"], more)
             return
         saw = next((it[4:] for it in flags if it.startswith("saw=")), None)
-        of = binding or self.instance
+        of = binding or instance
         more |= {"saw": held_text(saw, self.plan, of, self.named)} if saw is not None else {}
         getattr(self, f"_{METHODS.get(verb, verb)}")(who, verb, rest, more)
         if "!undone" in flags or "!doubtful" in flags:
@@ -163,7 +164,7 @@ class Journal:
         return {it: more[it] for it in ("instance", "binding") if it in more}
 
     def _changed(self, who: str, more: dict[str, Any], after: str, before: str | None) -> None:
-        row = (who[0], more.get("binding", ""))
+        row = (who[0], more["instance"], more.get("binding", ""))
         self.changes[who] = self.changes.get(who, 0) + 1
         found = self.texts.get(row, "") if before is None else before
         self.write(who, "changed", {"change": self.changes[who], **more, "before": found, "after": after})
@@ -206,7 +207,7 @@ class Journal:
         self.write(who, "arrived", {"visit": int(visit), "request": request, **more, **asks})
 
     def _change(self, who: str, _: str, rest: list[str], more: dict[str, Any]) -> None:
-        of = more.get("binding", self.instance)
+        of = more.get("binding", more["instance"])
         before = held_text(rest[3], self.plan, of, self.named) if rest[2:3] == ["from"] else None
         visit = {"visit": int(rest[0])} if rest[0] != "0" else {}
         self._changed(who, {**visit, **more}, held_text(rest[1], self.plan, of, self.named), before)
@@ -229,6 +230,9 @@ class Journal:
 
     def _end(self, who: str, _: str, rest: list[str], more: dict[str, Any]) -> None:
         self.write(who, "work", {**more, "call": rest[0], "stage": "ended", "result": rest[1]})
+
+    def _stop(self, who: str, _: str, __: list[str], ___: dict[str, Any]) -> None:
+        self.write(who, "stopped", {})
 
     # ---- files
 
