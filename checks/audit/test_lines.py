@@ -44,7 +44,7 @@ def story_of(told: list[dict[str, Any]]) -> None:
             lines.append(read(Place(0, number), text))
         elif members["side"] == "broker":
             settings[members["process"]] = settings_in(text)
-    story(INSTANCE, lines, settings)
+    story(INSTANCE, lines, settings, {})
 
 
 @pytest.mark.parametrize("name", WRONG)

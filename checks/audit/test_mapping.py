@@ -29,7 +29,7 @@ def story_of(journal: Journal) -> Story:
                 lines.append(read(Place(at, number), text.encode()))
             elif members["side"] == "broker":
                 settings[members["process"]] = settings_in(text.encode())
-    return story(INSTANCE, lines, settings)
+    return story(INSTANCE, lines, settings, {})
 
 
 def short(text: str) -> str:

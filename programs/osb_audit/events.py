@@ -1,10 +1,11 @@
 """The events of the proved model that the lines of an instance are, with what the trace has to show after each."""
 from __future__ import annotations
 
-from typing import NamedTuple
+from typing import Mapping, NamedTuple
 
 from osb_audit.lines import Place
 from osb_audit.rules import Said
+from osb_audit.tails import Change
 
 COLUMNS = "line event step state out attempt phase work tombstone resource recorded credentials given answer".split()
 """Of a trace of `osb-replay network`."""
@@ -56,3 +57,6 @@ class Story(NamedTuple):
     """What both sides disagree about at the end."""
     notes: dict[str, int]
     """How often what was seen isn't in the model, by what it is."""
+    unshown: Mapping[Change, int] = {}
+    """The last changes of killed processes that count though nothing shows that they were committed, with their times.
+    """

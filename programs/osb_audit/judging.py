@@ -1,15 +1,20 @@
 """Judging: a worker gathers a bucket, goes through the lines of each of its instances, has the proved program step the
 events, and compares what the program traces with the journal.
+
+Before that, a worker looks for what the lines of a bucket show of the last changes of killed processes.
 """
 from __future__ import annotations
 
 from collections import Counter
-from typing import Iterator, Mapping, NamedTuple, Sequence
+from itertools import chain, combinations, islice
+from typing import Collection, Iterator, Mapping, NamedTuple, Sequence
 
 from osb_audit.events import COLUMNS, STEP, Event, Stop, Story
 from osb_audit.lines import INSTANCE, BadLine, Line, Place, read
+from osb_audit.ordering import shown
 from osb_audit.settings import Settings
 from osb_audit.story import story
+from osb_audit.tails import Change, Doubts
 from osb_replay_log.faults import UNABLE, Unreplayed, unread, unwritten
 from osb_replay_log.program import Program
 from osb_replay_log.spool import Room, shares
@@ -21,6 +26,11 @@ FULL = 40_000
 """From how many lines on a run is begun."""
 LOST = "lines were lost, because the journal couldn't be written"
 RECENT = "it went on after the audit had begun"
+UNSHOWN = "last changes of killed processes: judged as not committed, because nothing shows that they were"
+NEVER = 1 << 63
+"""A time behind all lines."""
+_CHOICES = 14
+"""How many choices are tried at most of the changes that weren't committed, besides all of them."""
 TOO_MANY = f"it has more than {MOST:,} events"
 
 
@@ -41,6 +51,7 @@ class Bucket(NamedTuple):
     program: Program
     settings: Mapping[str, Settings]
     gaps: tuple[Gap, ...]
+    doubts: Doubts = {}
 
 
 class Difference(NamedTuple):
@@ -157,10 +168,12 @@ class _Judge:
         self.unjudged: list[tuple[str, Place, str, bool]] = []
         self.notes: Counter[str] = Counter()
         self.bad: tuple[Place, str] | None = None
+        self.doubtful: dict[str, list[Line]] = {}
+        """The lines of the instances of which something is unshown, until they are judged."""
 
     def judged(self) -> Judged:
         batch = _Batch(self.bucket)
-        for instance, texts in sorted(self._texts().items()):
+        for instance, texts in sorted(_texts(self.bucket).items()):
             found = self._story(instance, texts)
             if found is None:
                 break
@@ -183,53 +196,41 @@ class _Judge:
             self.bad,
         )
 
-    def _texts(self) -> dict[str, list[bytes]]:
-        found: dict[str, list[bytes]] = {}
-        for share in shares(self.bucket.room, self.bucket.pieces, self.bucket.number):
-            try:
-                lines = share.read().split(b"\n")
-            except OSError as error:
-                raise unread(str(share.path), error) from error
-            for line in lines[:-1]:
-                instance = INSTANCE.search(line)
-                assert instance is not None  # so it was split
-                found.setdefault(instance[1].decode(), []).append(line)
-        return found
-
     def _story(self, instance: str, texts: list[bytes]) -> Story | None:
         """What the lines of an instance have come to; None if one of them can't be read."""
         lines = []
         for text in texts:
-            stretch, number, rest = text.split(b":", 2)
-            place = Place(int(stretch), int(number))
+            place, rest = _placed(text)
             try:
                 lines.append(read(place, rest))
             except BadLine as error:
                 self.bad = place, str(error)
                 return None
-        kept, why = self._before_gaps(lines)
-        found = story(instance, kept, self.bucket.settings) if kept else Story(instance, [], None, [], {})
+        found = self._told(instance, lines)
+        if found.unshown:
+            self.doubtful[instance] = lines
+        self.instances += 1
+        self.lines += len(lines)
+        return found
+
+    def _told(self, instance: str, lines: list[Line], without: Collection[Change] = ()) -> Story:
+        kept, why = _before_gaps(lines, self.bucket.gaps)
+        found = Story(instance, [], None, [], {})
+        if kept:
+            found = story(instance, kept, self.bucket.settings, self.bucket.doubts, without)
         if len(kept) < len(lines) and (found.stop is None or not found.stop.is_difference):
             first = min((it for it in lines if it not in set(kept)), key=lambda it: it.time)
             found = found._replace(stop=Stop(first.place, False, why), disagreements=[])
         if len(found.events) > MOST:
             stop = Stop(found.events[MOST].place, False, TOO_MANY)
             found = found._replace(events=found.events[:MOST], stop=stop, disagreements=[])
-        self.instances += 1
-        self.lines += len(lines)
         return found
-
-    def _before_gaps(self, lines: list[Line]) -> tuple[list[Line], str]:
-        """The lines of an instance that come before the first gap in its life, and why there is one."""
-        first, last = min(it.time for it in lines), max(it.time for it in lines)
-        gaps = [it for it in self.bucket.gaps if first <= it.end and last > it.begin]
-        if not gaps:
-            return lines, ""
-        gap = min(gaps)
-        return [it for it in lines if it.time <= gap.begin], gap.why
 
     def _take(self, batch: _Batch) -> None:
         for found, difference in batch.judged():
+            if found.unshown and (difference is not None or found.disagreements):
+                other = self._without(found, difference)
+                found, difference = (other, None) if other is not None else (found, difference)
             self.events += len(found.events)
             self.notes.update(found.notes)
             if difference is not None:
@@ -237,3 +238,87 @@ class _Judge:
             elif found.stop is not None:
                 self.unjudged.append((found.instance, found.stop.place, found.stop.why, not found.events))
             self.disagreements += [(found.instance, it) for it in found.disagreements]
+        self.doubtful.clear()
+
+    def _without(self, found: Story, difference: Difference | None) -> Story | None:
+        """The story without some of the changes of which nothing shows that they were committed, if nothing differs
+        then. A change that differs by itself stays: its process has made it, whether it was committed or not.
+        """
+        lines = self.doubtful[found.instance]
+        end = next((it.time for it in lines if difference is not None and it.place == difference.place), NEVER)
+        for without in _choices([it for it, time in found.unshown.items() if time < end]):
+            batch = _Batch(self.bucket)
+            batch.add(self._told(found.instance, lines, without))
+            ((other, differs),) = batch.judged()
+            if differs is None and not other.disagreements and _is_as_far(other.stop, found.stop):
+                return other._replace(notes={**other.notes, UNSHOWN: len(without)})
+        return None
+
+
+def _is_as_far(stop: Stop | None, before: Stop | None) -> bool:
+    """Whether a story is judged as far as it was before."""
+    return stop is None or stop == before or stop.why in (LOST, RECENT)
+
+
+def _choices(doubtful: Sequence[Change]) -> Iterator[Collection[Change]]:
+    """Which of these weren't committed, perhaps: as few as can be first, and in any case all."""
+    choices = chain.from_iterable(combinations(doubtful, many) for many in range(1, len(doubtful)))
+    yield from islice(choices, _CHOICES)
+    if doubtful:
+        yield doubtful
+
+
+def _texts(bucket: Bucket, instances: Collection[str] | None = None) -> dict[str, list[bytes]]:
+    """The lines of each instance, or of each of these."""
+    found: dict[str, list[bytes]] = {}
+    for share in shares(bucket.room, bucket.pieces, bucket.number):
+        try:
+            lines = share.read().split(b"\n")
+        except OSError as error:
+            raise unread(str(share.path), error) from error
+        for line in lines[:-1]:
+            instance = INSTANCE.search(line)
+            assert instance is not None  # so it was split
+            name = instance[1].decode()
+            if instances is None or name in instances:
+                found.setdefault(name, []).append(line)
+    return found
+
+
+def _placed(text: bytes) -> tuple[Place, bytes]:
+    """A line of a bucket, and its place."""
+    stretch, number, rest = text.split(b":", 2)
+    return Place(int(stretch), int(number)), rest
+
+
+def _before_gaps(lines: list[Line], known: Sequence[Gap]) -> tuple[list[Line], str]:
+    """The lines of an instance that come before the first gap in its life, and why there is one."""
+    first, last = min(it.time for it in lines), max(it.time for it in lines)
+    gaps = [it for it in known if first <= it.end and last > it.begin]
+    if not gaps:
+        return lines, ""
+    gap = min(gaps)
+    return [it for it in lines if it.time <= gap.begin], gap.why
+
+
+# ---- what the lines of others show
+
+
+class Looking(NamedTuple):
+    """What a worker is given: a bucket, and its instances that killed processes have changed last."""
+
+    bucket: Bucket
+    instances: frozenset[str]
+
+
+def look(looking: Looking) -> dict[Change, bool]:
+    """Which of the last changes of killed processes were committed, as far as these instances show that."""
+    bucket = looking.bucket
+    found: dict[Change, bool] = {}
+    for texts in _texts(bucket, looking.instances).values():
+        try:
+            lines = [read(*_placed(it)) for it in texts]
+        except BadLine:
+            continue  # whoever judges the instance reports that
+        found.update(shown(_before_gaps(lines, bucket.gaps)[0], bucket.doubts))
+    return found

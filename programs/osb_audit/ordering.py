@@ -2,9 +2,10 @@
 from __future__ import annotations
 
 from bisect import bisect
-from typing import Iterable, Iterator, Mapping, Sequence
+from typing import Collection, Iterable, Iterator, Mapping, NamedTuple, Sequence
 
 from osb_audit.lines import Line
+from osb_audit.tails import Change, Doubts
 
 Row = tuple[str, str]
 """A row of one side's store: the side, and the binding, or empty for the instance."""
@@ -15,22 +16,69 @@ def row_of(line: Line) -> Row:
     return line.side, line.key
 
 
-def ordered(lines: Iterable[Line]) -> list[Line]:
+class Counted(NamedTuple):
+    """The lines that count, in their order, and the changes among them of which nothing shows that they do."""
+
+    lines: list[Line]
+    unshown: list[Line]
+
+
+def ordered(lines: Iterable[Line], doubts: Doubts, without: Collection[Change] = ()) -> Counted:
     """The lines by their times, and the changes of a row also by what each has found.
 
     A change that was undone doesn't count. If nobody knows, because the store didn't say or the process was killed, the
-    change counts if the next change of the row has found it, or if there is none and a request has seen it.
+    change counts if the next change of the row has found it, or if there is none and a request has seen it. If nothing
+    shows whether the last change of a killed process was committed, it counts unless it is one of `without`.
     """
+    left, undone = _left(lines)
+    uncommitted = _uncommitted(left, undone, doubts, without)
+    counted = [it for it in left if it not in uncommitted]
+    unsure = (it for it in _last(counted) if it.change not in undone and doubts.get(it.change, True) is None)
+    return Counted(_postponed(_chained(counted)), [it for it in unsure if it.of["before"] != it.of["after"]])
+
+
+def _last(lines: Sequence[Line]) -> Iterator[Line]:
+    """The last change of each row, and before it those of the same broker: one commit may have several."""
+    last: dict[Row, str | None] = {}
+    for line in reversed(lines):
+        if line.event == "changed":
+            row = row_of(line)
+            if last.setdefault(row, line.process) == line.process:
+                yield line
+            if line.side == "platform" or last[row] != line.process:
+                last[row] = None
+
+
+def shown(lines: Iterable[Line], doubts: Doubts) -> Iterator[tuple[Change, bool]]:
+    """The changes of which the lines of others show that they were committed, or that they weren't."""
+    left, undone = _left(lines)
+    uncommitted = _uncommitted(left, undone, doubts, ())
+    following: dict[Row, Line] = {}
+    for line in reversed([it for it in left if it.event == "changed"]):
+        row, is_lost = row_of(line), line in uncommitted
+        if line.change in doubts and line.change not in undone and line.of["before"] != line.of["after"]:
+            it = following.get(row)
+            if it is not None and it.of["before"] == line.of["after"] and not is_lost:
+                yield line.change, True
+            elif is_lost and (it is None or it.change not in doubts and it.of["before"] == line.of["before"]):
+                yield line.change, False
+        if not is_lost:
+            following[row] = line
+
+
+def _left(lines: Iterable[Line]) -> tuple[list[Line], frozenset[Change]]:
+    """The lines by their times, without the changes that were surely undone, and the changes that others undo."""
     found = sorted(lines, key=lambda it: (it.time, it.place))
     undone = {it.change: bool(it.of.get("doubtful")) for it in found if it.event == "undone"}
     left = [
         it for it in found if it.event != "undone" and not (it.event == "changed" and undone.get(it.change) is False)
     ]
-    uncommitted = _uncommitted(left, frozenset(undone))
-    return _postponed(_chained([it for it in left if it not in uncommitted]))
+    return left, frozenset(undone)
 
 
-def _uncommitted(lines: Sequence[Line], undone: frozenset[tuple[str, int]]) -> set[Line]:
+def _uncommitted(
+    lines: Sequence[Line], undone: frozenset[Change], doubts: Doubts, without: Collection[Change]
+) -> set[Line]:
     """The changes that don't count, though nothing says that they were undone."""
     last: dict[tuple[str, Row], Line] = {}
     for line in lines:
@@ -38,16 +86,34 @@ def _uncommitted(lines: Sequence[Line], undone: frozenset[tuple[str, int]]) -> s
             last[line.process, row_of(line)] = line
     seen = {it for line in lines if line.event == "answered" and "saw" in line.of for it in _seen(line)}
     changes = [it for it in lines if it.event == "changed"]
-    unsure = {it for it in changes if it.change in undone or last[it.process, row_of(it)] is it}
-    found: set[Line] = set()
+    known = {it for it in changes if it.change not in undone and doubts.get(it.change) is not None}
+    unsure = {
+        it
+        for it in changes
+        if it not in known and (it.change in undone or it.change in doubts or last[it.process, row_of(it)] is it)
+    }
+    found = {it for it in changes if it.change in without or it in known and not doubts[it.change]}
     following: dict[Row, Line] = {}  # the next change of each row that counts
     for line in reversed(changes):
         row = row_of(line)
         if line in unsure and _is_lost(line, following.get(row), line.change in undone, seen):
             found.add(line)
-        else:
+        elif line not in found:
             following[row] = line
+    found |= _overtaken([it for it in changes if it not in found], doubts)
     return found | _made_before([it for it in changes if it not in found], unsure)
+
+
+def _overtaken(changes: Sequence[Line], doubts: Doubts) -> set[Line]:
+    """The last changes of killed platforms that have found what another change has found, too. Each record of a row is
+    another one, so that the other was committed shows that these weren't.
+    """
+    found = {it for it in changes if it.side == "platform" and doubts.get(it.change, True) is None}
+    if not found:
+        return found
+    others = {(row_of(it), it.of["before"]) for it in changes if it not in found and it.of["before"] != it.of["after"]}
+    latest = {row_of(it): it for it in changes}
+    return {it for it in found if latest[row_of(it)] is it and (row_of(it), it.of["before"]) in others}
 
 
 def _is_lost(line: Line, following: Line | None, is_doubtful: bool, seen: set[tuple[Row, str]]) -> bool:

@@ -8,6 +8,7 @@ from typing import Iterator, NamedTuple
 from zlib import crc32
 
 from osb_audit.lines import HEAD, INSTANCE, OF_INSTANCES, OF_LOST, BadLine, check, is_torn, members_of, newer, plain
+from osb_audit.tails import Tail
 from osb_replay_log import spool
 from osb_replay_log.faults import unwritten
 from osb_replay_log.lines import blocks
@@ -51,6 +52,8 @@ class Split(NamedTuple):
     lines: int
     events: int
     headings: tuple[Heading, ...]
+    tails: tuple[Tail, ...]
+    """What is left of each process that has written lines here."""
     torn: tuple[int, ...]
     """The lines that were cut off: the last of a file, or one that a line `started` or `lost` follows."""
     begins_anew: bool
@@ -69,6 +72,7 @@ class _Splitter:
         self.buckets: list[list[bytes]] = []
         self.lines = self.events = self.time = 0
         self.headings: list[Heading] = []
+        self.tails: dict[bytes, Tail] = {}
         self.odd: list[int] = []
         self.torn: list[int] = []
 
@@ -110,6 +114,8 @@ class _Splitter:
             place = b"%d:%d:" % (self.number, self.lines)
             self.buckets[crc32(found[1]) % self.many].append(place + text)
             self.events += 1
+            tail = self.tails.get(process) or self._tail(process, time)
+            tail.add(event, text, found[1])
         elif newer(side, event):
             known = "it is of a newer version than this osb-audit"
             return f"a {side.decode()} has no event {event.decode()!r} here: {known}"
@@ -117,8 +123,18 @@ class _Splitter:
             why = self._head(text, event.decode(), side.decode(), process.decode(), int(time))
             if why is not None:
                 return why
+            if event == b"stopped":
+                self._tail(process, time).stop()
+            elif event == b"lost":
+                self._tail(process, time).go_on()
         self.time = int(time)
         return None
+
+    def _tail(self, process: bytes, time: bytes) -> Tail:
+        tail = self.tails.get(process)
+        if tail is None:
+            tail = self.tails[process] = Tail(process.decode(), int(time))
+        return tail
 
     def _odd(self, text: bytes) -> str | None:
         """A line that was cut off may stand at the end, or before a line `started` or `lost`."""
@@ -161,6 +177,7 @@ def split(splitting: Splitting) -> Split:
         splitter.lines,
         splitter.events,
         tuple(found),
+        tuple(splitter.tails.values()),
         torn,
         begins_anew,
         bool(splitter.odd),

@@ -1,7 +1,7 @@
 """What the lines of one instance have come to."""
 from __future__ import annotations
 
-from typing import Mapping, Sequence
+from typing import Collection, Mapping, Sequence
 
 from osb_audit.broker_side import BrokerSide
 from osb_audit.events import Stop, Story
@@ -10,12 +10,21 @@ from osb_audit.ordering import ordered
 from osb_audit.platform_side import PlatformSide
 from osb_audit.rules import NoText
 from osb_audit.settings import Settings
+from osb_audit.tails import Change, Doubts
 from osb_audit.walk import Known, Stopped, settings_of
 
 
-def story(instance: str, lines: Sequence[Line], settings: Mapping[str, Settings]) -> Story:
-    """Goes through the lines of an instance. Settings are those of each process of a broker."""
-    found = ordered(lines)
+def story(
+    instance: str,
+    lines: Sequence[Line],
+    settings: Mapping[str, Settings],
+    doubts: Doubts,
+    without: Collection[Change] = (),
+) -> Story:
+    """Goes through the lines of an instance. Settings are those of each process of a broker. `without`: the changes
+    that don't count, among those of which nothing shows whether they were committed.
+    """
+    found, unshown = ordered(lines, doubts, without)
     of_broker = settings_of(found, settings)
     if isinstance(of_broker, str):
         return Story(instance, [], Stop(lines[0].place, False, of_broker), [], {})
@@ -31,4 +40,4 @@ def story(instance: str, lines: Sequence[Line], settings: Mapping[str, Settings]
             stop = Stop(line.place, True, str(error), "a text of the library", "another one")
         if stop is not None:
             break
-    return known.story(stop)
+    return known.story(stop)._replace(unshown={it.change: it.time for it in unshown})

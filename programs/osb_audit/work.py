@@ -6,8 +6,10 @@ import shlex
 from collections import Counter
 from itertools import accumulate
 from typing import Iterator, Mapping, NamedTuple, Sequence
+from zlib import crc32
 
-from osb_audit.judging import LOST, RECENT, Bucket, Difference, Gap, Judged, judge
+from osb_audit import tails
+from osb_audit.judging import LOST, NEVER, RECENT, Bucket, Difference, Gap, Judged, Looking, judge, look
 from osb_audit.lines import BadLine, Place
 from osb_audit.settings import Settings, settings_in
 from osb_audit.splitting import Heading, Split, Splitting, split
@@ -22,7 +24,6 @@ from osb_replay_log.spool import Room
 _BUCKET = 16 << 20
 """About how many bytes a bucket has."""
 _MOST_BUCKETS = 4096
-_NEVER = 1 << 63
 _ENDINGS = (".jsonl", ".jsonl.gz")
 
 
@@ -133,8 +134,10 @@ def audit(work: Work, engine: Engine) -> Audited:
     settings = _settings(splits, places)
     gaps = tuple(_gaps(headings, work.until))
     counts = tuple(it.pieces for it in splits)
-    buckets = (Bucket(work.room, number, counts, work.program, settings, gaps) for number in range(many))
-    judged = _judge(work, engine, buckets, sum(it.events for it in splits), places)
+    buckets = [Bucket(work.room, number, counts, work.program, settings, gaps) for number in range(many)]
+    doubts = _doubts(engine, splits, buckets)
+    given = (it._replace(doubts=doubts) for it in buckets)
+    judged = _judge(work, engine, given, sum(it.events for it in splits), places)
     torn = ["{}:{}".format(*places.told(Place(it.number, line))) for it in splits for line in it.torn]
     return Audited(judged, _processes(headings), sum(it.missing for it in headings), torn, places)
 
@@ -144,7 +147,7 @@ def _gaps(headings: Sequence[Heading], until: int | None) -> Iterator[Gap]:
         if it.event == "lost":
             yield Gap(it.before, it.time, LOST)
     if until is not None:
-        yield Gap(until, _NEVER, RECENT)
+        yield Gap(until, NEVER, RECENT)
 
 
 def _size(log: Log) -> int:
@@ -209,6 +212,24 @@ def _settings(splits: Sequence[Split], places: Places) -> dict[str, Settings]:
 
 def _processes(headings: Sequence[Heading]) -> Counter[str]:
     return Counter(side for side, _ in {(it.side, it.process) for it in headings})
+
+
+def _doubts(engine: Engine, splits: Sequence[Split], buckets: Sequence[Bucket]) -> tails.Doubts:
+    """The changes of which no line of their process shows that they were committed, and what the lines of others show
+    of them. Only claims show something of each other.
+    """
+    left = tails.joined(tail for it in splits for tail in it.tails)
+    unknown = tails.doubts(left, {})
+    shown: dict[tails.Change, bool] = {}
+    instances: dict[int, set[str]] = {}
+    for tail in left:
+        if len(tail.claims) > 1:
+            for it in tail.claims:
+                instances.setdefault(crc32(it.instance) % len(buckets), set()).add(it.instance.decode())
+    given = (Looking(buckets[at]._replace(doubts=unknown), frozenset(its)) for at, its in instances.items())
+    for seen in engine.each(look, given):
+        shown.update(seen)
+    return tails.doubts(left, shown)
 
 
 def _judge(work: Work, engine: Engine, buckets: Iterator[Bucket], lines: int, places: Places) -> list[Judged]:
