@@ -90,12 +90,13 @@ class Platform:
 @pytest.mark.long(15)
 def test_platform_abandons_nothing(storm: Path, platform: Path, replay: Path, tmp_path: Path) -> None:
     """osb-platform abandons nothing, has nothing in vain, and breaks no rule. The journals of both sides are as the
-    model says.
+    model says. The faults end two seconds after the last order, however long a busy machine takes for all of them.
     """
     store, key, journals = tmp_path / "store", tmp_path / "key", tmp_path / "journals"
     listed = f"{platform} --store {store} --key-file {key} list --state ready"
     words = "--list-command", f"{listed} | cut -f1", "--json", str(tmp_path / "json"), "--journal", str(journals)
-    with storming(storm, *words, "--seed", "2") as (process, port):
+    ordered = "--order-command", f"until [ -e {tmp_path}/ordered ]; do sleep 0.1; done; sleep 2", "--seconds", "150"
+    with storming(storm, *words, *ordered, "--seed", "2") as (process, port):
         it = Platform(platform, tmp_path, port)
         with it.running():
             for plan in ("at-once", "by-worker", "bindings-by-worker") * 5:
@@ -105,6 +106,7 @@ def test_platform_abandons_nothing(storm: Path, platform: Path, replay: Path, tm
                 it.run("bind", id)
             for id in it.ids()[::2]:
                 it.run("remove", id, "--bindings")
+            (tmp_path / "ordered").touch()
             text, errors = process.communicate(timeout=150)
     report = json.loads((tmp_path / "json").read_text())
     assert process.returncode == 0, text + errors
