@@ -152,7 +152,7 @@ def test_planted_in_storm(audit: Audit, storm: Path, tmp_path: Path, name: str) 
     at, (slip, statuses) = free_address(), IN_STORM[name]
     with serving(built(slip, tmp_path), tmp_path, at):
         words = "--url", f"http://{at}", "--journal", str(tmp_path / "journals"), "--instances", "6", "--seconds", "2"
-        line = [str(storm), "broker", *words, "--request-seconds", "0.4", "--late-seconds", "0.8", "--seed", "1"]
+        line = [str(storm), "broker", *words, "--request-seconds", "2", "--late-seconds", "3", "--seed", "1"]
         done = subprocess.run(line, env=ENVIRONMENT, stdin=subprocess.DEVNULL, capture_output=True, text=True)
     assert done.returncode in statuses, done.stdout + done.stderr
     ran = audit(tmp_path / "journals", tmp_path / "journals" / "platform")

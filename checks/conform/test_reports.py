@@ -15,12 +15,9 @@ from ports import free_address
 
 pytestmark = pytest.mark.slow
 
-SHORT = (
-    *("--seconds", "4", "--instances", "20", "--fault-percent", "50", "--late-seconds", "0.8"),
-    *("--request-seconds", "0.4", "--poll-seconds", "0.1"),
-)
-SEEDS = 5
-"""In so many storms a mistake must show at least once: on a busy machine other requests meet the faults."""
+SHORT = "--seconds", "2", "--instances", "20", "--poll-seconds", "0.1", "--request-seconds", "1", "--late-seconds", "1.5"
+REPEATED = "".join(f"{instance}.1 repeated\n" for instance in range(1, 21))
+"""The faults: each creation reaches the broker twice."""
 
 
 def ran(*line: object, seconds: float = 120) -> subprocess.CompletedProcess[str]:
@@ -63,17 +60,16 @@ def test_failed_run_changes_no_report(storm: Path, tmp_path: Path) -> None:
         assert kept.read_text() == "before" and not new.exists()
 
 
-def of_twice_broker(
-    storm: Path, instances: Path, seed: int, files: dict[str, Path]
-) -> subprocess.CompletedProcess[str]:
+def of_twice_broker(storm: Path, instances: Path, files: dict[str, Path]) -> subprocess.CompletedProcess[str]:
     """A storm with these files of reports, each of which has something longer before, unless nothing can be written."""
-    broker = TwiceBroker(instances)
+    broker, faults = TwiceBroker(instances), instances.with_suffix(".faults")
+    faults.write_text(REPEATED)
     for file in files.values():
         if file != Path("/dev/full"):
             file.write_text("x" * 1_000_000)
     with broker.running():
         options = [it for pair in files.items() for it in pair]
-        found = ("--list-command", broker.list_command, "--seed", seed)
+        found = ("--list-command", broker.list_command, "--faults", faults)
         return ran(storm, "broker", "--url", broker.url, *SHORT, *found, *options)
 
 
@@ -83,10 +79,7 @@ def test_all_reports_are_written(storm: Path, tmp_path: Path) -> None:
     for full in "--json", "--html", "--faults-to":
         files = {it: tmp_path / f"report{it}" for it in ("--json", "--html", "--faults-to")}
         files[full] = Path("/dev/full")
-        for seed in range(SEEDS):
-            done = of_twice_broker(storm, tmp_path / f"{full}{seed}", seed, files)
-            if "it exists twice" in done.stdout:
-                break
+        done = of_twice_broker(storm, tmp_path / full, files)
         assert (done.returncode, done.stderr.count("\n")) == (1, 1), done.stdout + done.stderr
         assert done.stderr.startswith("osb-storm: the report can't be written: write /dev/full: "), done.stderr
         assert "it exists twice" in done.stdout
