@@ -16,6 +16,12 @@ from release.making import make
 MODULES = ("setuptools", "wheel")
 
 
+def pytest_itemcollected(item: pytest.Item) -> None:
+    """A release is built only in the whole gate: that takes two minutes of the processors."""
+    if "dist" in getattr(item, "fixturenames", ()):
+        item.add_marker(pytest.mark.whole)
+
+
 @pytest.fixture(scope="session")
 def dist(tmp_path_factory: pytest.TempPathFactory) -> Path:
     """The folder with the files of a release. The first process of pytest that needs it makes it."""

@@ -66,7 +66,6 @@ def debian(tmp_path: Path) -> Iterator[Fresh]:
     shutil.rmtree(tmp_path / "debian")
 
 
-@pytest.mark.whole
 @pytest.mark.long(170)
 def test_package(dist: Path, version: str, debian: Fresh, tmp_path: Path) -> None:
     before = files(debian)

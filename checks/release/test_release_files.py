@@ -58,7 +58,6 @@ def digest(file: Path) -> str:
     return hashlib.sha256(file.read_bytes()).hexdigest()
 
 
-@pytest.mark.whole
 @pytest.mark.long(45)
 def test_same_bytes_twice(dist: Path, version: str, tmp_path: Path, monkeypatch: pytest.MonkeyPatch) -> None:
     """Also from a checkout in another folder, beside files of an earlier release, and under another umask, time zone
