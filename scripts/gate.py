@@ -240,7 +240,7 @@ class Tests:
             self._by_the_clock = self._begin_by_the_clock()
         # More tests than there are processors: many wait most of their time, and fewer with the race detector.
         many = os.environ.get("PYTEST_XDIST_AUTO_NUM_WORKERS") or str(self._processors + (1 if self._whole else 3))
-        line = self._line("others", "-n", many, "-m", "not alone" if self._whole else "not alone and not whole")
+        line = self._line("others", "-n", many, "-m", self._marked("not alone"))
         return by_report(run(line, gives_way=True), self._report("others"))
 
     def by_the_clock(self) -> Result:
@@ -253,7 +253,12 @@ class Tests:
     def _begin_by_the_clock(self) -> subprocess.Popen[bytes]:
         few = "2" if self._processors >= 4 else "1"
         output = self._stack.enter_context(open(self._folder / "output", "wb"))
-        return self._stack.enter_context(started(self._line("alone", "-n", few, "-m", "alone"), output))
+        line = self._line("alone", "-n", few, "-m", self._marked("alone"))
+        return self._stack.enter_context(started(line, output))
+
+    def _marked(self, these: str) -> str:
+        """The expression for these tests."""
+        return these if self._whole else f"{these} and not whole"
 
     def _line(self, name: str, *options: str) -> list[str]:
         report = f"--junitxml={self._report(name)}"

@@ -112,13 +112,20 @@ def test_all_pass(repository: Repository) -> None:
 
 @pytest.mark.slow
 def test_whole(repository: Repository) -> None:
-    """With --tests, what is marked `whole` is left out, and the tests of Go are told so."""
+    """With --tests, what is marked `whole` is left out, also of the tests that go by the clock, and the tests of Go are
+    told so.
+    """
     told = "import os\n\ndef test_one(): assert os.environ.get('OSB_WHOLE') =="
+    with open(repository.top / "test_alone.py", "a") as file:
+        file.write("\n@pytest.mark.alone\n@pytest.mark.whole\ndef test_long_clock(): assert False\n")
     repository.tests(f"@pytest.mark.whole\ndef test_format(): assert False\n\n{told} None")
     assert repository.check("--tests") == (0, "2 passed, 0 failed, 0 skipped", [])
     repository.tests(f"@pytest.mark.whole\ndef test_format(): assert False\n\n{told} '1'")
-    failures = ["FAILED: pytest -m 'not alone': test_some::test_format"]
-    assert repository.check() == (1, "10 passed, 1 failed, 0 skipped", failures)
+    failures = [
+        "FAILED: pytest -m 'not alone': test_some::test_format",
+        "FAILED: pytest -m alone: test_alone::test_long_clock",
+    ]
+    assert repository.check() == (1, "10 passed, 2 failed, 0 skipped", failures)
 
 
 KIT = """
