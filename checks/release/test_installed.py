@@ -208,8 +208,7 @@ def check_without_systemd(debian: Fresh) -> None:
         done >/dev/null 2>&1
         {"".join(uses)}
         kill %1 %2
-        wait %1
-        wait %2
+        wait
         rm -r /tmp/var /etc/osb/*"""
     )
     assert_first_instance(printed)
