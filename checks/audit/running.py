@@ -22,11 +22,11 @@ def serving(
     with open(folder / log, "wb") as file:
         process = subprocess.Popen([broker, *words], env=ENVIRONMENT, stdin=subprocess.DEVNULL, stderr=file)
     try:
-        until(lambda: '"event":"serving"' in (folder / log).read_text(), 20)
+        until(lambda: '"event":"serving"' in (folder / log).read_text())
         yield
     finally:
         process.terminate()
-        assert process.wait(20) == 0
+        assert process.wait(60) == 0
 
 
 class Platform:
@@ -60,7 +60,7 @@ class Platform:
             yield
         finally:
             process.terminate()
-            assert process.wait(20) == 0
+            assert process.wait(60) == 0
 
     def _run(self, *words: str) -> subprocess.CompletedProcess[str]:
         line = [str(self._program), *words, *self._store, *self._journal]

@@ -70,12 +70,12 @@ class Platform:
         with open(self._log, "wb") as log:
             process = subprocess.Popen(line, env=self._environment, stdin=subprocess.DEVNULL, stderr=log)
         try:
-            until(lambda: self.run("broker", "list").returncode == 0 and "error" not in self._log.read_text(), 20)
-            until(lambda: self.run("create", "--service", "osb-storm", "--plan", "at-once").returncode == 0, 20)
+            until(lambda: self.run("broker", "list").returncode == 0 and "error" not in self._log.read_text())
+            until(lambda: self.run("create", "--service", "osb-storm", "--plan", "at-once").returncode == 0)
             yield
         finally:
             process.terminate()
-            assert process.wait(20) == 0
+            assert process.wait(60) == 0
 
     def run(self, *words: str) -> subprocess.CompletedProcess[str]:
         """Runs a command."""
@@ -177,9 +177,9 @@ def test_signal_ends_the_orders(storm: Path, tmp_path: Path, number: int) -> Non
     name, orders, *lists = ordering(1, tmp_path)
     orders = f"{orders}; sleep 1000 & echo $! >{tmp_path / 'new'}; mv {tmp_path / 'new'} {tmp_path / 'pid'}; wait"
     with storming(storm, "--fault-percent", "0", "--seconds", "60", name, orders, *lists) as (process, _):
-        until((tmp_path / "pid").exists, 20)
+        until((tmp_path / "pid").exists)
         child = Path("/proc") / (tmp_path / "pid").read_text().strip() / "stat"
-        until(lambda: " (sleep) " in child.read_text(), 20)
+        until(lambda: " (sleep) " in child.read_text())
         process.send_signal(number)
         text, errors = process.communicate(timeout=30)
     assert (process.returncode, errors) == (1, "") and "the run was ended before\n" in text, text + errors

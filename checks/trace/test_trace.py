@@ -75,7 +75,7 @@ def test_each_line_is_written_before_the_next_is_read(replay: Path) -> None:
         assert next_lines(process.stdout, 1) == ["2\trestart\tapplied, 0 changed\t-\t-\t-\t-"]
         process.stdin.close()
         assert (process.stdout.read(), process.stderr.read()) == (b"", b"")
-        assert process.wait(20) == 0
+        assert process.wait(60) == 0
 
 
 def test_the_lines_before_a_fault_stay(replay: Path) -> None:
@@ -117,4 +117,4 @@ def test_a_reader_that_goes_away(replay: Path, tmp_path: Path) -> None:
         assert os.read(process.stdout.fileno(), 1)
         process.stdout.close()
         assert process.stderr.read() == b"osb-replay: write failed\n"
-        assert process.wait(20) == 4
+        assert process.wait(60) == 4
