@@ -35,8 +35,8 @@ Only the first plan of the catalogue is tried, unless you pass --plan or --all-p
 expensive. A rejected creation (exit status 3 of the program) counts as failed, because the calls after it
 can't be tried. Pass --parameters that the plan accepts.
 
-After SIGINT or SIGTERM, the command deletes what it has created, for at most --stop-seconds. A second
-signal ends it at once.
+After SIGINT, SIGTERM or SIGHUP, the command deletes what it has created, for at most --stop-seconds. A
+second SIGINT or SIGTERM ends it at once.
 
 The command needs no password of a platform. With --backend postgresql://.., it needs the server's password
 and key, as serve does, and a broker must have used the server before.
@@ -108,7 +108,13 @@ func (t *tried) run(ctx context.Context, out, stderr io.Writer) (status int, err
 		defer cancel()
 		_ = queue.Close(until)
 	}()
-	stop, forget := signal.NotifyContext(ctx, syscall.SIGTERM, syscall.SIGINT)
+	signals := []os.Signal{syscall.SIGTERM, syscall.SIGINT}
+	if !signal.Ignored(syscall.SIGHUP) { // nohup ignores it
+		signals = append(signals, syscall.SIGHUP)
+		// A terminal that is closed sends SIGHUP several times, so no second one ends the process.
+		signal.Notify(make(chan os.Signal, 1), syscall.SIGHUP)
+	}
+	stop, forget := signal.NotifyContext(ctx, signals...)
 	defer forget()
 	go func() {
 		<-stop.Done()

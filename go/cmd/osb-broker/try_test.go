@@ -238,7 +238,7 @@ func slow(t *testing.T, text string) string {
 
 // A signal ends the call that runs, and what exists is deleted.
 func TestTryStops(t *testing.T) {
-	for _, signal := range []os.Signal{syscall.SIGTERM, os.Interrupt} {
+	for _, signal := range []os.Signal{syscall.SIGTERM, os.Interrupt, syscall.SIGHUP} {
 		state := t.TempDir()
 		run := runTry(t, nil, signalAt(t, state+"/begun", signal),
 			"--state", state, "--backend", slow(t, ""), "--catalog", unbindable(t))
@@ -267,6 +267,19 @@ func TestTryStopsLate(t *testing.T) {
 		signalAt(t, state+"/deleting", os.Interrupt)(command)
 	}, "--state", state, "--backend", slow(t, neverDeletes), "--catalog", unbindable(t))
 	if run.status != -1 || run.last() != "ok      look instance 1: none" {
+		t.Errorf("status %d, %s%s", run.status, run.stdout, run.stderr)
+	}
+}
+
+// A terminal that is closed sends SIGHUP several times: what exists is deleted all the same.
+func TestTryHangsUpTwice(t *testing.T) {
+	state := t.TempDir()
+	run := runTry(t, nil, func(command *exec.Cmd) {
+		signalAt(t, state+"/begun", syscall.SIGHUP)(command)
+		signalAt(t, state+"/deleting", syscall.SIGHUP)(command)
+	}, "--state", state, "--catalog", unbindable(t),
+		"--backend", slow(t, `[ "$1" != delete ] || { : >../deleting; sleep 0.3; }`))
+	if run.status != 1 || run.last() != "4 ok, 0 failed" || run.stderr != "" {
 		t.Errorf("status %d, %s%s", run.status, run.stdout, run.stderr)
 	}
 }
