@@ -119,7 +119,7 @@ func adviseDeletion(last client.Told, fetch said, hasTombstones bool) advice {
 		return askAboutOther
 	case says == saysHeld || fetch == saysHeld:
 		return repairWhole
-	case says == saysPending:
+	case says == saysPending && last.State == "failed":
 		return repairPart
 	case says == saysNone && hasTombstones:
 		return retryNothing

@@ -121,6 +121,19 @@ func TestAdviceOfDeletions(t *testing.T) {
 	}
 }
 
+// A 200 that names no state of the standard doesn't say that an operation has failed.
+func TestAdviceOfDeletionsWithoutState(t *testing.T) {
+	for _, hasTombstones := range []bool{true, false} {
+		for fetch, want := range map[said]advice{
+			saysNothing: askWhetherExists, saysNone: askWhetherExists, saysHeld: repairWhole,
+		} {
+			if got := adviseDeletion(client.Told{Status: 200}, fetch, hasTombstones); got != want {
+				t.Errorf("tombstones %v, Fetch %v: %v", hasTombstones, fetch, got)
+			}
+		}
+	}
+}
+
 // For what neither waits for a decision nor is to be deleted there is no advice. A binding is deleted by unbind.
 func TestAdviceOfOthers(t *testing.T) {
 	of := func(state platform.State) question {
