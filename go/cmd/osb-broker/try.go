@@ -179,7 +179,10 @@ func (t *tried) end(report *tryReport, failed error) (status int, err error) {
 func (t *tried) tryAll(ctx context.Context, log *logs.Logger, report *tryReport) error {
 	p := &parts{}
 	defer p.closeAll()
-	if err := p.openBackend(ctx, t.settings, log); err != nil {
+	if err := p.openBackend(ctx, t.settings, log); ctx.Err() != nil {
+		report.stopped()
+		return nil
+	} else if err != nil {
 		return err
 	}
 	if err := p.openLocks(t.settings); err != nil {
@@ -248,6 +251,7 @@ func (t *tried) chosen(document []byte) ([]try.Plan, error) {
 // tryPlan tries one plan, unless ctx is done.
 func (t *tried) tryPlan(ctx context.Context, p *parts, plan try.Plan, report *tryReport) error {
 	if ctx.Err() != nil {
+		report.stopped()
 		return nil
 	}
 	report.line("try", plan.String())

@@ -271,6 +271,17 @@ func TestTryStopsLate(t *testing.T) {
 	}
 }
 
+// A signal also ends the test while the program reports its capabilities. That is no mistake of an argument.
+func TestTryStopsAtOnce(t *testing.T) {
+	state := t.TempDir()
+	run := runTry(t, nil, signalAt(t, state+"/begun", os.Interrupt), "--state", state, "--catalog", unbindable(t),
+		"--backend", backendWith(t, `[ "$1" != capabilities ] || { : >../begun; sleep 60; }`))
+	wanted := "stopped by a signal, before all calls were tried\n0 ok, 0 failed\n"
+	if run.status != 1 || run.stdout != wanted || run.stderr != "" {
+		t.Errorf("status %d, %s%s", run.status, run.stdout, run.stderr)
+	}
+}
+
 // A terminal that is closed sends SIGHUP several times: what exists is deleted all the same.
 func TestTryHangsUpTwice(t *testing.T) {
 	state := t.TempDir()

@@ -52,7 +52,6 @@ func reasonOf(err error) string {
 func (r *tryReport) add(result try.Result) {
 	r.total.OK += result.OK
 	r.total.Failed += result.Failed
-	r.total.IsStopped = r.total.IsStopped || result.IsStopped
 	r.total.Left = append(r.total.Left, result.Left...)
 	if result.Failed > 0 || len(result.Left) > 0 {
 		for _, it := range result.IDs {
@@ -63,8 +62,16 @@ func (r *tryReport) add(result try.Result) {
 		r.line("left", it+" couldn't be deleted. Delete it by hand")
 	}
 	if result.IsStopped {
+		r.stopped()
+	}
+}
+
+// stopped writes once that a signal has ended the test.
+func (r *tryReport) stopped() {
+	if !r.total.IsStopped {
 		r.line("stopped", "by a signal, before all calls were tried")
 	}
+	r.total.IsStopped = true
 }
 
 // isClean is whether all was tried, succeeded and is deleted.
