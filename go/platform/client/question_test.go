@@ -30,6 +30,8 @@ func TestQuestions(t *testing.T) {
 			Told{Status: 200, State: "in progress"}},
 		{false, true, "200 OK", `{"state": "failed"}`, target + "/service_bindings/a%20binding/last_operation?",
 			Told{Status: 200, State: "failed"}},
+		{false, false, "200 OK", `{}`, target + "/last_operation?", Told{Status: 200}},
+		{false, false, "200 OK", `{"state": "done"}`, target + "/last_operation?", Told{Status: 200}},
 		{false, false, "410 Gone", `{}`, target + "/last_operation?", Told{Status: 410}},
 		{false, false, "410 Gone", ``, target + "/last_operation?", Told{Status: 410}},
 		{false, false, "410 Gone", `<html>`, target + "/last_operation?", Told{Status: 410, IsUnsure: true}},
