@@ -73,6 +73,7 @@ const (
 	repairWhole                    // of a deletion: it exists
 	askAboutOther                  // of a deletion: the broker holds something else
 	askWhetherExists               // of a deletion: nobody knows whether it exists
+	askWhoIsRight                  // of a deletion: the answers contradict each other
 )
 
 // advise chooses the advice. A deletion is advised only if the answers don't contradict each other, and if it can't
@@ -112,7 +113,7 @@ func adviseDeletion(last client.Told, fetch said, hasTombstones bool) advice {
 	}
 	switch {
 	case areContrary(says, fetch):
-		return askAboutContrary
+		return askWhoIsRight
 	case says == saysPending && last.State == "in progress":
 		return waitForBroker
 	case says == saysOther:
@@ -191,6 +192,8 @@ var advices = map[advice]string{
 		"has repaired that, run 'osb-platform retry ID'",
 	askAboutOther: "the broker holds something else under this id. Ask its operator whether anything of yours is left. " +
 		"If not, end the record: 'osb-platform abandon ID --because TEXT'",
+	askWhoIsRight: "the answers contradict each other: the last operation and the Fetch don't agree on what the broker " +
+		"holds. The platform goes on with the deletion. Ask the broker's operator whether it exists",
 	askWhetherExists: "the answers don't say whether it exists. Ask the broker's operator. If it exists, 'last reason' of " +
 		"'osb-platform show ID' is what to repair. Then run 'osb-platform retry ID'",
 }
