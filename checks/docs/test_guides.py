@@ -83,7 +83,7 @@ def test_backend_of_a_reader(texts: list[str], workdir: Workdir, port: int) -> N
     serving = f"{moved(serve, port).strip()} &\n{healthy(port)}{life}kill %1; wait $!\n"
     out = workdir.run(f"{copy}{attempt}echo --\n{serving}ls build/mine/command\n")
     tried, _, served = out.partition("--\n")
-    assert tried.endswith("\n48 ok, 0 failed\n")
+    assert tried.endswith("\n52 ok, 0 failed\n")
     assert "\nok      create-binding 1: credentials: an object with the members database, token\n" in tried
     assert statuses(served) == ["201", "201", "200", "200", "200"]
     assert served.count('"token"') == 2 and served.count(f"\n{FIRST}\n") == 1  # what ls lists

@@ -150,6 +150,14 @@ func TestMistakesOfBindings(t *testing.T) {
 		}, failed: []string{
 			"look-binding 2: none, and not whole", "look-binding 2: none, and not whole", "look-binding 2: none, and not whole",
 		}},
+		"a binding can't be created after its deletion": {bindings: true, make: func(f *fake) {
+			f.create = func(r broker.Request) error {
+				if r.Key.IsBinding && f.deleted[r.Key] > 0 {
+					return errOfBackend
+				}
+				return f.ownCreate(r)
+			}
+		}, failed: []string{"create-binding 1 after its deletion: exit status 1: of the backend"}},
 		"delete-binding deletes the other binding": {bindings: true, make: func(f *fake) {
 			f.delete = func(r broker.Request) error {
 				if f.nth(r.Key) == binding1 {

@@ -45,6 +45,7 @@ func (t *trial) unbind(ctx context.Context) {
 		t.delete(ctx, it)
 		if at == 0 {
 			t.deleteAgain(ctx, it)
+			t.recreate(ctx, it)
 		}
 		for _, other := range t.bindings[at+1:] {
 			t.isUntouched(ctx, other)
@@ -139,6 +140,28 @@ func (t *trial) delete(ctx context.Context, r *resource) {
 func (t *trial) deleteAgain(ctx context.Context, r *resource) {
 	if r.isCreated || r.mayExist {
 		t.remove(ctx, r, r.step("delete")+" again")
+	}
+}
+
+// recreate creates a deleted binding once more, and deletes it. A broker does so if it was killed during the creation and
+// doesn't get the credentials.
+func (t *trial) recreate(ctx context.Context, r *resource) {
+	if !r.isCreated || r.mayExist {
+		return
+	}
+	isCreated := t.try(ctx, r.step("create")+" after its deletion", func() (string, error) {
+		r.mayExist = true
+		credentials, err := t.calls.create(ctx, r)
+		if err != nil {
+			return "", err
+		}
+		return "credentials: " + described(credentials), nil
+	})
+	if isCreated {
+		t.look(ctx, r, broker.Whole)
+	}
+	if r.mayExist {
+		t.remove(ctx, r, r.step("delete")+" once more")
 	}
 }
 

@@ -26,6 +26,8 @@ var allSteps = []string{
 	"look-binding 2: whole", "credentials of binding 2: those of create-binding",
 	"look-binding 1 of instance 2: whole", "credentials of binding 1 of instance 2: those of create-binding",
 	"delete-binding 1", "look-binding 1: none", "delete-binding 1 again", "look-binding 1: none",
+	"create-binding 1 after its deletion" + came, "look-binding 1: whole",
+	"delete-binding 1 once more", "look-binding 1: none",
 	"look-binding 2: whole", "look-binding 1 of instance 2: whole", "look instance 1: whole",
 	"delete-binding 2", "look-binding 2: none", "look-binding 1 of instance 2: whole", "look instance 1: whole",
 	"delete-binding 1 of instance 2", "look-binding 1 of instance 2: none", "look instance 2: whole",
@@ -80,7 +82,7 @@ func TestLessIsSupported(t *testing.T) {
 	}
 }
 
-// The requests are those of one Provision and one Bind each.
+// The requests are those of one Provision and one Bind each, also if a creation is repeated.
 func TestRequests(t *testing.T) {
 	f := newFake(t)
 	tries(ctx, t, f, locks{}, Options{Plan: bindable, Parameters: json.RawMessage(`{"size": "small"}`)})
@@ -90,7 +92,8 @@ func TestRequests(t *testing.T) {
 	for _, key := range f.order {
 		requests := f.created[key]
 		first := requests[0]
-		if key.IsBinding != (len(requests) == 1) || !reflect.DeepEqual(first, requests[len(requests)-1]) {
+		isRepeated := !key.IsBinding || key == f.order[binding1-1]
+		if isRepeated != (len(requests) == 2) || !reflect.DeepEqual(first, requests[len(requests)-1]) {
 			t.Errorf("%v was created by %v", key, requests)
 		}
 		var body map[string]any

@@ -106,7 +106,7 @@ func TestTryExample(t *testing.T) {
 			t.Errorf("there is no line %q", line)
 		}
 	}
-	if run.status != 0 || run.last() != "48 ok, 0 failed" || run.stderr != "" || len(run.temporary) > 0 ||
+	if run.status != 0 || run.last() != "52 ok, 0 failed" || run.stderr != "" || len(run.temporary) > 0 ||
 		!strings.HasPrefix(run.stdout, "try     plan now of service database\n") {
 		t.Errorf("status %d, %s%s, left are %v", run.status, run.stdout, run.stderr, run.temporary)
 	}
@@ -120,7 +120,7 @@ func TestTryFolders(t *testing.T) {
 	state := t.TempDir()
 	run := runTry(t, nil, nil, "--state", state, "--all-plans")
 	plans := strings.Join(run.lines("try"), ", ")
-	if run.status != 0 || run.last() != "96 ok, 0 failed" || run.stderr != "" ||
+	if run.status != 0 || run.last() != "104 ok, 0 failed" || run.stderr != "" ||
 		plans != "plan at-once of service folder, plan by-worker of service folder" {
 		t.Errorf("status %d, %s%s", run.status, run.stdout, run.stderr)
 	}
@@ -337,7 +337,7 @@ func TestTryDatabases(t *testing.T) {
 	s := start(t, append([]string{password}, environment...), append([]string{"--state", t.TempDir()}, arguments...)...)
 	s.stop()
 	run = runTry(t, environment, nil, arguments...)
-	if run.status != 0 || run.last() != "48 ok, 0 failed" || strings.Contains(run.stdout, "postgresql://") {
+	if run.status != 0 || run.last() != "52 ok, 0 failed" || strings.Contains(run.stdout, "postgresql://") {
 		t.Errorf("status %d, %s%s", run.status, run.stdout, run.stderr)
 	}
 }
