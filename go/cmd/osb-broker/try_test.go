@@ -5,6 +5,7 @@ import (
 	"encoding/json"
 	"os"
 	"os/exec"
+	"os/signal"
 	"path/filepath"
 	"regexp"
 	"strings"
@@ -230,6 +231,13 @@ func signalAt(t *testing.T, path string, signal os.Signal) func(*exec.Cmd) {
 	}
 }
 
+// takeHangups has the programs that the test starts take SIGHUP, also if nohup has started the test.
+func takeHangups(t *testing.T) {
+	taken := make(chan os.Signal, 1)
+	signal.Notify(taken, syscall.SIGHUP)
+	t.Cleanup(func() { signal.Stop(taken) })
+}
+
 // slow is a backend whose creations create all, say so in the file begun of the state folder, and don't end. The text
 // comes before the calls.
 func slow(t *testing.T, text string) string {
@@ -238,6 +246,7 @@ func slow(t *testing.T, text string) string {
 
 // A signal ends the call that runs, and what exists is deleted.
 func TestTryStops(t *testing.T) {
+	takeHangups(t)
 	for _, signal := range []os.Signal{syscall.SIGTERM, os.Interrupt, syscall.SIGHUP} {
 		state := t.TempDir()
 		run := runTry(t, nil, signalAt(t, state+"/begun", signal),
@@ -284,6 +293,7 @@ func TestTryStopsAtOnce(t *testing.T) {
 
 // A terminal that is closed sends SIGHUP several times: what exists is deleted all the same.
 func TestTryHangsUpTwice(t *testing.T) {
+	takeHangups(t)
 	state := t.TempDir()
 	run := runTry(t, nil, func(command *exec.Cmd) {
 		signalAt(t, state+"/begun", syscall.SIGHUP)(command)
