@@ -15,7 +15,10 @@ from ports import free_address
 
 pytestmark = pytest.mark.slow
 
-SHORT = "--seconds 2 --instances 20 --poll-seconds 0.1 --request-seconds 1 --late-seconds 1.5 --seed 1".split()
+SHORT = (
+    *("--seconds", "2", "--instances", "20", "--poll-seconds", "0.1"),
+    *("--request-seconds", "1", "--late-seconds", "1.5", "--seed", "1"),
+)
 """With this seed, six instances stay to the end."""
 REPEATED = "".join(f"{instance}.1 repeated\n" for instance in range(1, 21))
 """The faults: each creation reaches the broker twice."""
