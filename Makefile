@@ -8,14 +8,23 @@ FAST = not slow and not postgres and not browser and not alone
 # the first time, costs half of what `make quick` costs then. So `make quick` runs it only once it is built.
 STATICCHECK = $(CURDIR)/build/staticcheck
 
-.PHONY: help quick staticcheck test check one prebuilt generate format release
-.PHONY: quick-format quick-rattle quick-lint quick-shell quick-go quick-types quick-tests
+# What takes longest begins first. The others keep the processors busy beside two processes of pytest.
+QUICK = quick-go quick-types quick-tests quick-format quick-shell quick-lint quick-rattle
+
+.PHONY: help packages quick staticcheck test check one prebuilt generate format release $(QUICK)
+
+# What is asked for beside the packages waits until they are installed: make packages test.
+ifneq ($(filter packages,$(MAKECMDGOALS)),)
+$(filter-out packages help,$(MAKECMDGOALS)) $(QUICK) $(STATICCHECK) generate: | packages
+endif
 
 help: ## print this list
 	@awk -F ':.*## ' '/^[a-z]+:.*## / { printf "make %-12s %s\n", $$1, $$2 }' $(MAKEFILE_LIST)
 
-# What takes longest begins first. The others keep the processors busy beside two processes of pytest.
-quick: quick-go quick-types quick-tests quick-format quick-shell quick-lint quick-rattle ## format, lint, types, and tests that start no process: half a minute
+packages: ## install the packages of Debian that the tests use (packages.txt), as root or with sudo
+	scripts/packages
+
+quick: $(QUICK) ## format, lint, types, and tests that start no process: half a minute
 
 staticcheck: $(STATICCHECK) ## build staticcheck and look at all Go with it; from then on, make quick does so, too
 	scripts/go $(STATICCHECK) ./...

@@ -17,11 +17,9 @@ ONE = "00000000-0000-0000-0000-000000000001"
 pytestmark = pytest.mark.slow
 
 
-def installed_by_ci() -> set[str]:
-    """The packages that .ci/run installs."""
-    listed = re.search(r"^packages=\((.*?)^\)", read(".ci/run"), re.MULTILINE | re.DOTALL)
-    assert listed is not None
-    return set(re.sub("#.*", "", listed[1]).split())
+def installed() -> set[str]:
+    """The packages that the gate installs, and `make packages`."""
+    return set(re.sub("#.*", "", read("packages.txt")).split())
 
 
 def test_embedded_blocks_are_current(replay: Path) -> None:
@@ -36,12 +34,7 @@ def test_packages_of_the_programs(texts: list[str]) -> None:
     """They are those that the launchers ask for, and curl; the gate installs them."""
     named = packages(texts[0])
     assert named == packages(read("scripts/go_program.sh")) | {"curl"}
-    assert named - installed_by_ci() == set()
-
-
-@covers("CONTRIBUTING.md", "sudo apt-get install make ", "sudo apt-get install chromium ")
-def test_packages_of_the_tests(texts: list[str]) -> None:
-    assert packages("".join(texts)) - installed_by_ci() == set()
+    assert named - installed() == set()
 
 
 @pytest.mark.usefixtures("broker", "platform")

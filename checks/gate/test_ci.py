@@ -35,9 +35,11 @@ class Runner:
         self.top = top
         (top / ".ci").mkdir()
         (top / "bin").mkdir()
-        shutil.copy2(TOP / ".ci" / "run", top / ".ci" / "run")
+        (top / "scripts").mkdir()
+        for name in (".ci/run", "scripts/packages", "packages.txt"):
+            shutil.copy2(TOP / name, top / name)
         self.script("bin/id", "echo 0")
-        self.script("bin/dpkg", "exit 1")
+        self.script("bin/dpkg-query", "exit 0")
         self.script("bin/sleep", "exit 0")
         self.script("bin/apt-get", "exit 0")
         self.check()
@@ -54,7 +56,7 @@ class Runner:
         self.script("check", f"cat <<'END'\n{chr(10).join(lines)}\nEND\nexit {status}")
 
     def run(self) -> tuple[int, str]:
-        """The status, and what it reported itself."""
+        """The status, and what it and scripts/packages reported themselves."""
         environment = {**os.environ, "PATH": f"{self.top}/bin:{os.environ['PATH']}"}
         ran = subprocess.run(
             [self.top / ".ci" / "run"],
@@ -64,7 +66,7 @@ class Runner:
             text=True,
             timeout=60,
         )
-        return ran.returncode, "\n".join(it for it in ran.stdout.splitlines() if it.startswith("ci: "))
+        return ran.returncode, "\n".join(it for it in ran.stdout.splitlines() if it.startswith(("ci: ", "packages: ")))
 
 
 @pytest.fixture
@@ -140,4 +142,5 @@ def test_packages_that_cannot_be_installed_fail(runner: Runner) -> None:
 
 def test_package_that_does_not_exist_fails(runner: Runner) -> None:
     runner.script("bin/apt-get", '[ "$1" = update ] || { echo "E: Unable to locate package wrk"; exit 100; }')
-    assert runner.run() == (1, "ci: there is no such package")
+    status, reported = runner.run()
+    assert status == 1 and reported.endswith("ci: there is no such package")

@@ -59,8 +59,9 @@ class Repository:
     def __init__(self, top: Path) -> None:
         self.top = top
         self.report: list[str] = []
+        self.output = ""
         (top / "scripts").mkdir()
-        for name in ("check", "scripts/gate.py", "scripts/python.sh"):
+        for name in ("check", "scripts/gate.py", "scripts/python.sh", "scripts/packages", "packages.txt"):
             shutil.copy2(TOP / name, top / name)
         (top / "crates.txt").write_text("osb_replay:\n")
         (top / "crates" / "osb_message").mkdir(parents=True)
@@ -94,6 +95,7 @@ class Repository:
             text=True,
             timeout=100,
         )
+        self.output = ran.stdout
         *self.report, last = ran.stdout.partition("== all\n")[2].splitlines()
         return ran.returncode, last, [it for it in self.report if it.startswith(("FAILED: ", "skipped: "))]
 
@@ -325,3 +327,24 @@ def test_tests_alone(repository: Repository) -> None:
     repository.script("bin/rt", "exit 1")
     repository.script("scripts/prebuilt", "exit 1")
     assert repository.check("--tests") == (0, "2 passed, 0 failed, 0 skipped", [])
+
+
+@pytest.mark.slow
+def test_missing_packages_are_named(repository: Repository) -> None:
+    """Those without which some tests are skipped, before the tests begin."""
+    repository.script(
+        "bin/dpkg-query", "grep -v '^#' packages.txt | sed 's/#.*//' | grep -v wrk | xargs -n1 echo installed"
+    )
+    assert repository.check("--tests")[0] == 0
+    assert repository.output.startswith(
+        "Not installed: wrk. Tests that need them are skipped. To install them: make packages\n"
+    )
+
+
+@pytest.mark.slow
+def test_without_pytest(repository: Repository) -> None:
+    """Nothing runs, and the report has the command that installs all."""
+    (repository.top / "scripts" / "python.sh").write_text("python_with() { false; }\n")
+    ran = subprocess.run([repository.top / "check", "--tests"], capture_output=True, text=True, timeout=100)
+    assert (ran.returncode, ran.stdout) == (78, "")
+    assert ran.stderr.rstrip().endswith("run: make packages") and ran.stderr.count("\n") == 1

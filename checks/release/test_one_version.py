@@ -8,7 +8,7 @@ from pathlib import Path
 
 import osb
 from docs.pages import TOP, block, packages, read
-from docs.test_commands import installed_by_ci
+from docs.test_commands import installed
 
 from api import table
 
@@ -56,4 +56,4 @@ def test_guide_names_the_version(version: str) -> None:
 def test_packages_of_the_guide() -> None:
     """The gate installs what docs/install.md names to make a release."""
     named = packages(block("docs/install.md", "sudo apt-get install binutils "))
-    assert len(named) > 5 and named - installed_by_ci() == set()
+    assert len(named) > 5 and named - installed() == set()
