@@ -12,6 +12,7 @@ import (
 	"errors"
 	"fmt"
 	"net"
+	"net/netip"
 	"sync"
 	"syscall"
 	"time"
@@ -71,7 +72,8 @@ type Listener struct {
 // reusePort is SO_REUSEPORT of Linux, which package syscall doesn't have on each machine.
 const reusePort = 0xf
 
-// Listen listens at an address HOST:PORT. If ctx is done, the look-up of the host ends.
+// Listen listens at an address HOST:PORT. If the host is an IPv4 address, it listens to IPv4 only, also at 0.0.0.0. At
+// [::] it listens to IPv4 too, unless the system separates them. If ctx is done, the look-up of the host ends.
 //
 // Errors: those of net.ListenConfig.Listen, such as an address that is in use.
 func Listen(ctx context.Context, address string, options Options) (*Listener, error) {
@@ -80,7 +82,7 @@ func Listen(ctx context.Context, address string, options Options) (*Listener, er
 	if options.Share {
 		config.Control = share
 	}
-	listener, err := config.Listen(ctx, "tcp", address)
+	listener, err := config.Listen(ctx, networkOf(address), address)
 	switch {
 	case errors.Is(err, syscall.EADDRINUSE) && options.Share:
 		return nil, fmt.Errorf("can't listen: %w. A program has this address alone: stop it, or choose another address", err)
@@ -96,6 +98,18 @@ func Listen(ctx context.Context, address string, options Options) (*Listener, er
 		closed:   make(chan struct{}),
 		silent:   make(map[*conn]struct{}),
 	}, nil
+}
+
+// networkOf returns the network of an address HOST:PORT, as package net names it. With "tcp", 0.0.0.0 would be [::].
+func networkOf(address string) string {
+	host, _, err := net.SplitHostPort(address)
+	if err != nil {
+		return "tcp"
+	}
+	if parsed, err := netip.ParseAddr(host); err == nil && parsed.Is4() {
+		return "tcp4"
+	}
+	return "tcp"
 }
 
 func share(_, _ string, raw syscall.RawConn) error {
