@@ -43,6 +43,8 @@ type Handler struct {
 	working     chan struct{} // a place for each of them that may do work
 	patience    time.Duration // how long a request waits for a place in working
 	isStopping  atomic.Bool
+	stopped     chan struct{} // is closed by the first Stop
+	stop        sync.Once
 	first, next uint64   // of which the ids of requests that have none are made
 	bodies      sync.Map // of answers: wording to []byte
 }
@@ -63,7 +65,8 @@ func NewHandler(ctx context.Context, service *Service, config Config) (*Handler,
 		reading: make(chan struct{}, config.AtOnce+slowBodies),
 		slots:   make(chan struct{}, config.AtOnce),
 		working: make(chan struct{}, mayWorkAtOnce(config.AtOnce)), patience: longestQueue,
-		first: rand.New(rand.NewSource(time.Now().UnixNano())).Uint64(),
+		stopped: make(chan struct{}),
+		first:   rand.New(rand.NewSource(time.Now().UnixNano())).Uint64(),
 	}, nil
 }
 
@@ -84,8 +87,11 @@ func mayWorkAtOnce(all int) int {
 	return all - kept
 }
 
-// Stop has every request from now on answered with 503.
-func (h *Handler) Stop() { h.isStopping.Store(true) }
+// Stop has every request from now on answered with 503. Answers to failed logins don't wait any more.
+func (h *Handler) Stop() {
+	h.isStopping.Store(true)
+	h.stop.Do(func() { close(h.stopped) })
+}
 
 // Wait waits until no request is carried out, and returns whether that came about within the time. Call Stop before.
 // Afterwards no request is carried out any more.
@@ -291,12 +297,11 @@ func (h *Handler) follow(ctx context.Context, x *exchange, asked Asked, answered
 
 // admit judges who asks, and which version is spoken.
 func (h *Handler) admit(x *exchange) (reply, bool) {
-	h.delay(x.Address)
 	authorization := x.request.Header["Authorization"]
 	user, err := h.Users.judge(authorization)
 	if errors.Is(err, osb.ErrUnauthorized) {
 		if h.Limiter != nil {
-			h.Limiter.Failed(x.Address)
+			h.wait(h.Limiter.Failed(x.Address))
 		}
 		x.header.Set("WWW-Authenticate", `Basic realm="service broker", charset="UTF-8"`)
 		sentence := wrongLogin
@@ -315,21 +320,17 @@ func (h *Handler) admit(x *exchange) (reply, bool) {
 	return reply{}, true
 }
 
-// delay waits before the password of a request is judged, if too many logins from its address have failed. The right
-// password is delayed as a wrong one is. Otherwise the time would tell them apart, and passwords could be tried faster.
-// A client that goes away meanwhile ends nothing, so its place among the connections isn't free sooner.
-func (h *Handler) delay(address string) {
-	if h.Limiter == nil {
+// wait has the answer to a failed login wait for its turn. The right password doesn't wait. That tells them apart, but a
+// client that goes away meanwhile ends nothing: its connection stays taken until then, so passwords aren't tried faster.
+func (h *Handler) wait(turn time.Duration) {
+	if turn <= 0 {
 		return
 	}
-	wait := h.Limiter.Delay(address)
-	if wait <= 0 {
-		return
-	}
-	timer := time.NewTimer(wait)
+	timer := time.NewTimer(turn)
 	defer timer.Stop()
 	select {
 	case <-timer.C:
+	case <-h.stopped:
 	case <-h.ctx.Done():
 	}
 }

@@ -18,10 +18,9 @@ type few struct {
 	delay time.Duration
 }
 
-func (f *few) Failed(string) { f.left-- }
-
-func (f *few) Delay(string) time.Duration {
-	if f.left > 0 {
+func (f *few) Failed(string) time.Duration {
+	f.left--
+	if f.left >= 0 {
 		return 0
 	}
 	return f.delay
@@ -29,30 +28,54 @@ func (f *few) Delay(string) time.Duration {
 
 func wrongLogin(r *http.Request) { r.SetBasicAuth("u", "q") }
 
-// After failed logins from an address, a wrong password and the right one are judged equally late.
+// After failed logins from an address, the answer to a wrong password waits, and the right one doesn't.
 func TestFailedLoginsAreDelayed(t *testing.T) {
 	limiter := &few{left: 1, delay: 60 * time.Millisecond}
 	s := newSite(t, setting{limiter: limiter})
 	s.expect(t, 401, "GET", "/v2/catalog", "", wrongLogin)
-	for _, it := range []struct {
-		status int
-		change func(*http.Request)
-	}{{401, wrongLogin}, {200, func(*http.Request) {}}, {401, wrongLogin}} {
+	for count := 0; count < 2; count++ {
 		began := time.Now()
-		s.expect(t, it.status, "GET", "/v2/catalog", "", it.change)
+		s.expect(t, 401, "GET", "/v2/catalog", "", wrongLogin)
 		if took := time.Since(began); took < limiter.delay {
-			t.Errorf("%d came after %v, before the password may be judged", it.status, took)
+			t.Errorf("got the answer after %v, want it after %v", took, limiter.delay)
 		}
 	}
+	limiter.delay = time.Hour
+	s.expect(t, 200, "GET", "/v2/catalog", "")
 	if limiter.left != -2 {
-		t.Errorf("%d failures were counted, want 3", 1-limiter.left)
+		t.Errorf("got %d failures, want 3", 1-limiter.left)
 	}
 }
 
-// The right password is accepted while others at its address try wrong ones without a pause, also by a broker that has
-// just started and has seen no login. The wrong ones are judged at the rate that the guide states.
+// A broker that stops has no answer wait, however many turns are before it.
+func TestFailedLoginsDontDelayTheStop(t *testing.T) {
+	s := newSite(t, setting{limiter: &few{delay: time.Hour}})
+	answered := make(chan int, 1)
+	go func() {
+		given, _ := s.ask("GET", "/v2/catalog", "", wrongLogin)
+		answered <- given.StatusCode
+	}()
+	select {
+	case got := <-answered:
+		t.Errorf("got %d before the stop, want no answer", got)
+	case <-time.After(50 * time.Millisecond):
+	}
+	s.Stop()
+	select {
+	case got := <-answered:
+		if got != 401 {
+			t.Errorf("got %d, want 401", got)
+		}
+	case <-time.After(time.Minute):
+		t.Error("got no answer in a minute after the stop")
+	}
+}
+
+// The right password is accepted while others at its address try wrong ones without a pause, also by a broker
+// that has just started and has seen no login. The wrong ones of the address are answered at the rate that the guide
+// states, however many connections it has.
 func TestGuessesDontShutOutThePlatform(t *testing.T) {
-	const guessers, free = 16, 20
+	const guessers, free = 8, 20
 	s := newSite(t, setting{limiter: limiter.New(), atOnce: guessers})
 	began, stop := time.Now(), make(chan struct{})
 	var judged atomic.Int64
@@ -79,7 +102,7 @@ func TestGuessesDontShutOutThePlatform(t *testing.T) {
 			}
 		}()
 	}
-	for late := time.Now().Add(20 * time.Second); judged.Load() < free+guessers; time.Sleep(time.Millisecond) {
+	for late := time.Now().Add(time.Minute); judged.Load() < free+2; time.Sleep(time.Millisecond) {
 		if time.Now().After(late) {
 			t.Fatal("the wrong passwords aren't judged")
 		}
@@ -88,8 +111,8 @@ func TestGuessesDontShutOutThePlatform(t *testing.T) {
 		s.expect(t, 200, "GET", "/v2/catalog", "")
 	}
 	end()
-	// two a second for each of them, besides those that are free, and those that began before others had failed
-	most := free + guessers + guessers*(2*time.Since(began).Seconds()+1)
+	// two a second for all of them together, besides those that are free, of which there is one more each 3 seconds
+	most := free + (2+1./3)*time.Since(began).Seconds() + 1
 	if got := judged.Load(); float64(got) > most {
 		t.Errorf("%d passwords were judged in %v, want at most %.0f", got, time.Since(began), most)
 	}

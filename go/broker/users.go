@@ -105,8 +105,6 @@ func (u *Users) judge(values []string) (string, error) {
 
 // A Limiter limits how many passwords can be tried from an address.
 type Limiter interface {
-	// Delay returns how long a login from this address waits before its password is judged, or 0.
-	Delay(address string) time.Duration
-	// Failed counts a login that failed.
-	Failed(address string)
+	// Failed counts a login from this address that failed, and returns how long its answer has to wait, or 0.
+	Failed(address string) time.Duration
 }

@@ -30,10 +30,8 @@ var script string
 
 // A Limiter limits how often an address may fail to log in, as pippinterm/program/limiter does.
 type Limiter interface {
-	// Delay returns how long a login from this address waits before its password is judged, or 0.
-	Delay(address string) time.Duration
-	// Failed counts a login that failed.
-	Failed(address string)
+	// Failed counts a login from this address that failed, and returns how long its answer has to wait, or 0.
+	Failed(address string) time.Duration
 }
 
 // Options are the parts and the limits of a page. (The limits are this project's choice.)
@@ -47,6 +45,8 @@ type Options struct {
 	Users map[string][]string
 	// Limiter limits how often an address may fail to log in. It may be nil.
 	Limiter Limiter
+	// Stopping is done once the program stops. Answers to failed logins don't wait any more then. It may be nil.
+	Stopping context.Context
 	// LongCleaning is for how long a deletion may go on before it waits for a person. It is an hour by default.
 	LongCleaning time.Duration
 	// AtOnce is how many requests ask the API at once, each for one thing after another. It is 16 by default. Further
@@ -94,6 +94,9 @@ func NewHandler(api API, options Options) (http.Handler, error) {
 	}
 	if options.Failed == nil {
 		options.Failed = func(error) {}
+	}
+	if options.Stopping == nil {
+		options.Stopping = context.Background()
 	}
 	shown, err := template.New("page").Parse(templates)
 	if err != nil {
@@ -273,15 +276,23 @@ func (h *handler) isUser(r *http.Request) bool {
 	if !isGiven || len(r.Header.Values("Authorization")) != 1 {
 		return false
 	}
-	if h.Limiter != nil {
-		time.Sleep(h.Limiter.Delay(address))
-	}
 	given, found := digestOf(user, password), 0
 	for at := range h.passwords {
 		found |= subtle.ConstantTimeCompare(given[:], h.passwords[at][:])
 	}
 	if found == 0 && h.Limiter != nil {
-		h.Limiter.Failed(address)
+		h.wait(h.Limiter.Failed(address))
 	}
 	return found == 1
+}
+
+// wait has the answer to a failed login wait for its turn, also if the client goes away. Otherwise its connection would
+// be free sooner, and passwords could be tried faster.
+func (h *handler) wait(turn time.Duration) {
+	timer := time.NewTimer(turn)
+	defer timer.Stop()
+	select {
+	case <-timer.C:
+	case <-h.Stopping.Done():
+	}
 }

@@ -308,11 +308,47 @@ func TestPasswords(t *testing.T) {
 
 type counting struct{ failed int }
 
-func (c *counting) Delay(string) time.Duration { return 0 }
-
-func (c *counting) Failed(address string) {
+func (c *counting) Failed(address string) time.Duration {
 	if address == "192.0.2.1" { // that of httptest
 		c.failed++
+	}
+	return 0
+}
+
+// An hour has each failed login wait for an hour.
+type hour struct{}
+
+func (hour) Failed(string) time.Duration { return time.Hour }
+
+// The answer to a wrong password waits for its turn, until the program stops, and the right password doesn't wait.
+func TestFailedLoginsWait(t *testing.T) {
+	ctx, stop := context.WithCancel(context.Background())
+	defer stop()
+	users := map[string][]string{"me": {"old"}}
+	h := pageOf(t, shelf(), Options{Users: users, Limiter: hour{}, Stopping: ctx})
+	status := func(password string) int {
+		r := request("GET", "/")
+		r.SetBasicAuth("me", password)
+		return answerTo(h, r).Code
+	}
+	answered := make(chan int, 1)
+	go func() { answered <- status("new") }()
+	if got := status("old"); got != 200 {
+		t.Errorf("got %d with the right password, want 200", got)
+	}
+	select {
+	case got := <-answered:
+		t.Errorf("got %d before its turn, want no answer", got)
+	case <-time.After(50 * time.Millisecond):
+	}
+	stop()
+	select {
+	case got := <-answered:
+		if got != 401 {
+			t.Errorf("got %d with a wrong password, want 401", got)
+		}
+	case <-time.After(time.Minute):
+		t.Error("got no answer in a minute after the stop")
 	}
 }
 

@@ -10,59 +10,66 @@ import (
 const (
 	burst    = 20                     // failures at once
 	interval = 3 * time.Second        // after which one more is allowed
-	delay    = 500 * time.Millisecond // of a login from an address that has failed too often
+	delay    = 500 * time.Millisecond // between two turns of an address that has failed too often
 	capacity = 16384                  // addresses that are remembered
 	sample   = 8                      // of which one is forgotten for a new one
 )
 
-// A Limiter counts the failed logins of each address: 20 are free at once, and one more each 3 seconds. Each further
-// login from the address has to wait for half a second. All IPv6 addresses of a /64 count as one address, since one
-// client usually has them all. A Limiter remembers at most 16,384 addresses, in about 2 MiB. If there are more, it
-// forgets addresses whose failures are nearly over. Any number of goroutines may use a Limiter. (The numbers are this
-// project's choice.)
+// A Limiter counts the failed logins of each address: 20 are free at once, and one more each 3 seconds. The answer to
+// each further one waits for its turn. An address has one turn each half second, however many connections it has. All
+// addresses that share a limit (Neighbours) count as one. A Limiter remembers at most 16,384 of them, in about 3 MiB. If
+// there are more, it forgets addresses whose failures are nearly over. Any number of goroutines may use a Limiter. (The
+// numbers are this project's choice.)
 //
-// The address is that of the connection, so all clients behind a proxy share one limit. Nobody can tell the client with
-// the right password from one that guesses it. So a Limiter delays all logins from an address alike, and rejects none:
-// whoever has the right password gets in half a second late, and whoever guesses can try two passwords a second on each
-// connection.
+// The right password never waits, so nobody who guesses at the same address keeps its platform waiting. Nor does that
+// let passwords be tried faster: whoever has tried one and sees no answer knows that it was wrong, but its connection
+// stays taken until its turn, also if the client closes it. So an address tries as many passwords at once as it may have
+// connections, and from then on two a second.
 type Limiter struct {
 	now func() time.Time
 
 	mutex sync.Mutex
-	free  map[netip.Prefix]time.Time // when all failures of an address will be over
+	of    map[netip.Prefix]count
+}
+
+// A count is what is known of an address.
+type count struct {
+	free time.Time // when all its failures will be over
+	turn time.Time // when the last turn is that was given
 }
 
 // New returns a Limiter without failures.
-func New() *Limiter { return &Limiter{now: time.Now, free: make(map[netip.Prefix]time.Time)} }
+func New() *Limiter { return &Limiter{now: time.Now, of: make(map[netip.Prefix]count)} }
 
-// Delay returns how long a login from this address has to wait before its password is judged: 0, or half a second. The
-// address is an IP address without a port. All texts that are no IP address count as one address. Delay counts nothing.
-func (l *Limiter) Delay(address string) time.Duration {
+// Failed counts a failed login from this address, and returns how long its answer has to wait: 0, or until its turn. The
+// address is an IP address without a port. All texts that are no IP address count as one address.
+func (l *Limiter) Failed(address string) time.Duration {
+	key, now := Neighbours(address), l.now()
 	l.mutex.Lock()
 	defer l.mutex.Unlock()
-	if l.free[keyOf(address)].Sub(l.now()) <= (burst-1)*interval {
-		return 0
-	}
-	return delay
-}
-
-// Failed counts a failed login from this address.
-func (l *Limiter) Failed(address string) {
-	key, now := keyOf(address), l.now()
-	l.mutex.Lock()
-	defer l.mutex.Unlock()
-	free, isKnown := l.free[key]
-	if !isKnown && len(l.free) >= capacity {
+	it, isKnown := l.of[key]
+	if !isKnown && len(l.of) >= capacity {
 		l.forget(now)
 	}
-	if free.Before(now) {
-		free = now
+	isFree := it.free.Sub(now) <= (burst-1)*interval
+	it.free = latest(it.free, now).Add(interval)
+	if limit := now.Add(burst * interval); it.free.After(limit) {
+		it.free = limit
 	}
-	free = free.Add(interval)
-	if latest := now.Add(burst * interval); free.After(latest) {
-		free = latest
+	var wait time.Duration
+	if !isFree {
+		it.turn = latest(it.turn, now).Add(delay)
+		wait = it.turn.Sub(now)
 	}
-	l.free[key] = free
+	l.of[key] = it
+	return wait
+}
+
+func latest(one, other time.Time) time.Time {
+	if one.Before(other) {
+		return other
+	}
+	return one
 }
 
 // forget removes one address of a few, that whose failures are over first. If they are over already, it removes all
@@ -70,27 +77,28 @@ func (l *Limiter) Failed(address string) {
 func (l *Limiter) forget(now time.Time) {
 	var earliest netip.Prefix
 	seen := 0
-	for key, free := range l.free {
-		if seen == 0 || free.Before(l.free[earliest]) {
+	for key, it := range l.of {
+		if seen == 0 || it.free.Before(l.of[earliest].free) {
 			earliest = key
 		}
 		if seen++; seen == sample {
 			break
 		}
 	}
-	if l.free[earliest].After(now) {
-		delete(l.free, earliest)
+	if l.of[earliest].free.After(now) {
+		delete(l.of, earliest)
 		return
 	}
-	for key, free := range l.free {
-		if !free.After(now) {
-			delete(l.free, key)
+	for key, it := range l.of {
+		if !it.free.After(now) {
+			delete(l.of, key)
 		}
 	}
 }
 
-// keyOf returns the addresses that share a limit with this one. It is the zero Prefix for a text that is no address.
-func keyOf(text string) netip.Prefix {
+// Neighbours returns the addresses that share a limit with this one, because one client usually has them all: those of a
+// /64 of IPv6, and only itself of IPv4. It is the zero Prefix for a text that is no address.
+func Neighbours(text string) netip.Prefix {
 	address, err := netip.ParseAddr(text)
 	if err != nil {
 		return netip.Prefix{}

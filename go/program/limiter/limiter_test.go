@@ -17,10 +17,9 @@ func at() (*Limiter, func(time.Duration)) {
 // failures counts how many failures in a row are free.
 func failures(limiter *Limiter, address string) int {
 	for count := 0; ; count++ {
-		if limiter.Delay(address) > 0 || count > 2*burst {
+		if limiter.Failed(address) > 0 || count > 2*burst {
 			return count
 		}
-		limiter.Failed(address)
 	}
 }
 
@@ -29,7 +28,7 @@ func TestTwentyFailuresAndOneMoreEachThreeSeconds(t *testing.T) {
 	for _, step := range []struct {
 		after time.Duration
 		want  int
-	}{{0, 20}, {0, 0}, {2999 * time.Millisecond, 0}, {time.Millisecond, 1}, {9 * time.Second, 3}, {time.Hour, 20}} {
+	}{{0, 20}, {0, 0}, {2999 * time.Millisecond, 0}, {3 * time.Second, 1}, {9 * time.Second, 3}, {time.Hour, 20}} {
 		pass(step.after)
 		if got := failures(limiter, "192.0.2.1"); got != step.want {
 			t.Errorf("%v later %d failures are free, want %d", step.after, got, step.want)
@@ -48,23 +47,22 @@ func TestFailuresBeyondTheLimitDontExtendIt(t *testing.T) {
 	}
 }
 
-// The guide and the handler promise that nobody waits for longer than a second.
-func TestTheDelay(t *testing.T) {
-	limiter, _ := at()
+// The turns of an address are half a second apart, and those of another address are its own.
+func TestTheTurns(t *testing.T) {
+	limiter, pass := at()
 	failures(limiter, "192.0.2.1")
-	for count := 0; count < 1000; count++ {
-		if got := limiter.Delay("192.0.2.1"); got != 500*time.Millisecond {
-			t.Fatalf("after %d more failures the delay is %v", count, got)
+	for count := time.Duration(2); count <= 100; count++ { // failures has taken the first turn
+		if got, want := limiter.Failed("192.0.2.1"), count*delay; got != want {
+			t.Fatalf("got %v for failure %d, want %v", got, count, want)
 		}
-		limiter.Failed("192.0.2.1")
 	}
-}
-
-func TestDelayCountsNothing(t *testing.T) {
-	limiter, _ := at()
-	for count := 0; count < 100; count++ {
-		if limiter.Delay("192.0.2.1") != 0 {
-			t.Fatal("an address that never failed is delayed")
+	if got := limiter.Failed("192.0.2.2"); got != 0 {
+		t.Errorf("another address waits %v, want 0", got)
+	}
+	pass(18 * delay)
+	for count, want := range []time.Duration{0, 0, 0, 83 * delay, 84 * delay} { // three are free after nine seconds
+		if got := limiter.Failed("192.0.2.1"); got != want {
+			t.Errorf("got %v for failure %d after %v, want %v", got, count+1, 18*delay, want)
 		}
 	}
 }
@@ -85,7 +83,7 @@ func TestWhichAddressesShareALimit(t *testing.T) {
 	} {
 		limiter, _ := at()
 		failures(limiter, test.first)
-		if isShared := limiter.Delay(test.second) > 0; isShared != test.isShared {
+		if isShared := limiter.Failed(test.second) > 0; isShared != test.isShared {
 			t.Errorf("%q and %q: shared is %v", test.first, test.second, isShared)
 		}
 	}
@@ -95,14 +93,14 @@ func TestMemoryIsBounded(t *testing.T) {
 	limiter, pass := at()
 	for number := 0; number < 3*capacity; number++ {
 		limiter.Failed(fmt.Sprintf("10.%d.%d.%d", number>>16&255, number>>8&255, number&255))
-		if len(limiter.free) > capacity {
-			t.Fatalf("%d addresses are remembered", len(limiter.free))
+		if len(limiter.of) > capacity {
+			t.Fatalf("%d addresses are remembered", len(limiter.of))
 		}
 	}
 	pass(interval)
 	limiter.Failed("192.0.2.1")
-	if len(limiter.free) != 1 {
-		t.Errorf("%d addresses are remembered after the failures of all others are over, want 1", len(limiter.free))
+	if len(limiter.of) != 1 {
+		t.Errorf("%d addresses are remembered after the failures of all others are over, want 1", len(limiter.of))
 	}
 }
 
@@ -112,7 +110,7 @@ func TestAFullLimiterKeepsTheWorst(t *testing.T) {
 	for number := 0; number < 2*capacity; number++ {
 		limiter.Failed(fmt.Sprintf("10.%d.%d.%d", number>>16&255, number>>8&255, number&255))
 	}
-	if limiter.Delay("192.0.2.1") == 0 {
+	if limiter.Failed("192.0.2.1") == 0 {
 		t.Error("an address at its limit is forgotten for others that failed once")
 	}
 }
@@ -125,7 +123,6 @@ func TestManyGoroutines(t *testing.T) {
 		go func() {
 			defer all.Done()
 			limiter.Failed("192.0.2.1")
-			limiter.Delay("192.0.2.1")
 		}()
 	}
 	all.Wait()
