@@ -78,11 +78,15 @@ func (a *access) report(what string, err error) {
 	a.log.Info(what + "_reloaded").Send()
 }
 
-// passwords reads the passwords of each user, and logs a warning if others can read their file.
+// passwords reads the passwords of each user, and logs a warning if others can read their file, and one of each user
+// whose password can be guessed.
 func (a *access) passwords() (map[string][]string, error) {
 	all, warning, err := passwordsOf(a.settings)
 	if warning != "" {
 		a.log.Warning("secret").Str("warning", warning).Send()
+	}
+	for _, user := range secrets.Short(all) {
+		a.log.Warning("short_password").Str("user", user).Int("fewer_bytes_than", secrets.ShortestPassword).Send()
 	}
 	return all, err
 }

@@ -56,10 +56,15 @@ func (r *running) parts(work context.Context, whenStopping func(func())) []part 
 		whenStopping(handler.Stop)
 		return handler, nil
 	}
+	pagePart := func() (http.Handler, error) {
+		stopping, stop := context.WithCancel(work)
+		whenStopping(stop)
+		return r.page(stopping)
+	}
 	s := r.settings.sites
 	return []part{
 		{
-			option: "--page", address: s.page, connections: pageConnections, silence: pageSilence, make: r.page,
+			option: "--page", address: s.page, connections: pageConnections, silence: pageSilence, make: pagePart,
 			url: &r.pageURL,
 		},
 		{
@@ -84,10 +89,10 @@ func (r *running) files() uint64 {
 	return uint64(needed)
 }
 
-// page makes the page.
-func (r *running) page() (http.Handler, error) {
+// page makes the page. stopping is done once the program stops.
+func (r *running) page(stopping context.Context) (http.Handler, error) {
 	s := r.settings.sites
-	options := page.Options{Hosts: s.pageHosts, Failed: func(err error) {
+	options := page.Options{Hosts: s.pageHosts, Stopping: stopping, Failed: func(err error) {
 		r.observer.Failed(platform.Failure{Event: "page_failed", Err: err})
 	}}
 	var err error
@@ -147,6 +152,10 @@ func (r *running) pageUsers() (map[string][]string, error) {
 	}
 	if warning != "" {
 		r.log.warn(warning)
+	}
+	for _, user := range secrets.Short(users) {
+		event := r.log.at(warningLevel, "short_password").Str("user", user)
+		event.Int("fewer_bytes_than", secrets.ShortestPassword).Send()
 	}
 	return users, err
 }

@@ -294,6 +294,20 @@ func TestServeWarns(t *testing.T) {
 	}
 }
 
+// A user of the page whose password can be guessed is named in a warning, without the password.
+func TestWarningOfShortPasswords(t *testing.T) {
+	users := filepath.Join(t.TempDir(), "users")
+	if err := os.WriteFile(users, []byte("me:guessed\nyou:0123456789abcdef\n"), 0o600); err != nil {
+		t.Fatal(err)
+	}
+	p := launch(t, "short_password", osbPlatform(nil, "serve", "--store", filepath.Join(t.TempDir(), "store"),
+		"--page", "127.0.0.1:0", "--page-users", users))
+	serving := p.event("serving")
+	if rest := p.stop(); serving == nil || strings.Contains(rest, "guessed") || strings.Contains(rest, "short_password") {
+		t.Errorf("the log: %s", rest)
+	}
+}
+
 // Ids that are GUIDs aren't kept, and of the others no more than a number.
 func TestOrderedIDs(t *testing.T) {
 	ids := newOrderedIDs()
@@ -359,11 +373,12 @@ func servingOver(t *testing.T, store platform.Store, log io.Writer) *running {
 func TestServedStoreFails(t *testing.T) {
 	var written bytes.Buffer
 	r := servingOver(t, &countStore{err: platform.ErrAway}, &written)
+	page := func() (http.Handler, error) { return r.page(context.Background()) }
 	for target, it := range map[string]struct {
 		make func() (http.Handler, error)
 		log  string
 	}{
-		"/?still=1": {r.page, `"error","event":"api_request","token":"page",.*"error":"the store is away"(.|\n)*` +
+		"/?still=1": {page, `"error","event":"api_request","token":"page",.*"error":"the store is away"(.|\n)*` +
 			`"error","event":"page_failed","error":"GET /v1/counts: status 503, store_away`},
 		"/v1/counts": {r.api, `"level":"error","event":"api_request",.*"status":503,.*"error":"the store is away"`},
 	} {
@@ -437,7 +452,7 @@ func TestPageBesideBusyAPI(t *testing.T) {
 	if err != nil {
 		t.Fatal(err)
 	}
-	page, err := r.page()
+	page, err := r.page(context.Background())
 	if err != nil {
 		t.Fatal(err)
 	}

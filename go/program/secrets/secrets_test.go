@@ -138,3 +138,12 @@ func TestUsers(t *testing.T) {
 		}
 	}
 }
+
+func TestShort(t *testing.T) {
+	got := Short(map[string][]string{
+		"long": {"0123456789abcdef"}, "one": {"0123456789abcde"}, "both": {"a", "b"}, "an old one": {"0123456789abcdef", "c"},
+	})
+	if want := []string{"an old one", "both", "one"}; !reflect.DeepEqual(got, want) {
+		t.Errorf("got %q, want %q", got, want)
+	}
+}

@@ -3,6 +3,7 @@ package secrets
 import (
 	"errors"
 	"fmt"
+	"sort"
 	"strings"
 )
 
@@ -43,4 +44,21 @@ func add(users map[string][]string, line string) error {
 	}
 	users[user] = append(users[user], password)
 	return nil
+}
+
+// ShortestPassword is how many bytes a password has that can't be guessed: 16 random characters have about 95 bits.
+const ShortestPassword = 16
+
+// Short returns the users of which a password has fewer than ShortestPassword bytes, in the order of their names.
+func Short(passwords map[string][]string) (users []string) {
+	for user, all := range passwords {
+		for _, it := range all {
+			if len(it) < ShortestPassword {
+				users = append(users, user)
+				break
+			}
+		}
+	}
+	sort.Strings(users)
+	return users
 }
