@@ -11,7 +11,7 @@ STATICCHECK = $(CURDIR)/build/staticcheck
 # What takes longest begins first. The others keep the processors busy beside two processes of pytest.
 QUICK = quick-go quick-types quick-tests quick-format quick-shell quick-lint quick-rattle
 
-.PHONY: help packages quick staticcheck test check one prebuilt generate format release $(QUICK)
+.PHONY: help packages quick staticcheck test check one mutants prebuilt generate format release $(QUICK)
 
 # What is asked for beside the packages waits until they are installed: make packages test.
 ifneq ($(filter packages,$(MAKECMDGOALS)),)
@@ -38,6 +38,12 @@ check: ## everything from nothing, proofs included: one to two hours on four cor
 one: ## one test by its name or file: make one T=test_locks, make one T=... A="-x --pdb"
 	@[ -n "$(T)" ] || { echo 'usage: make one T=NAME or T=FILE[::TEST] [A="arguments of pytest"]' >&2; exit 2; }
 	$(PYTHON) -m pytest -v $(if $(or $(findstring /,$(T)),$(findstring .py,$(T))),'$(T)',-k '$(T)') $(A)
+
+mutants: SEED = 1
+mutants: COUNT = 100
+mutants: ## change the Go code in some places, and print the changes that no test notices: make mutants SEED=1 COUNT=100
+	scripts/go build -o $(CURDIR)/build/mutants/mutants ./mutants
+	scripts/go $(CURDIR)/build/mutants/mutants draw -seed $(SEED) -count $(COUNT) -folder $(CURDIR)/build/mutants $(PACKAGES)
 
 prebuilt: ## prove and build the library and osb-replay, and write prebuilt/
 	scripts/prebuilt

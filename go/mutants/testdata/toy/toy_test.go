@@ -1,0 +1,44 @@
+package toy
+
+import (
+	"os"
+	"testing"
+	"time"
+)
+
+func TestOdd(t *testing.T) {
+	if Odd(1) != nil || Odd(2) == nil {
+		t.Error("got another error")
+	}
+}
+
+// TestWait doesn't look at how long the wait is.
+func TestWait(t *testing.T) {
+	if got := Wait(true); got != 0 {
+		t.Errorf("got %v, want no wait", got)
+	}
+	if got := Wait(false); got == 0 {
+		t.Errorf("got %v, want a wait", got)
+	}
+}
+
+func TestSum(t *testing.T) {
+	if got := Sum(5, 1, 9, 2, 3); got != 3 {
+		t.Errorf("got %d, want 3", got)
+	}
+}
+
+func TestName(t *testing.T) {
+	for number, want := range []string{"none", "", "many"} {
+		if got := Name(number); got != want {
+			t.Errorf("got %q, want %q", got, want)
+		}
+	}
+}
+
+// TestHangs waits for what a mutant takes away.
+func TestHangs(t *testing.T) {
+	for os.Getenv("TOY_HANGS") != "" && Name(0) == "none" {
+		time.Sleep(time.Millisecond)
+	}
+}
