@@ -13,6 +13,9 @@ whose id ends with this digit. `HELD` and `RECORD` are the short forms of held_t
     P abandon RECORD             changed, state abandoned   B credentials                  work, begun and ended
     P stop, B stop               stopped                    B answer VISIT STATUS BODY     answered
 
+Of a look, `B begin look` and `B end look FOUND` are the two lines. `visit=VISIT` of a work names the request that it is
+for.
+
 Each change has as `before` what the last change of its row has left, unless `from HELD` or `from RECORD` follows. A
 word `!undone` or `!doubtful` behind a change has the line `undone` follow. Each word `@DIGEST` names credentials, and
 `saw=HELD` what an answer was decided on. A change with `!returned` is one with which the id returns. The text `~`, and
@@ -37,7 +40,7 @@ BINDING = "00000000-0000-0000-0000-00000000000b"
 SERVICE = "00000000-0000-0000-0000-0000000000a0"
 OTHER = "00000000-0000-0000-0000-0000000000ff"
 PLANS = {"sync": "00000000-0000-0000-0000-0000000000b1", "async": "00000000-0000-0000-0000-0000000000b2"}
-NAMED = "plan", "service", "attributes", "accepts", "work-plan", "work-id", "state"
+NAMED = "plan", "service", "attributes", "accepts", "work-plan", "work-id", "state", "visit"
 """What a line may name in another way than its story does."""
 METHODS = {"claim": "record", "command": "record", "abandon": "record", "credentials": "known"}
 """The methods of Journal for the verbs that have another name."""
@@ -46,6 +49,10 @@ EMPTY: Mapping[str, str] = {}
 
 def compact(members: dict[str, Any]) -> str:
     return json.dumps(members, separators=(",", ":"), sort_keys=True)
+
+
+def _but(members: dict[str, Any], name: str) -> dict[str, Any]:
+    return {it: members[it] for it in members if it != name}
 
 
 def ids_of(plan: str, named: Mapping[str, str]) -> dict[str, str]:
@@ -135,10 +142,11 @@ class Journal:
         who, verb, *rest = [it for it in words if it not in flags]
         more: dict[str, Any] = {"instance": instance, **({"binding": binding} if binding else {})}
         digest = next((it[1:] for it in flags if it.startswith("@")), "")
+        more |= {"visit": int(self.named["visit"])} if "visit" in self.named else {}
         more |= {"credentials": digest} if digest else {}
         more |= {"life": 1, "life_before": 0} if "!returned" in flags else {}
         if verb in ("create", "delete"):
-            self._begin(who, verb, [verb], {it: more[it] for it in more if it != "credentials"})
+            self._begin(who, verb, [verb], _but(more, "credentials"))
             self._end(who, verb, [verb, "done"], more)
             return
         saw = next((it[4:] for it in flags if it.startswith("saw=")), None)
@@ -222,14 +230,15 @@ class Journal:
         self.write(who, "work", {**more, "call": "look", "stage": "ended", "found": rest[0], "result": "done"})
 
     def _known(self, who: str, _: str, __: list[str], more: dict[str, Any]) -> None:
-        self.write(who, "work", {**self._key(more), "call": "credentials", "stage": "begun"})
+        self.write(who, "work", {**_but(more, "credentials"), "call": "credentials", "stage": "begun"})
         self.write(who, "work", {**more, "call": "credentials", "stage": "ended", "result": "done"})
 
     def _begin(self, who: str, _: str, rest: list[str], more: dict[str, Any]) -> None:
         self.write(who, "work", {**more, "call": rest[0], "stage": "begun"})
 
     def _end(self, who: str, _: str, rest: list[str], more: dict[str, Any]) -> None:
-        self.write(who, "work", {**more, "call": rest[0], "stage": "ended", "result": rest[1]})
+        how = {"found": rest[1], "result": "done"} if rest[0] == "look" else {"result": rest[1]}
+        self.write(who, "work", {**more, "call": rest[0], "stage": "ended", **how})
 
     def _stop(self, who: str, _: str, __: list[str], ___: dict[str, Any]) -> None:
         self.write(who, "stopped", {})

@@ -81,7 +81,88 @@ class Rule(NamedTuple):
     retrievable: bool = True
 
 
+# A broker is paused in a call, and has lost its lock when it goes on: B2 has done the work. What the call says is old.
+DELETING = (
+    CREATED
+    + """P claim cleaning/2/deprovision; P send r2 deprovision 2; B arrive 2 r2 deprovision
+         B change 2 ready+deprovision; B look whole visit=2; """
+)
+TAKEN_OVER = "B2 begin delete; B2 end delete done; B2 look absent; B2 change 0 tombstone from ready+deprovision; "
+DELETED = f"{MADE}; remove I; send I; arrive I 2; "
+LATE_CALLS = {
+    "a look that is late, of a worker that was killed before it": Rule(
+        DELETING
+        + """B begin delete visit=2; P lose r2; P take 2 cleaning/2; B3 begin look; P claim cleaning/3/deprovision
+             P send r3 deprovision 3; B2 arrive 1 r3 deprovision; B2 answer 1 422 concurrency-error; B2 look part
+             B2 begin delete; B2 end delete failed; B2 look part; """
+        + TAKEN_OVER
+        + """B3 end look part; B3 begin delete; B3 end delete failed; P hear r3 422 concurrency-error
+             P take 3 cleaning/3; P claim cleaning/4/deprovision; P send r4 deprovision 4
+             B2 arrive 2 r4 deprovision; B2 answer 2 410 other-error; P hear r4 410 other-error; P take 4 gone/4""",
+        DELETED
+        + "work I part; timeout I; send I; arrive I 3; work I part; work I part; work I absent; crash I broker; "
+        "end I done; take I 1; send I; arrive I 4; take I 2",
+    ),
+    "a look that is late, of what was there before a creation": Rule(
+        PENDING + "B begin look visit=1; B2 look absent; B2 create; B2 look whole; B2 change 0 ready from "
+        "pending-provision; B end look absent visit=1; B answer 1 500 other-error",
+        "create I; arrive I 1; work I part; work I whole; end I done",
+    ),
+    "a look that is late, of what was whole before a deletion": Rule(
+        DELETING + f"B begin look visit=2; {TAKEN_OVER}B end look whole visit=2; B answer 2 500 other-error",
+        DELETED + "work I part; work I absent; end I done",
+    ),
+    "a look that is late, and found what a killed broker had not yet deleted": Rule(
+        f"{DELETING}B begin delete visit=2; B3 begin look; B2 look part; {TAKEN_OVER}B3 end look whole",
+        DELETED + "work I part; work I part; work I absent; crash I broker; end I done",
+    ),
+    "a creation whose line is late": Rule(
+        PENDING + "B begin create visit=1; B2 look whole; B2 change 0 ready from pending-provision; "
+        "B end create done visit=1; B answer 1 500 other-error",
+        "create I; arrive I 1; work I part; work I whole; end I done",
+    ),
+    "a creation whose line is late, of what is deleted meanwhile": Rule(
+        PENDING + "B begin create visit=1; B2 look whole; B2 change 0 ready from pending-provision; P lose r1; "
+        "P take 1 cleaning/1; P claim cleaning/2/deprovision; P send r2 deprovision 2; B2 arrive 1 r2 deprovision; "
+        "B2 change 1 ready+deprovision; B2 delete visit=1; B end create done visit=1; B2 look absent visit=1; "
+        "B2 change 1 tombstone; B2 answer 1 200; B answer 1 500 other-error",
+        "create I; arrive I 1; work I part; work I whole; end I done; timeout I; send I; arrive I 2; work I part; "
+        "work I absent; end I done",
+    ),
+    "a deletion whose line is late": Rule(
+        DELETING + "B begin delete visit=2; B2 look absent; B2 change 0 tombstone from ready+deprovision; "
+        "B end delete done visit=2; B answer 2 500 other-error",
+        DELETED + "work I part; work I absent; end I done",
+    ),
+    "credentials that are read late": Rule(
+        BIND + "B arrive 2 b1 provision of binding; B change 2 pending-provision of binding; B2 create @c1 of binding; "
+        "B begin credentials visit=2 of binding; B2 look whole of binding; B2 delete of binding; "
+        "B2 create @c2 of binding; B2 look whole of binding; B2 change 0 ready @c2 of binding; "
+        "B end credentials done visit=2 @c1 of binding; B answer 2 500 other-error of binding",
+        f"{MADE}; create B; arrive B 1; work B part; issue B 1; work B part; work B absent; work B part; issue B 2; "
+        "end B done",
+    ),
+    "a call that begins late, after whoever ends the work has looked": Rule(
+        DELETING + "B2 look whole; B2 delete; B2 look absent; B begin delete visit=2; "
+        "B2 change 0 tombstone from ready+deprovision; B end delete failed visit=2; B answer 2 500 other-error",
+        DELETED + "work I part; work I absent; work I part; work I absent; end I done",
+    ),
+    "a deletion that is late, and finds nothing": Rule(
+        DELETING + TAKEN_OVER + "B begin delete visit=2; B end delete done visit=2; B look absent visit=2; "
+        "B answer 2 500 other-error",
+        DELETED + "work I part; work I absent; end I done",
+    ),
+    "a call that is late, while its process changes the row for another request": Rule(
+        PENDING + "B look absent visit=1; B2 create; B2 look whole; B2 change 0 ready from pending-provision; "
+        "B begin create visit=1; P lose r1; P take 1 cleaning/1; P claim cleaning/2/deprovision; "
+        "P send r2 deprovision 2; B arrive 2 r2 deprovision; B change 2 ready+deprovision; "
+        "B end create failed visit=1; B look whole visit=1; B answer 1 500 other-error",
+        "create I; arrive I 1; work I part; work I whole; end I done; timeout I; send I; arrive I 2",
+    ),
+}
+
 RULES = {
+    **LATE_CALLS,
     "creation": Rule(CREATED, MADE),
     "removal": Rule(REMOVED, f"{MADE}; remove I; send I; arrive I 2; work I part; work I absent; end I done; take I 1"),
     "binding": Rule(BOUND, BINDING_MADE),

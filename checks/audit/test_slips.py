@@ -53,6 +53,12 @@ STALE = "the request was decided on a row that there never was while it was carr
 ENDED = """P claim wanted/1/provision; P send r1 provision 1; B arrive 1 r1 provision; B change 1 pending-provision
            B change 1 making; B answer 1 202; P hear r1 202; P take 1 polling/1; P claim polling/2/poll
            P send r2 poll 2; B create; B look whole; B change 0 ready; """
+REMOVING_FAILS = (
+    CREATED
+    + """P claim cleaning/2/deprovision; P send r2 deprovision 2; B arrive 2 r2 deprovision
+         B change 2 ready+deprovision; B look whole visit=2; B2 look whole; B2 begin delete
+         B2 end delete failed; B2 look whole; B2 change 0 ready from ready+deprovision; """
+)
 SLIPS = {
     "an answer before the commit": Slip(
         ASKED + "B change 1 pending-provision; B create; B answer 1 201; B change 1 ready",
@@ -116,6 +122,44 @@ SLIPS = {
              B arrive 2 r2 deprovision; B change 2 ready+deprovision""",
         ("broker", 12),
         "the row isn't as its last change has left it",
+    ),
+    "a part that is left behind a deletion": skipped(
+        REMOVED + "B2 look part",
+        ("broker", 3),
+        f"work {INSTANCE} part",
+    ),
+    "a part that was never there while the look went on": skipped(
+        REMOVED + "B2 begin look; B arrive 3 r1 provision; B answer 3 409 other-error; B2 end look part",
+        ("broker", 3),
+        f"work {INSTANCE} part",
+    ),
+    "a creation that is done once more after its end": skipped(
+        ASKED
+        + """B change 1 pending-provision; B look absent visit=1; B create visit=1; B look whole visit=1
+             B change 1 ready; B create visit=1; B answer 1 201""",
+        ("broker", 11),
+        f"work {INSTANCE} part",
+    ),
+    "a creation that comes after a deletion has ended": skipped(
+        ASKED
+        + """B change 1 pending-provision; B look absent visit=1; B2 create; B2 look whole
+             B2 change 0 ready from pending-provision; P lose r1; P take 1 cleaning/1; P claim cleaning/2/deprovision
+             P send r2 deprovision 2; B2 arrive 1 r2 deprovision; B2 change 1 ready+deprovision; B2 delete visit=1
+             B2 look absent visit=1; B2 change 1 tombstone; B2 answer 1 200; B create visit=1""",
+        ("broker", 6),
+        f"work {INSTANCE} part",
+    ),
+    "a deletion that comes after its instance is ready again": skipped(
+        REMOVING_FAILS + "B begin delete visit=2; B end delete done visit=2",
+        ("broker", 16),
+        f"work {INSTANCE} part",
+    ),
+    "an end that another worker's call has made wrong": skipped(
+        ASKED
+        + """B change 1 pending-provision; B create visit=1; B look whole visit=1; B2 look whole; B2 delete
+             B change 1 ready""",
+        ("broker", 8),
+        f"end {INSTANCE} done",
     ),
     "an operation that ends well without its resource": skipped(
         ASKED + "B change 1 pending-provision; B change 1 making; B answer 1 202; B look absent; B change 0 ready",

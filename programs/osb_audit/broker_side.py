@@ -2,7 +2,8 @@
 from __future__ import annotations
 
 from osb_audit import naming, rules
-from osb_audit.events import ANSWER, CREDENTIALS, PHASE, RESOURCE, TOMBSTONE, WORK, Wanted, shown
+from osb_audit.calls import Calls
+from osb_audit.events import ANSWER, CREDENTIALS, PHASE, TOMBSTONE, WORK, Wanted, shown
 from osb_audit.lines import Line
 from osb_audit.lives import Life, Visit
 from osb_audit.rules import Asked, Held, Said
@@ -22,12 +23,11 @@ class BrokerSide:
     def __init__(self, known: Known) -> None:
         self.known = known
         self.open: list[Visit] = []
-        self.idle: dict[tuple[str, tuple[str, int] | None, str, str], Line] = {}
-        """The calls that have begun while no work was pending and no operation ran."""
+        self.calls = Calls(known)
 
     def step(self, line: Line) -> None:
         """Goes through a line."""
-        {"arrived": self._arrived, "changed": self._changed, "work": self._work, "answered": self._answered}[
+        {"arrived": self._arrived, "changed": self._changed, "work": self.calls.step, "answered": self._answered}[
             line.event
         ](line)
 
@@ -177,7 +177,7 @@ class BrokerSide:
 
     def _changed(self, line: Line) -> None:
         life, visit = self.known.life(line.key), self._visit(line)
-        self._flush(line, life)
+        self.calls.flush(line, life)
         self._check_chain(line, life)
         if visit is not None and visit.key != line.key:
             raise unjudged(line, "the broker has deleted a binding by itself whose creation had failed")
@@ -196,6 +196,7 @@ class BrokerSide:
         else:
             self._change_at_once(line, life, visit, after)
         life.held, life.held_text, life.terms, life.held_line = after, line.of["after"], terms, line
+        self.calls.go_on(line, life)
         for it in list(self.open):
             self._resolve(it, line)
 
@@ -281,6 +282,7 @@ class BrokerSide:
             return
         how = rules.finished(before, after) if before.is_running else None
         if how is not None and visit is None:
+            self.calls.settle(line, life, rules.left(before.phase, how))
             self.known.emit(line, life, f"finish {how}", *self._after(after), *self._credentials(line, life, after))
             return
         self._number(line, life, visit, after)
@@ -305,6 +307,7 @@ class BrokerSide:
         outcome, answer = next((it for it in found if it[1] == said), found[0])
         wanted = ((ANSWER, shown(said)),) if said is not None else ()
         credentials = self._credentials(line, life, after)
+        self.calls.settle(line, life, rules.left(life.held.work, outcome))
         self.known.emit(line, life, f"end {outcome}", *self._after(after), *wanted, *credentials)
         life.worker = None
         if waits is None:
@@ -313,48 +316,3 @@ class BrokerSide:
         if waits is visit:
             self._close(waits)
         # Otherwise another process has done its work: it is as if the request arrived again.
-
-    # ---- the work
-
-    def _work(self, line: Line) -> None:
-        life, call, is_begun = self.known.life(line.key), line.of["call"], line.of["stage"] == "begun"
-        is_done, number = line.of.get("result") == "done", life.number_of(line.of.get("credentials", ""))
-        if call in ("create", "delete"):
-            if self._is_idle(line, life, is_begun, is_done):
-                return
-            if is_begun:
-                life.known = life.credentials if call == "delete" and life.resource == "whole" else 0
-                self._become(line, life, "part", 0)
-            elif is_done:
-                self._become(line, life, "whole" if call == "create" else "absent", number)
-        elif call == "look" and is_done and line.of["found"] != life.resource:
-            self._become(line, life, line.of["found"], life.known)
-        elif call == "credentials" and is_done and (life.resource, life.credentials) != ("whole", number):
-            self._become(line, life, "whole", number)
-
-    def _is_idle(self, line: Line, life: Life, is_begun: bool, is_done: bool) -> bool:
-        """Whether a call counts for nothing: it begins while no work is pending and no operation runs, and it fails. A
-        worker makes such a call if it was paused, and its lock was gone. If the call succeeds, it counts.
-        """
-        call = line.process, line.visit, line.key, line.of["call"]
-        if is_begun:
-            if life.held.work == "-" and not life.held.is_running:
-                self.idle[call] = line
-            return call in self.idle
-        begun = self.idle.pop(call, None)
-        if begun is None:
-            return False
-        if is_done:
-            self._become(begun, life, "part", 0)
-        return not is_done
-
-    def _flush(self, line: Line, life: Life) -> None:
-        """A process changes a row while a call of its own goes on, for which no work was pending: the call counts."""
-        for call in [it for it in self.idle if it[0] == line.process and it[2] == line.key]:
-            self._become(self.idle.pop(call), life, "part", 0)
-
-    def _become(self, line: Line, life: Life, resource: str, credentials: int) -> None:
-        number = credentials if resource == "whole" else 0
-        words = f"issue {number}" if number else f"work {resource}"
-        self.known.emit(line, life, words, (RESOURCE, resource))
-        life.resource, life.credentials = resource, number

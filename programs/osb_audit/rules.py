@@ -215,6 +215,27 @@ def finished(held: Held, after: Held) -> str | None:
     return None
 
 
+_LEFT = {
+    ("provision", "done"): "whole",
+    ("making", "ok"): "whole",
+    ("deprovision", "done"): "absent",
+    ("deleting", "ok"): "absent",
+    ("deprovision", "before"): "whole",
+    ("deleting", "fail"): "whole",
+    ("provision", "before"): "absent",
+    ("provision", "refused-400"): "absent",
+    ("provision", "refused-422"): "absent",
+    ("making", "fail"): "absent",
+}
+
+
+def left(what: str, how: str) -> str | None:
+    """The resource that an end leaves: of pending work of this kind, or of an operation in this phase. None if the
+    end doesn't say.
+    """
+    return _LEFT.get((what, how))
+
+
 # ---- what a platform records
 
 
