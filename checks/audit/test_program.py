@@ -22,6 +22,8 @@ pytestmark = pytest.mark.slow
 
 OTHER = "00000000-0000-0000-0000-000000000002"
 TEXT = ("--jobs", "1")
+ALL = ("--json", "--jobs", "1", "--unjudged", "100")
+"""The report in JSON, whatever isn't judged."""
 STRETCH = 1 << 16
 """The least that a worker reads at once."""
 
@@ -404,6 +406,7 @@ def test_rejected_arguments(options: list[str]) -> None:
 
 MISSING = "There is no journal of a {} among these: what the other side did can't be judged without it"
 NOTHING = "Nothing could be judged."
+USUAL = "More than 10 percent is an error, unless --unjudged PERCENT allows more."
 
 
 def test_one_side_only(audit: Audit, tmp_path: Path) -> None:
@@ -428,8 +431,10 @@ def test_remarks_in_json(audit: Audit, tmp_path: Path) -> None:
         assert (ran.status, ran.report["remarks"]) == (2, [MISSING.format(other), NOTHING])
     story = f"{CREATED}; B arrive 2 x deprovision; B change 2 ready+deprovision"
     ran = audit(*journals_in(tmp_path, story), options=("--json", "--unjudged", "9"))
-    told = "Not judged to their end: 100 percent of the instances. --unjudged allows 9 percent."
-    assert (ran.status, ran.report["remarks"]) == (3, [told])
+    told = "Not judged to their end: 100 percent of the instances."
+    assert (ran.status, ran.report["remarks"]) == (3, [f"{told} --unjudged allows 9 percent."])
+    ran = audit(*journals_in(tmp_path, story))
+    assert (ran.status, ran.report["remarks"]) == (1, [f"{told} {USUAL}"])
 
 
 def test_lost_lines(audit: Audit, tmp_path: Path) -> None:
@@ -441,7 +446,7 @@ def test_lost_lines(audit: Audit, tmp_path: Path) -> None:
     lines = broker.read_text().splitlines(keepends=True)
     lost = json.loads(lines[11]) | {"event": "lost", "count": 3}
     broker.write_text("".join([*lines[:12], json.dumps(lost, separators=(",", ":")) + "\n", *lines[15:]]))
-    ran = audit(broker, platform)
+    ran = audit(broker, platform, options=ALL)
     assert (ran.status, ran.err) == (0, "") and ran.report["lost"] == 3
     assert [(it["instances"], it["whole"], it["first"]["instance"]) for it in ran.report["unjudged"]] == [
         (1, 0, INSTANCE)
@@ -462,6 +467,22 @@ def test_too_many_unjudged(audit: Audit, tmp_path: Path, allowed: str, status: i
     assert ran.out.endswith("2 instances, 14 events, 0 differences\n")
 
 
+@pytest.mark.parametrize(("whole", "status"), [(9, 0), (8, 1)])
+def test_more_than_a_tenth_unjudged(audit: Audit, tmp_path: Path, whole: int, status: int) -> None:
+    """One instance of so many besides isn't judged to its end. Without --unjudged, that is an error from a tenth on."""
+    more = "; B arrive 2 x deprovision; B change 2 ready+deprovision"
+    journal = Journal().tell(CREATED + more)
+    for number in range(2, whole + 2):
+        of_another = Journal(instance=f"{INSTANCE[:-2]}{number:02}", time=BEGIN + number * 1_000_000_000).tell(CREATED)
+        for who, lines in of_another.lines.items():
+            journal.lines[who] += lines[1:]
+    paths = journal.files(tmp_path)
+    ran = audit(*paths, options=TEXT)
+    told = f"Not judged to their end: {100 / (whole + 1):.3g} percent of the instances. {USUAL}\n"
+    assert (ran.status, told in ran.out, ran.err) == (status, status == 1, ""), ran
+    assert audit(*paths, options=("--unjudged", "100")).status == 0
+
+
 MOST = 99_000
 """The events of an instance that are judged."""
 
@@ -473,7 +494,7 @@ def test_an_instance_of_many_events(audit: Audit) -> None:
     look = {"instance": INSTANCE, "call": "look", "stage": "ended", "result": "done"}
     for at in range(MOST - 2):  # behind `instance`, `create` and `arrive`
         journal.write("B", "work", {**look, "found": ("part", "absent")[at % 2]})
-    ran = audit(journal.tell("B answer 1 201"))
+    ran = audit(journal.tell("B answer 1 201"), options=ALL)
     assert (ran.status, ran.report["events"], ran.report["differences"], ran.err) == (0, MOST, [], "")
     (reason,) = ran.report["unjudged"]
     assert (reason["why"], reason["whole"], reason["first"]["line"]) == ("it has more than 99,000 events", 0, MOST + 1)

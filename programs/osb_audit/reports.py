@@ -6,13 +6,15 @@ from collections import Counter
 from typing import Any, Iterator, NamedTuple
 
 from osb_audit.events import COLUMNS
-from osb_audit.judging import Difference
+from osb_audit.judging import RECENT, Difference
 from osb_audit.lines import Place
 from osb_audit.work import Audited
 from osb_replay_log.faults import REFUSED_WORDS, shown
 
 DIFFERENT = 1
 UNJUDGED = 3
+USUAL = 10.0
+"""The percent of the instances that may be left without being judged to their end, if --unjudged isn't given."""
 
 
 class Unjudged(NamedTuple):
@@ -30,8 +32,10 @@ class Unjudged(NamedTuple):
 class Report:
     """What an audit has come to."""
 
-    def __init__(self, found: Audited, allowed: float = 100.0) -> None:
-        """`allowed`: the percent of the instances that may be left without being judged to their end."""
+    def __init__(self, found: Audited, allowed: float | None = None) -> None:
+        """`allowed`: the percent of the instances that may be left without being judged to their end, or None for the
+        usual one.
+        """
         self._found, self._allowed = found, allowed
         self.instances = sum(it.instances for it in found.judged)
         self.events = sum(it.events for it in found.judged)
@@ -48,12 +52,16 @@ class Report:
             return DIFFERENT
         if self.instances == sum(it.whole for it in self.unjudged):
             return REFUSED_WORDS
+        if self._allowed is None:
+            return DIFFERENT if self._left * 100 > USUAL * self.instances else 0
         return UNJUDGED if self._left * 100 > self._allowed * self.instances else 0
 
     @property
     def _left(self) -> int:
-        """How many instances weren't judged to their end."""
-        return sum(it.instances for it in self.unjudged)
+        """How many instances weren't judged to their end. If --unjudged isn't given, those don't count that were judged
+        until the audit began.
+        """
+        return sum(it.instances for it in self.unjudged if self._allowed is not None or it.why != RECENT)
 
     # ---- text
 
@@ -115,8 +123,12 @@ class Report:
         if self.status() == REFUSED_WORDS:
             yield "Nothing could be judged."
         if self.status() == UNJUDGED:
-            share = f"{100 * self._left / self.instances:.3g} percent"
-            yield f"Not judged to their end: {share} of the instances. --unjudged allows {self._allowed:g} percent."
+            yield f"{self._share()} --unjudged allows {self._allowed:g} percent."
+        elif self.status() == DIFFERENT and not (self.differences or self.disagreements):
+            yield f"{self._share()} More than {USUAL:g} percent is an error, unless --unjudged PERCENT allows more."
+
+    def _share(self) -> str:
+        return f"Not judged to their end: {100 * self._left / self.instances:.3g} percent of the instances."
 
     # ---- JSON
 

@@ -20,7 +20,8 @@ _EPILOGUE = """\
 
 Exit status:
   0   no difference
-  1   a difference, or the sides disagree at the end
+  1   a difference, or the sides disagree at the end; or more than a tenth of the instances
+      weren't judged to their end, and --unjudged isn't given
   2   the command line was rejected, a journal can't be used, or nothing could be judged
   3   more instances than --unjudged allows weren't judged to their end
   4   the report, or a file of the workers, could not be written
@@ -67,9 +68,9 @@ def read(words: list[str]) -> argparse.Namespace:
     parser.add_argument(
         "--unjudged",
         type=_percent,
-        default=100.0,
         metavar="PERCENT",
-        help="the share of the instances, from 0 to 100, that may be left without being judged to their end (100)",
+        help="the share of the instances, from 0 to 100, that may be left without being judged to their end. If more "
+        "are, the status is 3 (without this option: 10, and the status is 1)",
     )
     parser.add_argument(
         "journals",
