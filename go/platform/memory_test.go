@@ -356,6 +356,25 @@ func (m *memory) List(context.Context, Filter) ([]Entry, error) {
 	return found, nil
 }
 
+func (m *memory) ReadAll(_ context.Context, keys []Key) (found []Entry, err error) {
+	m.mu.Lock()
+	defer m.mu.Unlock()
+	for _, key := range keys {
+		if e, ok := m.rows[key]; ok {
+			found = append(found, m.shown(e))
+		}
+	}
+	return found, nil
+}
+
+func (m *memory) Places(ctx context.Context, filter Filter) (places []Place, err error) {
+	rows, err := m.List(ctx, filter)
+	for _, e := range rows {
+		places = append(places, Place{State: e.State, Since: e.Since, Key: e.Key})
+	}
+	return places, err
+}
+
 func (m *memory) Life(_ context.Context, key Key) ([]Stay, error) {
 	m.mu.Lock()
 	defer m.mu.Unlock()

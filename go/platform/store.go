@@ -36,6 +36,18 @@ type Change struct {
 // it fails, nothing of the row is written. now is the Store's time: all workers of a Store have the same.
 type Step func(now time.Time, held Held) (*Change, error)
 
+// An Ordering is an order of rows.
+type Ordering int
+
+const (
+	ByState Ordering = iota // State, Since, Key
+	ByTime                  // Since, Key
+	// ByKey is the order of Key, which never changes. If a list is read in pages, each behind the one before, a row that
+	// fits the filter all the while is on one page, whatever changes. In the other orders, a row that comes to another
+	// state between two pages may be on none, or on two.
+	ByKey
+)
+
 // A Filter chooses rows. The zero Filter chooses all.
 type Filter struct {
 	States   []State // empty for all
@@ -44,9 +56,10 @@ type Filter struct {
 	Bindings *bool   // only bindings, or only instances
 	Prefix   string  // only rows whose number, as a GUID, begins so
 	First    *osb.ID // only the tries of the order with this first id; Entry.Chain has those of a row
-	Latest   bool    // in the opposite order
-	After    *Place  // only rows behind this place, in the order in which they are listed
-	Most     int     // as many at most; 0 for all
+	Order    Ordering
+	Latest   bool   // in the opposite order
+	After    *Place // only rows behind this place, in the order in which they are listed
+	Most     int    // as many at most; 0 for all
 }
 
 // Chain chooses all tries of the order of a row. The ids of bindings are those of one instance.
@@ -60,7 +73,7 @@ func (e Entry) Chain() Filter {
 	return chain
 }
 
-// A Place is one in a list.
+// A Place is one in a list. Of a Filter's After only what its Order has counts.
 type Place struct {
 	State State
 	Since time.Time
@@ -112,9 +125,16 @@ type Store interface {
 	// Read returns the row of a key, also one that can't be read (Entry.Unreadable). Errors: ErrUnknown.
 	Read(ctx context.Context, key Key) (Entry, error)
 
-	// List returns rows, in the order of State, Since, Key, or with Filter.Latest in the opposite order. Reading locks
-	// nothing. A row that can't be read is one of them (Entry.Unreadable).
+	// ReadAll returns the rows of these keys, in their order, all as of one moment, also those that can't be read. It
+	// leaves out a key without a row.
+	ReadAll(ctx context.Context, keys []Key) ([]Entry, error)
+
+	// List returns rows as of one moment, in the order of Filter.Order, or with Filter.Latest in the opposite order.
+	// Reading locks nothing. A row that can't be read is one of them (Entry.Unreadable).
 	List(ctx context.Context, filter Filter) ([]Entry, error)
+
+	// Places returns the places of the rows that List returns. Those of all rows take little memory.
+	Places(ctx context.Context, filter Filter) ([]Place, error)
 
 	// Life returns the stays of a row that have ended, in their order.
 	Life(ctx context.Context, key Key) ([]Stay, error)

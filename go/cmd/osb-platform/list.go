@@ -133,35 +133,31 @@ func (l *listing) list(ctx context.Context, store platform.Store, to io.Writer, 
 			return err
 		}
 	}
-	l.filter.Most = readAtOnce
-	for {
-		rows, err := store.List(ctx, l.filter)
-		if err != nil {
-			return err
-		}
+	return platform.Walk(ctx, store, l.filter, readAtOnce, func(rows []platform.Entry) error {
 		for _, row := range rows {
-			l.count(row)
-			it := placed{Entry: row, broker: l.brokers[row.Broker]}
-			if l.reasons || l.inJSON {
-				if it.before, err = tryBefore(ctx, store, row); err != nil {
-					return err
-				}
-			}
-			if l.inJSON {
-				err = printJSON(to, jsonOf(it))
-			} else {
-				err = printRow(to, shown, it, isHeaded)
-			}
-			if err != nil {
+			if err := l.print(ctx, store, row, shown, to, isHeaded); err != nil {
 				return err
 			}
 		}
-		if len(rows) < readAtOnce {
-			return nil
+		return nil
+	})
+}
+
+// print counts and prints a row.
+func (l *listing) print(
+	ctx context.Context, store platform.Store, row platform.Entry, shown []column, to io.Writer, isHeaded bool,
+) (err error) {
+	l.count(row)
+	it := placed{Entry: row, broker: l.brokers[row.Broker]}
+	if l.reasons || l.inJSON {
+		if it.before, err = tryBefore(ctx, store, row); err != nil {
+			return err
 		}
-		last := rows[len(rows)-1]
-		l.filter.After = &platform.Place{State: last.State, Since: last.Since, Key: last.Key}
 	}
+	if l.inJSON {
+		return printJSON(to, jsonOf(it))
+	}
+	return printRow(to, shown, it, isHeaded)
 }
 
 // longCleaning is after how long a deletion that doesn't end needs attention.

@@ -7,6 +7,7 @@ import (
 	"path/filepath"
 	"strings"
 	"testing"
+	"time"
 
 	"pippinterm/platform"
 )
@@ -43,6 +44,71 @@ func TestLatest(t *testing.T) {
 			t.Fatalf("line %d is %q, and from the end it is %q", at, first[at], latest[len(latest)-1-at])
 		}
 	}
+}
+
+// A moving is a store in which rows come to other states after each call that reads some.
+type moving struct {
+	platform.Store
+	move func()
+}
+
+func (m moving) List(ctx context.Context, filter platform.Filter) ([]platform.Entry, error) {
+	defer m.move()
+	return m.Store.List(ctx, filter)
+}
+
+func (m moving) Places(ctx context.Context, filter platform.Filter) ([]platform.Place, error) {
+	defer m.move()
+	return m.Store.Places(ctx, filter)
+}
+
+func (m moving) ReadAll(ctx context.Context, keys []platform.Key) ([]platform.Entry, error) {
+	defer m.move()
+	return m.Store.ReadAll(ctx, keys)
+}
+
+// While instances come to other states, before and behind the place up to which they are listed, each is listed once.
+func TestListWhileRowsMove(t *testing.T) {
+	const count = 2*readAtOnce + 20
+	over(t, newRows(t, count), func(ctx context.Context, in platform.Store) error {
+		rows, err := in.List(ctx, platform.Filter{})
+		if err != nil {
+			return err
+		}
+		moved := 0
+		store := moving{in, func() {
+			for n := 0; n < 20; n++ {
+				moved++
+				err = in.Change(ctx, rows[moved*37%count].Key,
+					func(now time.Time, held platform.Held) (*platform.Change, error) {
+						held.Entry.Since = now
+						held.Entry.State = []platform.State{platform.Abandoned, platform.Withdrawn}[moved%2]
+						return &platform.Change{Entry: held.Entry}, nil
+					})
+				if err != nil {
+					t.Error(err)
+				}
+			}
+		}}
+		var out bytes.Buffer
+		if err := (&listing{}).listTo(ctx, store, &out); err != nil {
+			return err
+		}
+		listed := map[string]int{}
+		for _, line := range strings.Split(strings.TrimSpace(out.String()), "\n") {
+			id, _, _ := strings.Cut(line, "\t")
+			listed[id]++
+		}
+		for _, it := range rows {
+			if got := listed[it.Names.Instance]; got != 1 {
+				t.Errorf("the instance %s is listed %d times, want 1", it.Names.Instance, got)
+			}
+		}
+		if len(listed) != count || moved == 0 {
+			t.Errorf("got %d instances of %d, %d moved", len(listed), count, moved)
+		}
+		return nil
+	})
 }
 
 // A reader of the list that has seen enough is no failure.

@@ -118,12 +118,12 @@ func (f *fake) Read(_ context.Context, key platform.Key) (platform.Entry, error)
 	return e, nil
 }
 
-// less is the order of a list.
-func less(a, b platform.Place) bool {
-	if a.State != b.State {
+// less is an order of a list.
+func less(order platform.Ordering, a, b platform.Place) bool {
+	if a.State != b.State && order == platform.ByState {
 		return a.State < b.State
 	}
-	if !a.Since.Equal(b.Since) {
+	if !a.Since.Equal(b.Since) && order != platform.ByKey {
 		return a.Since.Before(b.Since)
 	}
 	return a.Key.String() < b.Key.String()
@@ -134,7 +134,7 @@ func comesBefore(filter platform.Filter, a, b platform.Place) bool {
 	if filter.Latest {
 		a, b = b, a
 	}
-	return less(a, b)
+	return less(filter.Order, a, b)
 }
 
 func placeIn(e platform.Entry) platform.Place {

@@ -1,9 +1,7 @@
 package api
 
 import (
-	"context"
 	"net/http"
-	"sort"
 	"strconv"
 	"strings"
 
@@ -88,7 +86,6 @@ func (a *asked) row(e platform.Entry, states int) (row, error) {
 type selection struct {
 	// The filter says in which order the rows are read, and behind which place.
 	filter       platform.Filter
-	isByTime     bool // the order is that of time and key, whatever the state
 	isBack       bool // the page is read from its end: against its order, and the rows before a place
 	isUnreadable bool // rows that can be read are left out, once the page was read
 	limit        int  // rows of the page
@@ -102,7 +99,8 @@ func (a *asked) list(filter platform.Filter) (answer, error) {
 	if err != nil {
 		return answer{}, err
 	}
-	entries, err := s.read(a.Context(), a.store)
+	s.filter.Most = s.limit + 1
+	entries, err := a.store.List(a.Context(), s.filter)
 	if err != nil {
 		return answer{}, err
 	}
@@ -138,12 +136,12 @@ func (l *list) link(s selection, entries []platform.Entry, isMore bool) (err err
 		hasNext, hasPrevious = hasPrevious, hasNext
 	}
 	if hasNext && len(entries) > 0 {
-		if l.Next, err = cursorOf(entries[len(entries)-1]); err != nil {
+		if l.Next, err = cursorOf(entries[len(entries)-1], s.filter.Order); err != nil {
 			return err
 		}
 	}
 	if hasPrevious && len(entries) > 0 {
-		l.Previous, err = cursorOf(entries[0])
+		l.Previous, err = cursorOf(entries[0], s.filter.Order)
 	}
 	return err
 }
@@ -203,16 +201,25 @@ func (a *asked) readOrder(s *selection) (err error) {
 	if s.filter.Latest, err = a.flag("latest"); err != nil {
 		return err
 	}
-	values, isGiven := a.query["order"]
-	if !isGiven || values[0] == "state" {
+	_, hasLatest := a.query["latest"]
+	order := "number"
+	if values := a.query["order"]; len(values) > 0 {
+		order = values[0]
+	} else if hasLatest {
+		order = "state"
+	}
+	switch order {
+	case "state":
 		return nil
+	case "number":
+		s.filter.Order = platform.ByKey
+	case "newest", "oldest":
+		s.filter.Order, s.filter.Latest = platform.ByTime, order == "newest"
+	default:
+		return malformed("order is number, state, newest or oldest")
 	}
-	if _, isBoth := a.query["latest"]; isBoth {
+	if hasLatest {
 		return malformed("latest goes with the order state: leave it out")
-	}
-	s.isByTime, s.filter.Latest = true, values[0] == "newest"
-	if values[0] != "newest" && values[0] != "oldest" {
-		return malformed("order is state, newest or oldest")
 	}
 	return nil
 }
@@ -228,7 +235,7 @@ func (a *asked) readPlace(s *selection) error {
 		return malformed("give one of after, before and last")
 	}
 	if cursor := after + before; cursor != "" {
-		if s.filter.After, err = placeOf(cursor); err != nil {
+		if s.filter.After, err = placeOf(cursor, s.filter.Order); err != nil {
 			return malformed(err.Error())
 		}
 	}
@@ -236,46 +243,6 @@ func (a *asked) readPlace(s *selection) error {
 		s.filter.Latest = !s.filter.Latest
 	}
 	return nil
-}
-
-// read reads the rows, and at least one more than the page has, if there is one. A Store lists by state first. So if the
-// order is that of time, each state is read by itself, and the rows are merged.
-func (s selection) read(ctx context.Context, store platform.Store) (all []platform.Entry, err error) {
-	filter := s.filter
-	filter.Most = s.limit + 1
-	if !s.isByTime {
-		return store.List(ctx, filter)
-	}
-	of := s.filter.States
-	if len(of) == 0 {
-		of = allStates
-	}
-	for _, state := range of {
-		filter.States = []platform.State{state}
-		if s.filter.After != nil {
-			filter.After = &platform.Place{State: state, Since: s.filter.After.Since, Key: s.filter.After.Key}
-		}
-		entries, err := store.List(ctx, filter)
-		if err != nil {
-			return nil, err
-		}
-		all = append(all, entries...)
-	}
-	sort.SliceStable(all, func(one, other int) bool {
-		if filter.Latest {
-			one, other = other, one
-		}
-		return isBefore(all[one], all[other])
-	})
-	return all, nil
-}
-
-// isBefore is whether a row comes before another one by time and key.
-func isBefore(a, b platform.Entry) bool {
-	if !a.Since.Equal(b.Since) {
-		return a.Since.Before(b.Since)
-	}
-	return a.Key.String() < b.Key.String()
 }
 
 // turn turns rows round.

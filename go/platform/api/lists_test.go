@@ -59,7 +59,7 @@ func TestLatest(t *testing.T) {
 					t.Fatalf("%s: %v, want %v turned round", path, turned, usual)
 				}
 			}
-			if len(usual) < 2 || strings.Join(usual, " ") != strings.Join(r.idsOf(path+"?"), " ") {
+			if len(usual) < 2 || strings.Join(usual, " ") != strings.Join(r.idsOf(path+"?order=state"), " ") {
 				t.Errorf("%s: %v", path, usual)
 			}
 		}

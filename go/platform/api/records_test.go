@@ -125,14 +125,17 @@ func (r *rig) bothWays(target string, want []mark) {
 	}
 }
 
-// The usual order and its opposite have both directions too.
+// The orders of states and of numbers have both directions, too. That of numbers is the usual one.
 func TestPagesBackwards(t *testing.T) {
 	each(t, func(r *rig) {
 		r.some()
-		want := r.call("GET", "/v1/records", "").want(200, "").marks()
-		r.bothWays("/v1/records?limit=4", want)
+		want := r.call("GET", "/v1/records?order=state", "").want(200, "").marks()
+		r.bothWays("/v1/records?limit=4&order=state", want)
 		r.bothWays("/v1/records?limit=4&order=state&latest=true", turned(want))
-		r.bothWays("/v1/records?limit=100", want)
+		r.bothWays("/v1/records?limit=100&order=state", want)
+		sort.Slice(want, func(a, b int) bool { return want[a].key < want[b].key })
+		r.bothWays("/v1/records?limit=4", want)
+		r.bothWays("/v1/records?limit=100&order=number", want)
 	})
 }
 
@@ -315,10 +318,12 @@ func TestBadLists(t *testing.T) {
 	if url.QueryEscape(cursor) != cursor {
 		t.Errorf("the cursor %q doesn't stand in a URL as it is", cursor)
 	}
+	byState := r.call("GET", "/v1/records?limit=1&order=state", "").want(200, "").at("next")
 	for _, query := range []string{
 		"order=x", "order=", "order=newest&latest=true", "order=oldest&latest=false", "life=0", "life=101", "life=x",
 		"last=yes", "unreadable=1", "before=x", "before=e30", "after=" + cursor + cursor, "order=newest&order=oldest",
-		"first=a",
+		"first=a", "order=state&after=" + cursor, "latest=true&after=" + cursor, "order=number&after=" + byState,
+		"after=" + byState, "order=number&latest=true", "order=id",
 	} {
 		r.call("GET", "/v1/records?"+query, "").want(400, "malformed")
 	}
@@ -330,4 +335,50 @@ func TestBadLists(t *testing.T) {
 	}
 	r.call("GET", "/v1/bindings?prefix=x", "").want(400, "malformed")
 	r.callAs(writing, "GET", "/v1/records", "").want(403, "forbidden")
+}
+
+// Between two pages, rows come to another state, behind and before the place of the page. A list by number has each row
+// on one page all the same, and so has a list of the rows in a state of those that stay in it.
+func TestListsWhileRowsChange(t *testing.T) {
+	each(t, func(r *rig) {
+		ids := map[string]int{}
+		for n := 0; n < 12; n++ {
+			ids[r.ordered()] = 0
+		}
+		for _, query := range []string{"", "&state=ordered", "&state=ordered&state=withdrawn&broker=shelf"} {
+			stays := map[string]bool{}
+			for id := range ids {
+				ids[id] = 0
+				stays[id] = r.call("GET", "/v1/instances/"+id, "").want(200, "").at("state") == "ordered"
+			}
+			target, moved := "/v1/instances?limit=3"+query, 0
+			for next := ""; ; {
+				page := r.call("GET", target+next, "").want(200, "")
+				for n := range page.items() {
+					ids[page.at("items", fmt.Sprint(n), "id")]++
+				}
+				for id := range stays { // another state, for one that was listed or not
+					if stays[id] && moved < 3 {
+						r.call("DELETE", "/v1/instances/"+id, "").want(202, "")
+						stays[id], moved = false, moved+1
+						break
+					}
+				}
+				cursor, isThere := page.body["next"].(string)
+				if !isThere {
+					break
+				}
+				next = "&after=" + cursor
+			}
+			for id, count := range ids {
+				isWanted := stays[id] || query == ""
+				if isWanted && count != 1 || count > 1 {
+					r.Errorf("%q: the instance %s is listed %d times, want 1", query, id, count)
+				}
+			}
+			if moved == 0 {
+				r.Errorf("%q: no instance has changed", query)
+			}
+		}
+	})
 }

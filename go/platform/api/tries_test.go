@@ -64,7 +64,7 @@ func TestRemoveLastTryOfBinding(t *testing.T) {
 			r.sent(keyOfIDs(t, it, "app"))
 		}
 		last := r.triedAgain(id, "app")
-		tries := r.call("GET", path+"?first=app", "").want(200, "")
+		tries := r.call("GET", path+"?first=app&order=state", "").want(200, "")
 		if len(tries.items()) != 2 || tries.at("items", "1", "id") != last || tries.at("items", "1", "try") != "2" {
 			t.Errorf("the tries are %s", tries.text)
 		}

@@ -25,21 +25,29 @@ var states = []string{
 	apiclient.CleaningPolling, apiclient.Gone, apiclient.Unsettled, apiclient.Abandoned,
 }
 
+// orders say how a list is ordered. usualOrder stands for apiclient.Newest: no target names it.
+const usualOrder apiclient.Order = ""
+
+var orders = map[apiclient.Order]string{
+	usualOrder: "newest in their state first", apiclient.Oldest: "longest in their state first",
+	apiclient.ByNumber: "by number",
+}
+
 // What the target of a list asks for.
 type asked struct {
-	state    string // one of states, or inFlight, or empty for all
-	find     string // what numbers begin with, or a whole id; if it isn't empty, no state counts
-	bindings bool   // bindings, and not instances
-	isOldest bool   // those first that are longest in their state, and not the newest
-	after    string // the page that begins behind this place, which is a cursor of the API
-	before   string // the page that ends before this place
-	isLast   bool   // the last page
-	skipped  int    // how many rows come before the place, as the page with the link says
-	isStill  bool   // whether the page stays as it is, and isn't refreshed of itself
+	state    string          // one of states, or inFlight, or empty for all
+	find     string          // what numbers begin with, or a whole id; if it isn't empty, no state counts
+	bindings bool            // bindings, and not instances
+	order    apiclient.Order // of orders; Newest is empty here
+	after    string          // the page that begins behind this place, which is a cursor of the API
+	before   string          // the page that ends before this place
+	isLast   bool            // the last page
+	skipped  int             // how many rows come before the place, as the page with the link says
+	isStill  bool            // whether the page stays as it is, and isn't refreshed of itself
 }
 
 // isFirst is whether the first page is asked for, with what waits and what is in flight.
-func (a asked) isFirst() bool { return a == asked{isStill: a.isStill, isOldest: a.isOldest} }
+func (a asked) isFirst() bool { return a == asked{isStill: a.isStill, order: a.order} }
 
 // isPaged is whether the rows are listed by time, on pages.
 func (a asked) isPaged() bool { return a.find == "" && a.state != inFlight }
@@ -92,8 +100,8 @@ func (a *asked) take(name, value string) (err error) {
 			return errNoPage
 		}
 	case "order":
-		a.isOldest = value == "oldest"
-		if !a.isOldest {
+		a.order = apiclient.Order(value)
+		if orders[a.order] == "" || a.order == usualOrder {
 			return errNoPage
 		}
 	case "after":
@@ -144,8 +152,8 @@ func (a asked) target() string {
 	if a.bindings {
 		query.Set("kind", "bindings")
 	}
-	if a.isOldest {
-		query.Set("order", "oldest")
+	if a.order != usualOrder {
+		query.Set("order", string(a.order))
 	}
 	for name, at := range map[string]string{"after": a.after, "before": a.before} {
 		if at != "" {

@@ -100,7 +100,7 @@ func (l look) long(records []apiclient.Record) (found []apiclient.Record) {
 func (l look) unreadables(in []string) (all []apiclient.Record, err error) {
 	for _, state := range in {
 		found, err := l.api.List(l.ctx, apiclient.Query{
-			Kind: apiclient.Records, States: []string{state}, Unreadable: true, Limit: size,
+			Kind: apiclient.Records, States: []string{state}, Unreadable: true, Order: apiclient.ByState, Limit: size,
 		})
 		if err != nil {
 			return nil, err
@@ -155,7 +155,7 @@ func moreOf(of attention, a asked, c counts) (found []link) {
 			}
 			found = append(found, link{
 				Href: asked{
-					state: state, bindings: bindings, isOldest: true, isStill: a.isStill,
+					state: state, bindings: bindings, order: apiclient.Oldest, isStill: a.isStill,
 				}.target(),
 				Anchor: anchor + state, Word: "All " + counted(number, state+" "+word),
 			})

@@ -64,11 +64,11 @@ func (f *fake) InFlight(_ context.Context, most int) (found []platform.Entry, er
 	return found, f.err
 }
 
-func less(a, b platform.Place) bool {
-	if a.State != b.State {
+func less(order platform.Ordering, a, b platform.Place) bool {
+	if a.State != b.State && order == platform.ByState {
 		return a.State < b.State
 	}
-	if !a.Since.Equal(b.Since) {
+	if !a.Since.Equal(b.Since) && order != platform.ByKey {
 		return a.Since.Before(b.Since)
 	}
 	return a.Key.String() < b.Key.String()
@@ -79,7 +79,7 @@ func comesBefore(filter platform.Filter, a, b platform.Place) bool {
 	if filter.Latest {
 		a, b = b, a
 	}
-	return less(a, b)
+	return less(filter.Order, a, b)
 }
 
 func placeIn(e platform.Entry) platform.Place {

@@ -10,10 +10,7 @@ import (
 // list reads the rows of a list.
 func (l look) list(o *overview, a asked, c counts, flights []apiclient.Record) error {
 	var err error
-	shown, total, order := leaf{}, -1, "newest in their state first"
-	if a.isOldest {
-		order = "longest in their state first"
-	}
+	shown, total, order := leaf{}, -1, orders[a.order]
 	switch {
 	case a.find != "":
 		order = "by state"
@@ -34,6 +31,7 @@ func (l look) list(o *overview, a asked, c counts, flights []apiclient.Record) e
 	}
 	if a.isPaged() {
 		o.Pages, o.Orders = pagesOf(a, shown), ordersOf(a)
+		o.MayMiss = a.order != apiclient.ByNumber
 	}
 	o.Nothing = marked(nothing(a, c))
 	o.Caption = position(shown.skipped, len(shown.Items), total, order)
@@ -79,7 +77,7 @@ func present(of map[string]int) (found []string) {
 func (l look) found(a asked) (all []apiclient.Record, err error) {
 	if prefix, isPrefix := prefixOf(a.find); isPrefix {
 		found, err := l.api.List(l.ctx, apiclient.Query{
-			Kind: apiclient.Records, Prefix: prefix, Life: spans + 1, Limit: size,
+			Kind: apiclient.Records, Prefix: prefix, Order: apiclient.ByState, Life: spans + 1, Limit: size,
 		})
 		if err != nil {
 			return nil, err

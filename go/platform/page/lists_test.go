@@ -4,11 +4,13 @@ import (
 	"net/http"
 	"net/url"
 	"reflect"
+	"sort"
 	"strings"
 	"testing"
 	"time"
 
 	"pippinterm/platform"
+	"pippinterm/platform/api/apiclient"
 )
 
 func TestFind(t *testing.T) {
@@ -87,13 +89,20 @@ func TestPages(t *testing.T) {
 			}
 		}
 	}
-	for target, wanted := range map[string][]string{"/": backwards(want), "/?order=oldest": want} {
+	byNumber := append([]string{}, want...)
+	sort.Strings(byNumber)
+	for target, wanted := range map[string][]string{
+		"/": backwards(want), "/?order=oldest": want, "/?order=number": byNumber,
+	} {
 		pages, captions := walked(t, h, target, "page-next")
 		if !reflect.DeepEqual(joined(pages), wanted) {
 			t.Errorf("%s: it lists %v", target, pages)
 		}
 		if !reflect.DeepEqual(captions, []string{"1 to 50 of 121", "51 to 100 of 121", "101 to 121 of 121"}) {
 			t.Errorf("%s: the pages are %v", target, captions)
+		}
+		if isSaid := strings.Contains(got(t, h, target), "while you turn pages"); isSaid == (target == "/?order=number") {
+			t.Errorf("%s: whether it says that pages may leave out rows: %t", target, isSaid)
 		}
 		last := linkOf(got(t, h, target), "page-last")
 		pages, captions = walked(t, h, last, "page-previous")
@@ -160,8 +169,9 @@ func TestFewRows(t *testing.T) {
 func TestTargets(t *testing.T) {
 	const at = "eyJz-_0+ &="
 	for _, a := range []asked{
-		{}, {state: "gone"}, {state: inFlight}, {find: "a b&c=<"}, {isOldest: true}, {state: "ready", after: at, skipped: 3},
-		{before: at, skipped: 50, isOldest: true}, {isLast: true, bindings: true}, {state: "gone", isStill: true},
+		{}, {state: "gone"}, {state: inFlight}, {find: "a b&c=<"}, {order: apiclient.Oldest},
+		{state: "ready", after: at, skipped: 3}, {order: apiclient.ByNumber, isLast: true},
+		{before: at, skipped: 50, order: apiclient.Oldest}, {isLast: true, bindings: true}, {state: "gone", isStill: true},
 	} {
 		target, err := url.Parse(a.target())
 		must(t, err)

@@ -88,7 +88,9 @@ func (l look) tries(r apiclient.Record) ([]apiclient.Record, error) {
 	if r.Try <= 1 && !r.FailureMayPass {
 		return nil, nil
 	}
-	query := apiclient.Query{Kind: apiclient.Instances, First: r.First, Life: spans + 1, Limit: mostBound}
+	query := apiclient.Query{
+		Kind: apiclient.Instances, First: r.First, Order: apiclient.ByState, Life: spans + 1, Limit: mostBound,
+	}
 	if r.IsBinding() {
 		query.Kind, query.Of = apiclient.Bindings, r.InstanceNumber
 	}
@@ -127,7 +129,7 @@ func (l look) chain(tries []apiclient.Record) *rows {
 // bindings are those of an instance.
 func (l look) bindings(r apiclient.Record) (*rows, error) {
 	found, err := l.api.List(l.ctx, apiclient.Query{
-		Kind: apiclient.Bindings, Of: r.Number, Life: spans + 1, Limit: mostBound,
+		Kind: apiclient.Bindings, Of: r.Number, Order: apiclient.ByState, Life: spans + 1, Limit: mostBound,
 	})
 	if err != nil {
 		return nil, err

@@ -43,14 +43,14 @@ func (l look) leaf(a asked, of []string, total int) (leaf, error) {
 // is no place.
 func (l look) listed(a asked, of []string) (apiclient.List, error) {
 	query := apiclient.Query{
-		Kind: apiclient.Instances, States: of, Order: apiclient.Newest, Life: spans + 1, Limit: size,
+		Kind: apiclient.Instances, States: of, Order: a.order, Life: spans + 1, Limit: size,
 		After: a.after, Before: a.before, Last: a.isLast,
 	}
 	if a.bindings {
 		query.Kind = apiclient.Bindings
 	}
-	if a.isOldest {
-		query.Order = apiclient.Oldest
+	if a.order == usualOrder {
+		query.Order = apiclient.Newest
 	}
 	found, err := l.api.List(l.ctx, query)
 	if errors.Is(err, apiclient.ErrMalformed) && a.after+a.before != "" {
@@ -79,11 +79,17 @@ func pagesOf(a asked, shown leaf) []link {
 }
 
 // ordersOf are the links to the same list in each order.
-func ordersOf(a asked) []link {
-	newest, oldest := a.first(), a.first()
-	newest.isOldest, oldest.isOldest = false, true
-	return []link{
-		{Word: "Newest first", Anchor: "order-newest", Href: newest.target(), IsHere: !a.isOldest},
-		{Word: "Oldest first", Anchor: "order-oldest", Href: oldest.target(), IsHere: a.isOldest},
+func ordersOf(a asked) (links []link) {
+	for _, it := range []struct {
+		order        apiclient.Order
+		word, anchor string
+	}{
+		{usualOrder, "Newest first", "order-newest"}, {apiclient.Oldest, "Oldest first", "order-oldest"},
+		{apiclient.ByNumber, "By number", "order-number"},
+	} {
+		to := a.first()
+		to.order = it.order
+		links = append(links, link{Word: it.word, Anchor: it.anchor, Href: to.target(), IsHere: a.order == it.order})
 	}
+	return links
 }

@@ -7,6 +7,7 @@ import (
 	"testing"
 
 	"pippinterm/broker/postgres/pgtest"
+	"pippinterm/platform"
 )
 
 // Rows of which few are due, and few are leased. All have the same order.
@@ -43,6 +44,7 @@ func TestQueriesUseIndexes(t *testing.T) {
 	defer conn.Close()
 	const key = "00000000-0000-4000-8000-000000000007"
 	const row = `[{"id": "` + key + `"}]`
+	byKey, _ := listing(platform.Filter{Order: platform.ByKey, Most: 10}, "row_to_json(t)", "line")
 	queries := map[string]string{
 		lockDue:        "'{one}', 16, 96",
 		nextDue:        "'{one}'",
@@ -54,6 +56,8 @@ func TestQueriesUseIndexes(t *testing.T) {
 		removeBindings: quoted("{"+key+"}") + ", 1",
 		wakeInstances:  quoted("{"+key+"}") + ", 1",
 		inFlight:       "10",
+		readAll:        quoted("{"+key+"}", "{"+key+"}"),
+		byKey:          "",
 		leasedBy:       quoted("me"),
 	}
 	for query, values := range queries {

@@ -3,6 +3,8 @@ package sqlite
 import (
 	"context"
 	"database/sql/driver"
+	"errors"
+	"sort"
 	"strings"
 
 	"pippinterm/platform"
@@ -14,161 +16,213 @@ var states = []platform.State{
 	platform.Ready, platform.Unsettled, platform.Wanted, platform.Withdrawn,
 }
 
-// List returns rows, in the order of State, Since, Key, or in the opposite one. It reads one state after another, from
-// an index, until it has enough.
-func (s *Store) List(ctx context.Context, filter platform.Filter) (entries []platform.Entry, err error) {
-	err = s.read(ctx, func(c *connection) error {
-		entries = nil
-		return c.Snapshot(func() error {
-			for _, state := range statesOf(filter) {
-				if err := ctx.Err(); err != nil {
-					return err
-				}
-				if filter.Most > 0 && len(entries) >= filter.Most {
-					break
-				}
-				if err := c.list(filter, state, &entries); err != nil {
-					return err
-				}
+// A view is what is read of each row: the columns of an instance and of a binding, of which the first two are the key.
+type view[T any] struct {
+	instance, binding string
+	read              func([]driver.Value) (T, error)
+	place             func(T) platform.Place
+}
+
+var (
+	wholeRow = view[platform.Entry]{
+		instance: instanceRow, binding: bindingRow, read: shownOf,
+		place: func(e platform.Entry) platform.Place {
+			return platform.Place{State: e.State, Since: e.Since, Key: e.Key}
+		},
+	}
+	onlyPlace = view[platform.Place]{
+		instance: "id, NULL, state, since", binding: "instance, id, state, since", read: placeOf,
+		place: func(at platform.Place) platform.Place { return at },
+	}
+)
+
+func placeOf(values []driver.Value) (platform.Place, error) {
+	r := &row{values: values}
+	at := platform.Place{Key: r.key(), State: platform.State(r.text("")), Since: r.at()}
+	return at, r.err
+}
+
+// List returns rows of one snapshot, in the order of the filter.
+func (s *Store) List(ctx context.Context, filter platform.Filter) ([]platform.Entry, error) {
+	return listOf(ctx, s, filter, wholeRow)
+}
+
+// Places returns the places of the rows that List returns. If the filter has nothing but states and a broker, it reads
+// indexes alone.
+func (s *Store) Places(ctx context.Context, filter platform.Filter) ([]platform.Place, error) {
+	return listOf(ctx, s, filter, onlyPlace)
+}
+
+func listOf[T any](ctx context.Context, s *Store, filter platform.Filter, of view[T]) ([]T, error) {
+	return inSnapshot(ctx, s, func(c *connection) ([]T, error) {
+		l := &listing[T]{connection: c, view: of, filter: filter}
+		err := l.list(ctx)
+		return l.found, err
+	})
+}
+
+// ReadAll returns the rows of these keys, of one snapshot.
+func (s *Store) ReadAll(ctx context.Context, keys []platform.Key) ([]platform.Entry, error) {
+	return inSnapshot(ctx, s, func(c *connection) (entries []platform.Entry, err error) {
+		for _, key := range keys {
+			entry, err := c.shown(key)
+			switch {
+			case errors.Is(err, platform.ErrUnknown):
+			case err != nil:
+				return nil, err
+			default:
+				entries = append(entries, entry)
 			}
-			return nil
+		}
+		return entries, ctx.Err()
+	})
+}
+
+// inSnapshot returns what is read of one state of the file.
+func inSnapshot[T any](ctx context.Context, s *Store, read func(*connection) ([]T, error)) (found []T, err error) {
+	err = s.read(ctx, func(c *connection) error {
+		return c.Snapshot(func() (err error) {
+			found, err = read(c)
+			return err
 		})
 	})
-	return entries, err
+	return found, err
 }
 
-// statesOf are the states of the rows of a filter, in their order.
-func statesOf(filter platform.Filter) (of []platform.State) {
-	chosen := map[platform.State]bool{}
-	for _, it := range filter.States {
-		chosen[it] = true
+// A listing reads what a list has.
+type listing[T any] struct {
+	*connection
+	view   view[T]
+	filter platform.Filter
+	found  []T
+}
+
+// list reads all. By key that is one query. Else it is one for each state, which an index has in order: by state they
+// are read until there are enough, and by time all of them, and merged.
+func (l *listing[T]) list(ctx context.Context) error {
+	if l.filter.Order == platform.ByKey {
+		return l.byKey()
 	}
-	for at := range states {
-		it := states[at]
-		if filter.Latest {
-			it = states[len(states)-1-at]
+	for _, state := range statesOf(l.filter) {
+		if err := ctx.Err(); err != nil {
+			return err
 		}
-		if isBehind(filter, it) && (len(chosen) == 0 || chosen[it]) {
-			of = append(of, it)
+		most := l.filter.Most
+		if l.filter.Order == platform.ByState && most > 0 {
+			if most -= len(l.found); most == 0 {
+				break
+			}
+		}
+		if err := l.in(state, most); err != nil {
+			return err
 		}
 	}
-	return of
-}
-
-// isBehind is whether rows in a state may come behind the place of a filter.
-func isBehind(filter platform.Filter, state platform.State) bool {
-	switch {
-	case filter.After == nil:
-		return true
-	case filter.Latest:
-		return state <= filter.After.State
+	if l.filter.Order == platform.ByTime {
+		l.merge()
 	}
-	return state >= filter.After.State
+	return nil
 }
 
-// A selection is a statement with its values.
-type selection struct {
-	text   strings.Builder
-	values []driver.Value
-}
-
-// and adds a condition, in which each ? stands for the next of the values.
-func (s *selection) and(condition string, values ...driver.Value) {
-	s.text.WriteString(" AND " + condition)
-	s.values = append(s.values, values...)
-}
-
-// list appends the rows of a filter that are in a state.
-func (c *connection) list(filter platform.Filter, state platform.State, entries *[]platform.Entry) error {
-	chosen := &selection{}
-	if wantsInstances(filter) {
-		chosen.text.WriteString("SELECT " + instanceRow + " FROM osb_instances WHERE ")
-		chosen.of(filter, state, "id")
-	}
-	if wantsBindings(filter) {
-		if chosen.text.Len() > 0 {
-			chosen.text.WriteString(" UNION ALL ")
+// merge sorts what was read of several states by time, and keeps as many as the filter has at most.
+func (l *listing[T]) merge() {
+	sort.SliceStable(l.found, func(one, other int) bool {
+		if l.filter.Latest {
+			one, other = other, one
 		}
-		chosen.text.WriteString("SELECT " + bindingRow + " FROM osb_bindings WHERE ")
-		chosen.of(filter, state, "instance, id")
+		a, b := l.view.place(l.found[one]), l.view.place(l.found[other])
+		if !a.Since.Equal(b.Since) {
+			return a.Since.Before(b.Since)
+		}
+		return a.Key.String() < b.Key.String()
+	})
+	if most := l.filter.Most; most > 0 && len(l.found) > most {
+		l.found = l.found[:most]
+	}
+}
+
+// in reads at most so many rows that are in a state, or all for 0.
+func (l *listing[T]) in(state platform.State, most int) error {
+	filter, chosen := l.filter, &selection{}
+	isNarrow := filter.Instance != nil || filter.First != nil || filter.Prefix != ""
+	where := func(key string) {
+		chosen.and(unindexed(isNarrow)+"state = ?", string(state))
+		chosen.of(filter, isNarrow)
+		if after := filter.After; after != nil && (after.State == state || filter.Order == platform.ByTime) {
+			chosen.after(filter, "since, "+key)
+		}
+	}
+	return l.read(chosen, where, "since, 1, 2", most)
+}
+
+// fewRows is how many rows a list by key sorts at most for one page.
+const fewRows = 5000
+
+// byKey reads the rows by their keys. If few rows have the states and the broker of the filter, an index finds them,
+// and they are sorted. Else the rows are read in the order of their keys, and those that don't fit are passed over. So all
+// pages together read each row once.
+func (l *listing[T]) byKey() error {
+	filter, chosen := l.filter, &selection{}
+	count, err := l.countOf(filter)
+	if err != nil {
+		return err
+	}
+	isUnindexed := filter.Instance != nil || filter.First != nil || filter.Prefix != "" || count > fewRows
+	where := func(key string) {
+		if len(filter.States) > 0 {
+			chosen.and(unindexed(isUnindexed)+"state IN "+anyState, padded(filter.States)...)
+		}
+		chosen.of(filter, isUnindexed)
+		if filter.After != nil {
+			chosen.after(filter, key)
+		}
+	}
+	return l.read(chosen, where, "1, 2", filter.Most)
+}
+
+// countOf is how many rows have the states and the broker of a filter.
+func (c *connection) countOf(filter platform.Filter) (count int64, err error) {
+	s := &selection{}
+	s.text.WriteString("SELECT coalesce(sum(count), 0) FROM osb_counts WHERE true")
+	if len(filter.States) > 0 {
+		s.and("state IN "+anyState, padded(filter.States)...)
+	}
+	if filter.Broker != "" {
+		s.and("broker = ?", filter.Broker)
+	}
+	err = c.each(s.text.String(), s.values, func(values []driver.Value) error {
+		r := &row{values: values}
+		count = r.number()
+		return r.err
+	})
+	return count, err
+}
+
+// read reads at most so many rows, or all for 0, in the order of these columns. where adds the conditions on the rows
+// of a table to what is chosen, by the columns of its key.
+func (l *listing[T]) read(chosen *selection, where func(key string), order string, most int) error {
+	if wantsInstances(l.filter) {
+		chosen.from(l.view.instance, "osb_instances")
+		where("id")
+	}
+	if wantsBindings(l.filter) {
+		chosen.from(l.view.binding, "osb_bindings")
+		where("instance, id")
 	}
 	if chosen.text.Len() == 0 {
 		return nil
 	}
-	order := " ORDER BY since, 1, 2 LIMIT ?"
-	if filter.Latest {
-		order = " ORDER BY since DESC, 1 DESC, 2 DESC LIMIT ?"
+	if l.filter.Latest {
+		order = strings.ReplaceAll(order, ",", " DESC,") + " DESC"
 	}
-	chosen.text.WriteString(order)
-	most := int64(-1)
-	if filter.Most > 0 {
-		most = int64(filter.Most - len(*entries))
+	if most == 0 {
+		most = -1
 	}
-	return c.each(chosen.text.String(), append(chosen.values, most), func(values []driver.Value) error {
-		entry, err := shownOf(values)
-		*entries = append(*entries, entry)
+	chosen.text.WriteString(" ORDER BY " + order + " LIMIT ?")
+	return l.each(chosen.text.String(), append(chosen.values, int64(most)), func(values []driver.Value) error {
+		it, err := l.view.read(values)
+		l.found = append(l.found, it)
 		return err
 	})
-}
-
-func wantsInstances(filter platform.Filter) bool {
-	return filter.Instance == nil && (filter.Bindings == nil || !*filter.Bindings)
-}
-
-func wantsBindings(filter platform.Filter) bool { return filter.Bindings == nil || *filter.Bindings }
-
-// of adds the conditions of a filter, for the table whose key has these columns. A condition on the state with a + uses
-// no index: another one leads to fewer rows.
-func (s *selection) of(filter platform.Filter, state platform.State, key string) {
-	isFew := filter.Instance != nil || filter.First != nil || filter.Prefix != ""
-	if isFew {
-		s.text.WriteString("+")
-	}
-	s.text.WriteString("state = ?")
-	s.values = append(s.values, string(state))
-	if filter.Broker != "" && isFew {
-		s.and("+broker = ?", filter.Broker)
-	} else if filter.Broker != "" {
-		s.and("broker = ?", filter.Broker)
-	}
-	if filter.Instance != nil {
-		s.and("instance = ?", filter.Instance.String())
-	}
-	if filter.First != nil {
-		first := filter.First.String()
-		s.and("(first = ? OR first IS NULL AND id = ?)", first, first)
-	}
-	if filter.Prefix != "" { // behind a digit or a hyphen comes a g
-		s.and("id >= ? AND id < ?", filter.Prefix, filter.Prefix+"g")
-	}
-	if after := filter.After; after != nil && after.State == state {
-		s.after(*after, key, filter.Latest)
-	}
-}
-
-// after adds that a row comes behind a place. An instance comes before its bindings, and in the opposite order behind
-// them.
-func (s *selection) after(place platform.Place, key string, isLatest bool) {
-	since, instance := seconds(place.Since), place.Key.Instance.String()
-	if since == nil {
-		since = -never
-	}
-	is := " > "
-	switch {
-	case isLatest && key == "id" && place.Key.IsBinding:
-		is = " <= "
-	case isLatest:
-		is = " < "
-	}
-	if key == "id" {
-		s.and("(since, id)"+is+"(?, ?)", since, instance)
-		return
-	}
-	binding := ""
-	if place.Key.IsBinding {
-		binding = place.Key.Binding.String()
-	}
-	s.and("(since, instance, id)"+is+"(?, ?, ?)", since, instance, binding)
 }
 
 // each calls with each row of a query that is prepared when it is first asked for.

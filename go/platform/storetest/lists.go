@@ -1,6 +1,7 @@
 package storetest
 
 import (
+	"context"
 	"fmt"
 	"sort"
 	"testing"
@@ -9,7 +10,7 @@ import (
 	"pippinterm/platform"
 )
 
-// listed are rows of all kinds, in the order of a list.
+// listed are rows of all kinds.
 func listed(t *testing.T, store platform.Store) (rows []platform.Entry) {
 	t.Helper()
 	states := []platform.State{
@@ -28,16 +29,15 @@ func listed(t *testing.T, store platform.Store) (rows []platform.Entry) {
 			rows = append(rows, entry)
 		}
 	}
-	sort.Slice(rows, func(i, j int) bool { return before(rows[i], rows[j]) })
 	return rows
 }
 
-// before is the order of State, Since, Key. A Key is as its text, byte by byte.
-func before(one, other platform.Entry) bool {
+// before is an order of rows. A Key is as its text, byte by byte.
+func before(order platform.Ordering, one, other platform.Entry) bool {
 	switch {
-	case one.State != other.State:
+	case one.State != other.State && order == platform.ByState:
 		return one.State < other.State
-	case !one.Since.Equal(other.Since):
+	case !one.Since.Equal(other.Since) && order != platform.ByKey:
 		return one.Since.Before(other.Since)
 	}
 	return one.Key.String() < other.Key.String()
@@ -104,25 +104,39 @@ func wantList(
 	t *testing.T, store platform.Store, rows []platform.Entry, filter platform.Filter, has func(platform.Entry) bool,
 ) {
 	t.Helper()
-	want := []platform.Key{}
-	for _, it := range rows {
-		if has(it) {
-			want = append(want, it.Key)
+	for _, order := range []platform.Ordering{platform.ByState, platform.ByTime, platform.ByKey} {
+		sort.Slice(rows, func(i, j int) bool { return before(order, rows[i], rows[j]) })
+		want := []platform.Key{}
+		for _, it := range rows {
+			if has(it) {
+				want = append(want, it.Key)
+			}
 		}
+		filter.Order, filter.Latest = order, false
+		wantListed(t, store, filter, want)
+		filter.Latest = true
+		wantListed(t, store, filter, backwards(want))
 	}
+}
+
+// wantListed fails unless a filter chooses these rows, in this order, all at once and in pages.
+func wantListed(t *testing.T, store platform.Store, filter platform.Filter, want []platform.Key) {
+	t.Helper()
 	got, err := store.List(background, filter)
 	if err != nil {
 		t.Errorf("%+v: %v", filter, err)
 	}
 	wantKeys(t, fmt.Sprintf("%+v", filter), got, want...)
 	inPages(t, store, filter, want)
-	filter.Latest = true
-	got, err = store.List(background, filter)
-	if err != nil {
-		t.Errorf("%+v: %v", filter, err)
+	places, err := store.Places(background, filter)
+	if err != nil || len(places) != len(got) {
+		t.Fatalf("%+v: it has %d places, %v, want %d", filter, len(places), err, len(got))
 	}
-	wantKeys(t, fmt.Sprintf("%+v", filter), got, backwards(want)...)
-	inPages(t, store, filter, backwards(want))
+	for at, it := range got {
+		if want := (platform.Place{State: it.State, Since: it.Since, Key: it.Key}); places[at] != want {
+			t.Errorf("%+v: the place is %+v, want %+v", filter, places[at], want)
+		}
+	}
 }
 
 func backwards(keys []platform.Key) (found []platform.Key) {
@@ -194,6 +208,112 @@ func testPages(t *testing.T, open opener) {
 		must(t, err)
 		wantKeys(t, fmt.Sprintf("before %+v", place), rows, backwards(keys[:before])...)
 	}
+}
+
+// A moving is a store in which a row comes to another state after each call that lists rows.
+type moving struct {
+	platform.Store
+	move func()
+}
+
+func (m moving) List(ctx context.Context, filter platform.Filter) ([]platform.Entry, error) {
+	defer m.move()
+	return m.Store.List(ctx, filter)
+}
+
+func (m moving) Places(ctx context.Context, filter platform.Filter) ([]platform.Place, error) {
+	defer m.move()
+	return m.Store.Places(ctx, filter)
+}
+
+func (m moving) ReadAll(ctx context.Context, keys []platform.Key) ([]platform.Entry, error) {
+	defer m.move()
+	return m.Store.ReadAll(ctx, keys)
+}
+
+// Rows come to other states while all are listed, and each that fits the filter all the while is listed once: in a walk
+// in each order, and in pages by key.
+func testListsWhileRowsMove(t *testing.T, open opener) {
+	other := opened(t, open)
+	const count = 40
+	states := []platform.State{platform.Ready, platform.Cleaning, platform.Gone, platform.Unsettled, platform.Ready}
+	for n := 0; n < count; n++ {
+		insert(t, other, in(t, instance(n), states[n%2]))
+	}
+	moves, moved := 0, map[platform.Key]bool{}
+	store := moving{opened(t, open), func() {
+		for n := 0; n < 7; n++ { // here and there in the list, to a place before or behind
+			key := instance(moves * 11 % count)
+			change(t, other, key, func(it *platform.Change) {
+				it.Entry.State, it.Entry.Since = states[moves%5], past(-moves)
+			})
+			moves++
+			moved[key] = true
+		}
+	}}
+	for _, filter := range []platform.Filter{
+		{}, {Latest: true}, {Order: platform.ByTime}, {Order: platform.ByKey},
+		{States: []platform.State{platform.Ready}}, {States: states, Order: platform.ByKey, Latest: true},
+	} {
+		moved = map[platform.Key]bool{}
+		before, err := other.List(background, platform.Filter{States: filter.States})
+		must(t, err)
+		seen := map[platform.Key]int{}
+		must(t, platform.Walk(background, store, filter, 3, func(rows []platform.Entry) error {
+			for _, it := range rows {
+				seen[it.Key]++
+			}
+			return nil
+		}))
+		wantOnce(t, fmt.Sprintf("a walk, %+v", filter), seen, before, moved, len(filter.States) != 1)
+		moved = map[platform.Key]bool{}
+		before, err = other.List(background, platform.Filter{States: filter.States})
+		must(t, err)
+		filter.Order, filter.Most, seen = platform.ByKey, 3, map[platform.Key]int{}
+		for rows := make([]platform.Entry, 3); len(rows) == 3; {
+			rows, err = store.List(background, filter)
+			must(t, err)
+			for _, it := range rows {
+				seen[it.Key]++
+				filter.After = &platform.Place{Key: it.Key}
+			}
+		}
+		wantOnce(t, fmt.Sprintf("pages, %+v", filter), seen, before, moved, len(filter.States) != 1)
+	}
+}
+
+// wantOnce fails unless each row that fits the filter all the while was seen once: those that were there before, and
+// those that have moved if isAny is true. No row may be seen twice.
+func wantOnce(
+	t *testing.T, what string, seen map[platform.Key]int, before []platform.Entry, moved map[platform.Key]bool,
+	isAny bool,
+) {
+	t.Helper()
+	if len(moved) == 0 {
+		t.Errorf("%s: nothing has moved", what)
+	}
+	for _, it := range before {
+		if count := seen[it.Key]; count > 1 || count == 0 && (isAny || !moved[it.Key]) {
+			t.Errorf("%s: %v was listed %d times, want 1", what, it.Key, count)
+		}
+	}
+}
+
+// Rows are read by their keys, in the order of these, and a key without a row is left out.
+func testReadAll(t *testing.T, open opener) {
+	store := opened(t, open)
+	insert(t, store, order(instance(1)), in(t, binding(2, 1), platform.Ready), in(t, instance(3), platform.Gone))
+	rows, err := store.ReadAll(background, []platform.Key{
+		instance(3), binding(2, 1), instance(2), binding(1, 1), instance(1), binding(2, 3),
+	})
+	must(t, err)
+	wantKeys(t, "all", rows, instance(3), binding(2, 1), instance(1))
+	for _, it := range rows {
+		wantEntry(t, it.Key.String(), it, read(t, store, it.Key))
+	}
+	rows, err = store.ReadAll(background, nil)
+	must(t, err)
+	wantKeys(t, "none", rows)
 }
 
 func testCounts(t *testing.T, open opener) {

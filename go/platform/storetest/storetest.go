@@ -46,6 +46,8 @@ func Test(t *testing.T, open func(t *testing.T) platform.Store) {
 		{"a claim passes over locked rows", testClaimPassesOver},
 		{"lists", testList},
 		{"lists in pages", testPages},
+		{"lists while rows come to other states", testListsWhileRowsMove},
+		{"rows of some keys", testReadAll},
 		{"counts", testCounts},
 		{"rows in flight", testInFlight},
 		{"the next row that is due", testNextDue},

@@ -123,9 +123,12 @@ const (
 type Order string
 
 const (
-	ByState Order = "state" // by state, the time of that, and number
-	Newest  Order = "newest"
-	Oldest  Order = "oldest"
+	// ByNumber is the order of numbers, which never change. So what fits the query all the while is on one page, whatever
+	// changes. In the other orders, what comes to another state between two pages may be on none, or on two.
+	ByNumber Order = "number"
+	ByState  Order = "state" // by state, the time of that, and number
+	Newest   Order = "newest"
+	Oldest   Order = "oldest"
 )
 
 // A Query chooses records. Its zero value chooses the first page of Kind.
@@ -138,7 +141,7 @@ type Query struct {
 	// Unreadable is whether only those are wanted that can't be read. A page may have fewer then, or none: go on while
 	// it has a Next.
 	Unreadable bool
-	Order      Order // or empty for ByState
+	Order      Order // or empty for ByNumber
 	Life       int   // how many states of its life each has, the last ones; 0 for none
 	Limit      int   // how many a page has; 0 for what the API thinks usual
 
