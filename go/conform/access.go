@@ -11,7 +11,14 @@ var accessCases = scenario{
 		{"version-of-another-major", sectionVersion, Should, "412 to a request with X-Broker-API-Version: 99.0"},
 		{"auth-missing", sectionAccess, Must, "401 to a request without Authorization"},
 		{"auth-wrong-password", sectionAccess, Must, "401 to a request with a wrong password"},
-		{"auth-provision", sectionAccess, Must, "401 to a Provision with a wrong password"},
+		{"auth-provision", sectionAccess, Must, "401 to a Provision with a wrong password, and without one"},
+		{"auth-last-operation", sectionAccess, Must, "401 to a Poll without a password"},
+		{"auth-fetch", sectionAccess, Must, "401 to a Fetch of an instance without a password"},
+		{"auth-bind", sectionAccess, Must, "401 to a Bind without a password"},
+		{"auth-binding-last-operation", sectionAccess, Must, "401 to a Poll of a binding without a password"},
+		{"auth-fetch-binding", sectionAccess, Must, "401 to a Fetch of a binding without a password"},
+		{"auth-unbind", sectionAccess, Must, "401 to an Unbind without a password"},
+		{"auth-deprovision", sectionAccess, Must, "401 to a Deprovision without a password"},
 		{"auth-tells-nothing", sectionAccess, Should,
 			"with a wrong password, one answer for an instance that exists and one that doesn't"},
 	},
@@ -34,26 +41,91 @@ var accessCases = scenario{
 }
 
 func (r *Runner) accessToInstances() {
-	id := r.id()
-	sent := r.provision(id, nil)
-	sent.headers = r.wrongPassword()
-	x := r.create(key{instance: id}, r.target.pair, sent)
+	k := key{instance: r.id()}
+	sent := r.provision(k.instance, nil)
+	wrong := sent
+	wrong.headers = r.wrongPassword()
+	x := r.create(k, r.target.pair, wrong)
 	r.judge("auth-provision", x, x.want(401))
-	x = r.create(key{instance: id}, r.target.pair, r.provision(id, nil))
+	x = r.create(k, r.target.pair, anonymous(sent))
+	r.judge("auth-provision", x, x.want(401))
+	x = r.create(k, r.target.pair, sent)
 	if !x.is(200, 201, 202) {
 		return
 	}
-	ask := func(id string) *exchange {
-		sent := poll(key{instance: id}, r.target.pair, "")
+	r.tellsNothing(k)
+	r.accessToPolls("auth-last-operation", k, x)
+	if !r.settle(k, x) {
+		return
+	}
+	if r.target.instancesRetrievable {
+		r.askAnonymously("auth-fetch", request{method: "GET", path: pathOf(k), query: namesOf(r.target.pair)})
+	}
+	r.skip(reasonNotFetched, "auth-fetch")
+	r.accessToBindings(k)
+	r.askAnonymously("auth-deprovision", deletion(k, r.target.pair, true)) // CleanUp deletes it, whatever the answer says
+}
+
+// tellsNothing compares the answers to a wrong password for an instance that exists, and for one that doesn't.
+func (r *Runner) tellsNothing(k key) {
+	ask := func(k key) *exchange {
+		sent := poll(k, r.target.pair, "")
 		sent.headers = r.wrongPassword()
 		return r.send(sent)
 	}
-	known, unknown := ask(id), ask(r.id())
+	known, unknown := ask(k), ask(key{instance: r.id()})
 	problem := ""
 	if unknown.err == nil && (known.status != unknown.status || known.text != unknown.text) {
 		problem = "the answer for an instance that doesn't exist is " + unknown.came()
 	}
 	r.judge("auth-tells-nothing", known, problem)
+}
+
+func (r *Runner) accessToBindings(of key) {
+	if !r.target.bindable {
+		r.skip(reasonNotBindable, "auth-bind", "auth-binding-last-operation", "auth-fetch-binding", "auth-unbind")
+		return
+	}
+	k := key{of.instance, r.id()}
+	x := r.create(k, r.target.pair, anonymous(r.bind(k, nil)))
+	r.judge("auth-bind", x, x.want(401))
+	x = r.put(k, r.bind(k, nil))
+	if !x.is(200, 201, 202) {
+		return
+	}
+	r.accessToPolls("auth-binding-last-operation", k, x)
+	if !r.settle(k, x) {
+		return
+	}
+	if r.target.bindingsRetrieved {
+		r.askAnonymously("auth-fetch-binding", request{method: "GET", path: pathOf(k), query: namesOf(r.target.pair)})
+	}
+	r.skip(reasonNotRetrievable, "auth-fetch-binding")
+	r.askAnonymously("auth-unbind", deletion(k, r.target.pair, true)) // CleanUp deletes it, whatever the answer says
+}
+
+// accessToPolls judges the answer to a Poll without a password. A broker without asynchronous operations may not have
+// the endpoint.
+func (r *Runner) accessToPolls(name string, k key, created *exchange) {
+	sent := anonymous(poll(k, r.target.pair, created.string("operation")))
+	x := r.send(sent)
+	if !created.is(202) && x.is(404, 405, 501) {
+		r.skip("the broker has no such endpoint for a plan without asynchronous operations", name)
+		return
+	}
+	r.judge(name, x, x.want(401))
+}
+
+// askAnonymously judges the answer to a request without a password.
+func (r *Runner) askAnonymously(name string, sent request) {
+	x := r.send(anonymous(sent))
+	r.judge(name, x, x.want(401))
+}
+
+// anonymous returns the request without a password.
+func anonymous(sent request) request {
+	sent.headers = map[string]string{"Authorization": ""}
+	return sent
 }
 
 func (r *Runner) wrongPassword() map[string]string {

@@ -15,6 +15,12 @@ const (
 	reasonNoCatalogue    = "the catalogue can't be read"
 )
 
+// The members of the answer to a Bind that are strings, and those that are objects.
+var (
+	textsOfBinding   = []string{"operation", "syslog_drain_url", "route_service_url"}
+	objectsOfBinding = []string{"credentials", "metadata"}
+)
+
 var bindingCases = scenario{
 	cases: []Case{
 		{"bind-new", sectionBind, Must, "201, or 202 if the Bind is asynchronous"},
@@ -22,12 +28,15 @@ var bindingCases = scenario{
 			"credentials and metadata, if present, are objects, and the URLs and operation are strings"},
 		{"binding-last-operation-state", sectionBindingPoll, Must,
 			"200 with the state in progress, succeeded or failed"},
+		{"binding-last-operation-fields", sectionBindingPoll, Must, "description, if present, is a string"},
 		{"bind-ends", sectionBindingPoll, Should, "the operation succeeds within the time for operations"},
 		{"bind-repeated", sectionBind, Must, "200 to the same Bind once the binding exists"},
 		{"bind-repeated-credentials", sectionBind, Should, "the same credentials in both answers"},
 		{"bind-conflict", sectionBind, Must,
 			"409 to a Bind of an existing binding with other parameters, or 400 if the plan takes no parameters"},
-		{"fetch-binding", sectionFetchBinding, Must, "200 and an object"},
+		{"fetch-binding", sectionFetchBinding, Must,
+			"200, and credentials and metadata, if present, are objects, and the URLs are strings"},
+		{"fetch-binding-credentials", sectionFetchBinding, Should, "the credentials that the Bind was answered with"},
 		{"fetch-binding-unknown", sectionFetchBinding, Must, "404 for a binding that doesn't exist"},
 		{"unbind-without-service-id", sectionUnbind, Must, "400 without service_id"},
 		{"unbind-without-plan-id", sectionUnbind, Must, "400 without plan_id"},
@@ -42,8 +51,7 @@ var bindingCases = scenario{
 		k := key{r.existing, r.id()}
 		first := r.put(k, r.bind(k, nil))
 		r.judge("bind-new", first, first.want(201, 202))
-		r.judge("bind-fields", first, wrongFields(first,
-			[]string{"operation", "syslog_drain_url", "route_service_url"}, []string{"credentials", "metadata"}))
+		r.judge("bind-fields", first, wrongFields(first, textsOfBinding, objectsOfBinding))
 		r.bindsAsync = first.is(202)
 		if r.bindsAsync {
 			state, last := r.await(k, first.string("operation"))
@@ -58,9 +66,9 @@ var bindingCases = scenario{
 		} else if !first.is(200, 201) {
 			return
 		}
-		r.skip("the plan binds synchronously", "binding-last-operation-state", "bind-ends")
-		r.repeatedBinds(k, first)
-		r.fetchesBinding(k)
+		r.skip("the plan binds synchronously",
+			"binding-last-operation-state", "binding-last-operation-fields", "bind-ends")
+		r.fetchesBinding(k, r.repeatedBinds(k, first))
 		r.unbinds(k)
 	},
 }
@@ -77,7 +85,8 @@ func (r *Runner) canBind() bool {
 	return r.existing != ""
 }
 
-func (r *Runner) repeatedBinds(k key, first *exchange) {
+// repeatedBinds repeats a Bind, and returns the first answer that had the credentials.
+func (r *Runner) repeatedBinds(k key, first *exchange) *exchange {
 	x := r.put(k, r.bind(k, nil))
 	r.judge("bind-repeated", x, x.want(200))
 	if x.is(200) && first.is(201) {
@@ -88,17 +97,34 @@ func (r *Runner) repeatedBinds(k key, first *exchange) {
 		r.judge("bind-repeated-credentials", x, problem)
 	}
 	r.skip("the first answer had no credentials", "bind-repeated-credentials")
+	if first.is(202) {
+		first = x
+	}
 	x = r.put(k, r.bind(k, with("parameters", object{"osb-storm": "other"})))
 	r.judge("bind-conflict", x, x.want(409, 400))
+	return first
 }
 
-func (r *Runner) fetchesBinding(k key) {
+// fetchesBinding fetches a binding. bound is an answer to its Bind.
+func (r *Runner) fetchesBinding(k key, bound *exchange) {
 	if !r.target.bindingsRetrieved {
-		r.skip(reasonNotRetrievable, "fetch-binding", "fetch-binding-unknown")
+		r.skip(reasonNotRetrievable, "fetch-binding", "fetch-binding-credentials", "fetch-binding-unknown")
 		return
 	}
 	x := r.fetch(k)
-	r.judge("fetch-binding", x, x.want(200))
+	problem := x.want(200)
+	if problem == "" {
+		problem = wrongFields(x, textsOfBinding, objectsOfBinding)
+	}
+	r.judge("fetch-binding", x, problem)
+	if given, has := bound.object["credentials"]; has && bound.is(200, 201) && x.is(200) {
+		problem = ""
+		if !reflect.DeepEqual(given, x.object["credentials"]) {
+			problem = "the credentials are others"
+		}
+		r.judge("fetch-binding-credentials", x, problem)
+	}
+	r.skip("no answer to the Bind had credentials", "fetch-binding-credentials")
 	x = r.fetch(key{k.instance, r.id()})
 	r.judge("fetch-binding-unknown", x, x.want(404))
 }

@@ -115,7 +115,7 @@ func TestOurBroker(t *testing.T) {
 					t.Errorf("%s, first Poll %v: %+v", plan, firstPoll, it)
 				}
 			}
-			if passed := report.Count(conform.Must, conform.Pass); passed < 43 {
+			if passed := report.Count(conform.Must, conform.Pass); passed < 50 {
 				t.Errorf("%s: only %d MUSTs passed", plan, passed)
 			}
 			within, cancel := context.WithTimeout(context.Background(), 20*time.Second)

@@ -17,6 +17,8 @@ var catalogCases = scenario{
 		{"catalog-ids-unique", sectionCatalog, Must, "no two services have one id, and no two plans"},
 		{"catalog-names-unique", sectionCatalog, Must, "no two services have one name, and no two plans of a service"},
 		{"catalog-flags", sectionCatalog, Must, "each flag is a boolean, and each other optional field has its type"},
+		{"catalog-requires", sectionCatalog, Should,
+			"each permission in requires is syslog_drain, route_forwarding or volume_mount"},
 		{"catalog-names-for-cli", sectionCatalog, Should,
 			"names have only letters, digits, periods, hyphens and underscores"},
 	},
@@ -34,7 +36,8 @@ var catalogCases = scenario{
 		}
 		for name, check := range map[string]func([]object) string{
 			"catalog-services": checkServices, "catalog-plans": checkPlans, "catalog-ids-unique": checkIDs,
-			"catalog-names-unique": checkNames, "catalog-flags": checkFlags, "catalog-names-for-cli": checkForCLI,
+			"catalog-names-unique": checkNames, "catalog-flags": checkFlags, "catalog-requires": checkRequires,
+			"catalog-names-for-cli": checkForCLI,
 		} {
 			r.judge(name, x, check(services))
 		}
@@ -203,6 +206,21 @@ func isTexts(value any) bool {
 func isWhole(value any) bool {
 	number, is := value.(float64)
 	return is && number == float64(int64(number))
+}
+
+// checkRequires returns a problem if a service requires a permission that the standard doesn't have.
+func checkRequires(services []object) string {
+	for _, service := range services {
+		list, _ := service["requires"].([]any)
+		for _, it := range list {
+			switch it {
+			case "syslog_drain", "route_forwarding", "volume_mount":
+			default:
+				return fmt.Sprintf("service %q requires %v", textIn(service, "name"), it)
+			}
+		}
+	}
+	return ""
 }
 
 func checkForCLI(services []object) string {

@@ -320,7 +320,7 @@ func TestInstanceThatIsNeverFree(t *testing.T) {
 		if stuck == "" && c.kind == "put" && c.status == 201 {
 			stuck = c.key.instance
 		}
-		if c.kind == "delete" && c.key.instance == stuck {
+		if c.kind == "delete" && c.key == (key{instance: stuck}) {
 			m.lives[c.key].state = "ready"
 			c.reject(422, "ConcurrencyError")
 		}

@@ -14,6 +14,8 @@ const (
 	sectionBlocking      = "Blocking Operations"
 
 	longestOperation = 10000 // characters
+
+	fieldsOfLastOperation = "description, if present, is a string, and instance_usable and update_repeatable are booleans"
 )
 
 // rejected are the Provisions that have to be rejected with 400: each is a case, with its level and its body.
@@ -27,6 +29,8 @@ var rejected = []struct {
 	{"provision-without-plan-id", Must, "400 without plan_id", lacks("plan_id")},
 	{"provision-without-organization", Must, "400 without organization_guid", lacks("organization_guid")},
 	{"provision-without-space", Must, "400 without space_guid", lacks("space_guid")},
+	{"provision-empty-organization", Must, "400 to an empty organization_guid", empties("organization_guid")},
+	{"provision-empty-space", Must, "400 to an empty space_guid", empties("space_guid")},
 	{"provision-malformed", Must, "400 to a body that isn't JSON", nil},
 	{"provision-unknown-service", Should, "400 to a service_id that isn't in the catalogue", unknown("service_id")},
 	{"provision-unknown-plan", Should, "400 to a plan_id that isn't in the catalogue", unknown("plan_id")},
@@ -34,6 +38,10 @@ var rejected = []struct {
 
 func lacks(member string) func(*Runner, object) {
 	return func(_ *Runner, body object) { delete(body, member) }
+}
+
+func empties(member string) func(*Runner, object) {
+	return func(_ *Runner, body object) { body[member] = "" }
 }
 
 func unknown(member string) func(*Runner, object) {
@@ -74,6 +82,7 @@ var lifeCases = scenario{
 		{"provision-fields", sectionProvision, Must,
 			"dashboard_url and operation, if present, are strings, and metadata is an object"},
 		{"last-operation-state", sectionLastOperation, Must, "200 with the state in progress, succeeded or failed"},
+		{"last-operation-fields", sectionLastOperation, Must, fieldsOfLastOperation},
 		{"provision-ends", sectionLastOperation, Should, "the operation succeeds within the time for operations"},
 		{"provision-repeated", sectionProvision, Must, "200 to the same Provision once the instance exists"},
 		{"provision-conflict-plan", sectionProvision, Must,
@@ -106,7 +115,7 @@ var lifeCases = scenario{
 		} else if !x.is(200, 201) {
 			return
 		}
-		r.skip("the plan is provisioned synchronously", "last-operation-state", "provision-ends")
+		r.skip("the plan is provisioned synchronously", "last-operation-state", "last-operation-fields", "provision-ends")
 		r.existing = k.instance
 		r.repeatedProvisions(k)
 		r.fetches(k)
@@ -144,6 +153,20 @@ func (r *Runner) fetches(k key) {
 	r.judge("fetch-instance", x, problem)
 	x = r.send(request{method: "GET", path: pathOf(key{instance: r.id()}), query: namesOf(r.target.pair)})
 	r.judge("fetch-instance-unknown", x, x.want(404))
+}
+
+// wrongLastOperation returns a problem if a member of the answer to a Poll is present and has another type.
+func wrongLastOperation(x *exchange) string {
+	if problem := wrongFields(x, []string{"description"}, nil); problem != "" {
+		return "description is no string"
+	}
+	for _, flag := range []string{"instance_usable", "update_repeatable"} {
+		value, has := x.object[flag]
+		if _, is := value.(bool); has && value != nil && !is && x.is(200) {
+			return flag + " is no boolean"
+		}
+	}
+	return ""
 }
 
 // wrongFields returns a problem if one of these members is present in a success and has another type.

@@ -73,6 +73,16 @@ func catalogs(change func(service, plan object)) func(*call) {
 	})
 }
 
+func hasEmpty(member string) func(*call) bool {
+	return func(c *call) bool { return c.sent[member] == "" }
+}
+
+// saysState gives the answer to a Poll.
+func saysState(c *call) { c.give(200, object{"state": "in progress"}) }
+
+// retries gives answers with a Retry-After.
+func retries(text string) func(*call) { return func(c *call) { c.retry = text } }
+
 func hasHeader(name string) func(*call) bool {
 	return func(c *call) bool { return c.Header.Get(name) != "" }
 }
@@ -98,15 +108,34 @@ var mistakes = []mistake{
 	{"a plan's name stands twice", "catalog-names-unique", false, catalogs(func(_, p object) { p["name"] = "plan-b" })},
 	{"a flag is a string", "catalog-flags", false, catalogs(func(_, p object) { p["free"] = "yes" })},
 	{"tags are a string", "catalog-flags", false, catalogs(func(s, _ object) { s["tags"] = "t" })},
+	{"a permission of its own", "catalog-requires", false,
+		catalogs(func(s, _ object) { s["requires"] = []any{"syslog_drain", "fly"} })},
 	{"a name has a space", "catalog-names-for-cli", false, catalogs(func(_, p object) { p["name"] = "plan c" })},
 
 	{"the version isn't read", "version-missing", false, at("catalog", false, "", 400, gives(200))},
 	{"another version is taken", "version-of-another-major", false, at("catalog", false, "", 412, gives(200))},
-	{"no login is taken", "auth-missing", false, only(not(hasHeader("Authorization")), gives(200))},
+	{"no login is taken", "auth-missing auth-provision auth-last-operation auth-fetch auth-bind auth-fetch-binding " +
+		"auth-unbind auth-deprovision auth-binding-last-operation", false, only(not(hasHeader("Authorization")), gives(200))},
+	{"anybody may see the catalogue", "auth-missing", false,
+		at("catalog", false, "", 401, only(not(hasHeader("Authorization")), gives(200)))},
+	{"anybody may provision without a password", "auth-provision", false,
+		at("put", false, "", 401, only(not(hasHeader("Authorization")), gives(201)))},
+	{"anybody may poll", "auth-last-operation", true,
+		at("poll", false, "creating", 401, only(not(hasHeader("Authorization")), saysState))},
+	{"anybody may poll what is ready", "auth-last-operation auth-tells-nothing", false,
+		at("poll", false, "ready", 401, saysState)},
+	{"anybody may fetch", "auth-fetch", false, at("fetch", false, "ready", 401, gives(200))},
+	{"anybody may bind", "auth-bind", false, at("put", true, "", 401, gives(201))},
+	{"anybody may poll a binding", "auth-binding-last-operation", true, at("poll", true, "creating", 401, saysState)},
+	{"anybody may fetch a binding", "auth-fetch-binding", false, at("fetch", true, "ready", 401, gives(200))},
+	{"anybody may unbind", "auth-unbind", false, at("delete", true, "ready", 401, gives(200))},
+	{"anybody may deprovision", "auth-deprovision", false, at("delete", false, "ready", 401, gives(200))},
+	{"anybody may deprovision later", "auth-deprovision", true, at("delete", false, "ready", 401, gives(202))},
 	{"403 to a wrong login", "auth-wrong-password", false,
 		at("catalog", false, "", 401, only(hasHeader("Authorization"), gives(403)))},
 	{"anybody may provision", "auth-provision", false, at("put", false, "", 401, gives(201))},
-	{"a wrong login is told what exists", "auth-tells-nothing", false, at("poll", false, "ready", 401, gives(403))},
+	{"a wrong login is told what exists", "auth-tells-nothing", false, at("poll", false, "ready", 401,
+		only(hasHeader("Authorization"), gives(403)))},
 
 	{"service_id isn't required", "provision-without-service-id", false,
 		at("put", false, "", 400, only(lacking("service_id"), gives(201)))},
@@ -116,6 +145,10 @@ var mistakes = []mistake{
 		at("put", false, "", 400, only(lacking("organization_guid"), gives(201)))},
 	{"space_guid isn't required", "provision-without-space", false,
 		at("put", false, "", 400, only(lacking("space_guid"), gives(201)))},
+	{"an empty organization_guid", "provision-empty-organization", false,
+		at("put", false, "", 400, only(hasEmpty("organization_guid"), gives(201)))},
+	{"an empty space_guid", "provision-empty-space", false,
+		at("put", false, "", 400, only(hasEmpty("space_guid"), gives(201)))},
 	{"500 to what isn't JSON", "provision-malformed", false, at("put", false, "", 400, only(malformed, gives(500)))},
 	{"any service", "provision-unknown-service", false, at("put", false, "", 400, only(unknownService, gives(201)))},
 	{"any plan", "provision-unknown-plan", false, at("put", false, "", 400, only(unknownPlan, gives(201)))},
@@ -128,6 +161,14 @@ var mistakes = []mistake{
 		at("put", false, "", 201, says(object{"operation": strings.Repeat("a", 10001)}))},
 	{"a state of its own", "last-operation-state provision-ends", true,
 		at("poll", false, "creating", 200, says(object{"state": "working"}))},
+	{"a description that is a number", "last-operation-fields", true,
+		at("poll", false, "creating", 200, says(object{"description": 5}))},
+	{"instance_usable is a string", "last-operation-fields", true,
+		at("poll", false, "deleting", 200, says(object{"instance_usable": "yes"}))},
+	{"a description of a binding that is a number", "binding-last-operation-fields", true,
+		at("poll", true, "creating", 200, says(object{"description": 5}))},
+	{"Retry-After is a word", "retry-after", true, at("poll", false, "creating", 200, retries("soon"))},
+	{"Retry-After is negative", "retry-after", true, at("poll", true, "creating", 200, retries("-5"))},
 	{"operations fail", "provision-ends", true, func(c *call) {
 		if body, is := c.body.(object); is && c.kind == "poll" && !c.isBinding() && body["state"] == "succeeded" {
 			c.body = object{"state": "failed"}
@@ -182,7 +223,7 @@ var mistakes = []mistake{
 
 	{"200 to a new binding", "bind-new bind-unknown-fields", false,
 		at("put", true, "", 201, func(c *call) { c.status = 200 })},
-	{"credentials are a string", "bind-fields bind-repeated-credentials", false,
+	{"credentials are a string", "bind-fields bind-repeated-credentials fetch-binding-credentials", false,
 		at("put", true, "", 201, says(object{"credentials": "secret"}))},
 	{"a state of its own for bindings", "binding-last-operation-state bind-ends", true,
 		at("poll", true, "creating", 200, says(object{"state": "working"}))},
@@ -196,6 +237,12 @@ var mistakes = []mistake{
 		at("put", true, "ready", 200, says(object{"credentials": object{"number": 0}}))},
 	{"other parameters of a Bind are taken", "bind-conflict", false,
 		at("put", true, "ready", 409, only(hasParameters, gives(200)))},
+	{"other credentials of a Fetch", "fetch-binding-credentials", false,
+		at("fetch", true, "ready", 200, says(object{"credentials": object{"number": 0}}))},
+	{"other credentials of a Fetch after a Bind that took a while", "fetch-binding-credentials", true,
+		at("fetch", true, "ready", 200, says(object{"credentials": object{"number": 0}}))},
+	{"credentials of a Fetch that are a string", "fetch-binding fetch-binding-credentials", false,
+		at("fetch", true, "ready", 200, says(object{"credentials": "secret"}))},
 	{"500 to a Fetch of a binding", "fetch-binding", false, at("fetch", true, "ready", 200, gives(500))},
 	{"410 to a Fetch of a binding", "fetch-binding-unknown", false, at("fetch", true, "", 404, gives(410))},
 	{"an Unbind of any service", "unbind-without-service-id", false,

@@ -33,6 +33,7 @@ type call struct {
 	status    int
 	body      any
 	kindOf    string // the Content-Type of the answer
+	retry     string // its Retry-After, if it has one
 }
 
 func (c *call) isBinding() bool   { return c.key.binding != "" }
@@ -67,6 +68,9 @@ func (m *model) ServeHTTP(w http.ResponseWriter, r *http.Request) {
 		m.spoil(c)
 	}
 	w.Header().Set("Content-Type", c.kindOf)
+	if c.retry != "" {
+		w.Header().Set("Retry-After", c.retry)
+	}
 	if identity := r.Header.Get("X-Broker-API-Request-Identity"); identity != "" {
 		w.Header().Set("X-Broker-API-Request-Identity", identity)
 	}
@@ -145,7 +149,8 @@ func (m *model) catalog() object {
 	}
 	return object{"services": []any{object{
 		"id": "s", "name": "service", "description": "d", "bindable": true, "instances_retrievable": true,
-		"bindings_retrievable": true, "tags": []any{"t"}, "plans": []any{plan("a"), plan("b"), plan("c")},
+		"bindings_retrievable": true, "tags": []any{"t"}, "requires": []any{"syslog_drain", "volume_mount"},
+		"plans": []any{plan("a"), plan("b"), plan("c")},
 	}}}
 }
 
@@ -259,8 +264,10 @@ func (m *model) poll(c *call) {
 	state := "in progress"
 	if it.state == "ready" {
 		state = "succeeded"
+	} else {
+		c.retry = "10"
 	}
-	c.give(200, object{"state": state})
+	c.give(200, object{"state": state, "description": "about half", "instance_usable": true})
 }
 
 // left returns how many instances and bindings exist.

@@ -82,6 +82,7 @@ func (r *Runner) await(k key, operation string) (string, *exchange) {
 				problem = "the answer isn't 200 with such a state"
 			}
 			r.judge(lastOperationOf(k), x, problem)
+			r.judge(lastOperationFieldsOf(k), x, wrongLastOperation(x))
 		}
 		if state != "in progress" || r.ctx.Err() != nil || time.Since(begun) > r.config.OperationTime {
 			return state, x
@@ -96,6 +97,14 @@ func lastOperationOf(k key) string {
 		return "binding-last-operation-state"
 	}
 	return "last-operation-state"
+}
+
+// lastOperationFieldsOf is the case of the members of every answer to a Poll.
+func lastOperationFieldsOf(k key) string {
+	if k.binding != "" {
+		return "binding-last-operation-fields"
+	}
+	return "last-operation-fields"
 }
 
 // stateOf returns the state in an answer to a Poll, "gone" for 410, and "" for every other answer.

@@ -160,7 +160,9 @@ func (s Seen) Judge() (failed []Result) {
 		{"answers-are-objects", "the body isn't a JSON object", g.noObject != nil},
 		{"answers-content-type", "the Content-Type isn't application/json", g.noType != nil},
 		{"errors-have-strings", "error or description isn't a non-empty string", g.noStrings != nil},
-		{s.fieldsCase(), wrongFields(x, s.texts(), []string{"credentials", "metadata"}), s.Method == http.MethodPut},
+		{"retry-after", wrongRetry, g.noRetry != nil},
+		{s.fieldsCase(), wrongFields(x, s.texts(), objectsOfBinding), s.Method == http.MethodPut},
+		{s.lastOperationFieldsCase(), wrongLastOperation(x), isPoll},
 		{s.lastOperationCase(), "the answer isn't one of these states", isPoll && x.is(200) && stateOf(x) == ""},
 	} {
 		if it.fails && it.problem != "" {
@@ -181,16 +183,21 @@ func (s Seen) fieldsCase() string {
 
 func (s Seen) texts() []string {
 	if s.isBinding() {
-		return []string{"operation", "syslog_drain_url", "route_service_url"}
+		return textsOfBinding
 	}
 	return []string{"operation", "dashboard_url"}
 }
 
-func (s Seen) lastOperationCase() string {
+func (s Seen) lastOperationCase() string { return lastOperationOf(s.key()) }
+
+func (s Seen) lastOperationFieldsCase() string { return lastOperationFieldsOf(s.key()) }
+
+// key is one of a binding if the request is about a binding.
+func (s Seen) key() key {
 	if s.isBinding() {
-		return "binding-last-operation-state"
+		return key{"instance", "binding"}
 	}
-	return "last-operation-state"
+	return key{instance: "instance"}
 }
 
 // Printable returns a text as one line of limited length that a terminal can show.

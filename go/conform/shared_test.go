@@ -51,6 +51,12 @@ func TestProvision(t *testing.T) {
 	}
 }
 
+// retrying returns what was seen with a Retry-After.
+func retrying(seen Seen, after string) Seen {
+	seen.Header.Set("Retry-After", after)
+	return seen
+}
+
 // An answer that was seen is judged by itself, and shown without credentials.
 func TestSeen(t *testing.T) {
 	seen := func(method, target string, status int, came string) Seen {
@@ -70,6 +76,15 @@ func TestSeen(t *testing.T) {
 		{seen("GET", binding+"/last_operation", 200, `{}`), "binding-last-operation-state"},
 		{seen("GET", instance+"/last_operation", 500, `x`), ""},
 		{seen("DELETE", instance, 410, `{"error": ""}`), "errors-have-strings"},
+		{seen("GET", instance+"/last_operation", 200, `{"state": "failed", "description": 1}`), "last-operation-fields"},
+		{seen("GET", binding+"/last_operation", 200, `{"state": "failed", "description": 1}`),
+			"binding-last-operation-fields"},
+		{seen("GET", instance+"/last_operation", 200, `{"state": "failed", "description": "because"}`), ""},
+		{retrying(seen("DELETE", instance, 422, `{}`), "soon"), "retry-after"},
+		{retrying(seen("DELETE", instance, 422, `{}`), "-5"), "retry-after"},
+		{retrying(seen("DELETE", instance, 422, `{}`), "1.5"), "retry-after"},
+		{retrying(seen("DELETE", instance, 422, `{}`), "120"), ""},
+		{retrying(seen("DELETE", instance, 422, `{}`), "Sat, 28 Nov 2026 19:00:00 GMT"), ""},
 		{Seen{Method: "DELETE", Target: instance, Status: 200, Came: []byte(`{}`)}, "answers-content-type"},
 	} {
 		var names []string
