@@ -12,6 +12,7 @@ import time
 from pathlib import Path
 from typing import Iterator
 
+import progress
 import pytest
 
 TOP = Path(__file__).resolve().parent
@@ -29,6 +30,7 @@ def pytest_configure(config: pytest.Config) -> None:
     with contextlib.suppress(LookupError):
         os.environ["LIBOSB"] = str(_where("LIBOSB_FOLDER", "library") / "libosb.so")
     is_worker = hasattr(config, "workerinput")  # a process that pytest-xdist started
+    progress.register(config)
     if shutil.which("pg_virtualenv") and importlib.util.find_spec("psycopg2"):
         if is_worker or "OSB_TEST_POSTGRESQL" not in os.environ:
             config.stash[PORT] = _choose_server()

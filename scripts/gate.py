@@ -52,6 +52,8 @@ NAMED = (
     "PYTHONPATH",
     "PYTEST_ADDOPTS",
 )
+BUILD = "for it in osb-broker osb-platform osb-storm; do [ ! -x $it ] || ./$it --help >/dev/null; done"
+"""Builds the programs. Each reports that it is built, if it must be. A test that needs it waits for it."""
 NICENESS = 10
 """That of the tests that leave the processors to those that go by the clock."""
 # PostgreSQL's clients take what a URL leaves out from variables that begin so, such as PGHOSTADDR and PGPASSWORD.
@@ -100,8 +102,11 @@ def run(command: list[str], gives_way: bool = False) -> Ran:
         if gives_way:
             lower(process.pid)
         assert process.stdout is not None
-        lines = [shown(line) for line in process.stdout]
-        return Ran(process.wait(), lines)
+        output = bytearray()
+        while part := os.read(process.stdout.fileno(), 1 << 16):
+            show(part)
+            output += part
+        return Ran(process.wait(), lines_of(output))
 
 
 def lower(session: int) -> None:
@@ -112,11 +117,14 @@ def lower(session: int) -> None:
         Path(f"/proc/{session}/autogroup").write_text(str(NICENESS))
 
 
-def shown(line: bytes) -> str:
-    """Writes a line of a command to standard output, and returns its text."""
-    sys.stdout.buffer.write(line)
+def show(part: bytes) -> None:
+    """Writes output of a command to standard output, also a part of a line: a dot is a test that has ended."""
+    sys.stdout.buffer.write(part)
     sys.stdout.flush()
-    return line.decode(errors="replace").rstrip("\n")
+
+
+def lines_of(output: bytes | bytearray) -> list[str]:
+    return output.decode(errors="replace").removesuffix("\n").split("\n") if output else []
 
 
 def counted(passed: int, failures: list[str], skips: list[str], status: int) -> Result:
@@ -235,7 +243,8 @@ class Tests:
         self._by_the_clock: subprocess.Popen[bytes] | None = None
 
     def others(self) -> Result:
-        """Runs all others."""
+        """Runs all others. Beside them, the programs are built that most of them wait for."""
+        self._stack.enter_context(started(["sh", "-c", BUILD], sys.__stderr__.fileno()))
         if self._processors >= 4:
             self._by_the_clock = self._begin_by_the_clock()
         # More tests than there are processors: many wait most of their time, and fewer with the race detector.
@@ -245,10 +254,14 @@ class Tests:
 
     def by_the_clock(self) -> Result:
         """Waits for those that go by the clock, or runs them."""
-        status = (self._by_the_clock or self._begin_by_the_clock()).wait()
+        process = self._by_the_clock or self._begin_by_the_clock()
+        status = None
         with open(self._folder / "output", "rb") as output:
-            lines = [shown(line) for line in output]
-        return by_report(Ran(status, lines), self._report("alone"))
+            while status is None:
+                with contextlib.suppress(subprocess.TimeoutExpired):
+                    status = process.wait(0.2)
+                show(output.read())
+        return by_report(Ran(status, []), self._report("alone"))
 
     def _begin_by_the_clock(self) -> subprocess.Popen[bytes]:
         few = "2" if self._processors >= 4 else "1"

@@ -348,3 +348,70 @@ def test_without_pytest(repository: Repository) -> None:
     ran = subprocess.run([repository.top / "check", "--tests"], capture_output=True, text=True, timeout=100)
     assert (ran.returncode, ran.stdout) == (78, "")
     assert ran.stderr.rstrip().endswith("run: make packages") and ran.stderr.count("\n") == 1
+
+
+# ---- What is shown meanwhile
+
+
+def shows(command: list[str], folder: Path, wanted: str, end: Path, **given: str) -> str:
+    """What a command has written by the time that its output has the wanted expression. Only then it may end: a test
+    waits for the file.
+    """
+    output = b""
+    with subprocess.Popen(
+        command,
+        cwd=folder,
+        env={**os.environ, **given},
+        stdin=subprocess.DEVNULL,
+        stdout=subprocess.PIPE,
+        stderr=subprocess.STDOUT,
+    ) as process:
+        assert process.stdout is not None
+        while part := os.read(process.stdout.fileno(), 1 << 16):
+            output += part
+            if re.search(wanted, output.decode()):
+                end.touch()
+    return output.decode()
+
+
+WAITS_FOR_END = """
+def test_some():
+    pass
+
+def test_waits():
+    end = time.monotonic() + 60
+    while not pathlib.Path("end").exists():
+        assert time.monotonic() < end, "nothing was shown meanwhile"
+        time.sleep(0.01)
+"""
+
+
+@pytest.mark.slow
+@pytest.mark.parametrize("processors", ["1", "0"])
+def test_dots_are_shown_at_once(repository: Repository, processors: str) -> None:
+    """The first test that has ended is shown while the next one runs."""
+    repository.tests(f"import pathlib, time\n{WAITS_FOR_END}")
+    line = [str(repository.top / "check"), "--tests"]
+    given = {"PYTEST_XDIST_AUTO_NUM_WORKERS": processors, "PATH": f"{repository.top}/bin:{os.environ['PATH']}"}
+    text = shows(line, repository.top, r"(?m)^\.", repository.top / "end", **given)
+    assert text.endswith("\n3 passed, 0 failed, 0 skipped\n")
+
+
+@pytest.mark.slow
+def test_programs_that_are_built_are_named(repository: Repository) -> None:
+    repository.script("osb-storm", "echo osb-storm: building >&2")
+    assert repository.check("--tests")[0] == 0
+    assert "osb-storm: building\n" in repository.output
+
+
+@pytest.mark.slow
+def test_progress(tmp_path: Path) -> None:
+    """A line says how many tests have ended, and which runs."""
+    (tmp_path / "test_some.py").write_text(f"import pathlib, time\n{WAITS_FOR_END}")
+    (tmp_path / "conftest.py").write_text(
+        "import progress\ndef pytest_configure(config):\n" "    progress.register(config, 0.05)\n"
+    )
+    line = [sys.executable, "-m", "pytest", "-q", "-n", "1", "--rootdir", str(tmp_path), str(tmp_path)]
+    wanted = r"(?m)^0:\d\d: 1 of 2 tests have ended, 1 run, the longest for \d+ s: test_some.py::test_waits$"
+    text = shows(line, tmp_path, wanted, tmp_path / "end", PYTHONPATH=str(TOP / "checks"))
+    assert "2 passed" in text

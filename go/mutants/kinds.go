@@ -27,7 +27,8 @@ const (
 
 // kinds are all of them, in the order in which draw takes one of each in turn.
 var kinds = []string{
-	negated, always, never, comparison, logical, dropped, swapped, constant, longer, variable, forError, opposite, lessCase,
+	negated, always, never, comparison, logical, dropped, swapped, constant, longer, variable, forError, opposite,
+	lessCase,
 }
 
 // others are the operators that each is changed to.
@@ -197,8 +198,8 @@ func (f *finder) duration(n ast.Node) bool {
 	return true
 }
 
-// name has the opposite truth value in the place of one, and the variable of the same type that was declared last in the
-// place of a variable.
+// name has the opposite truth value in the place of one, and in the place of a variable the one of the same type that
+// was declared last.
 func (f *finder) name(n *ast.Ident) {
 	of := f.pkg.info.Uses[n]
 	for value, other := range map[string]string{"true": "false", "false": "true"} {

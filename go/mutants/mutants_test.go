@@ -173,7 +173,7 @@ func write(t *testing.T, lines ...string) string {
 
 func TestEdits(t *testing.T) {
 	head := []string{"# The sum has the last one, too.", "file: mutants/testdata/toy/toy.go", "function: Sum"}
-	test := "test: mutants/testdata/toy TestSum"
+	test, others := "test: mutants/testdata/toy TestSum", "test: mutants/testdata/toy TestName"
 	swap := []string{"old: sum += last", "\t\tlast = it", "new: last = it", "\t\tsum += last"}
 	for name, it := range map[string]struct {
 		lines []string
@@ -181,14 +181,14 @@ func TestEdits(t *testing.T) {
 	}{
 		"noticed":       {append(append([]string{test}, head...), swap...), "1 mutants, each noticed\n"},
 		"not noticed":   {append(append([]string{test + "s"}, head...), swap...), "TestSums skipped without a mutant"},
-		"another test":  {append(append([]string{"test: mutants/testdata/toy TestName"}, head...), swap...), "passed with it"},
+		"another test":  {append(append([]string{others}, head...), swap...), "passed with it"},
 		"not there":     {append(append([]string{test}, head...), "old: sum += it", "new: "), "the old text 0 times"},
 		"more than one": {append(append([]string{test}, head...), "old: last", "new: it"), "the old text 3 times"},
 		"no function": {
 			append(append([]string{test}, head[0], head[1], "function: Sums"), swap...), "has no function Sums",
 		},
 		"does not compile": {append(append([]string{test}, head...), "old: sum += last", "new: sum += 'x"), "isn't Go"},
-		"another type":     {append(append([]string{test}, head...), "old: sum += last", `new: sum += ""`), "doesn't compile"},
+		"another type":     {append(append([]string{test}, head...), "old: sum += last", "new: sum += test"), "doesn't compile"},
 		"no test":          {append(append([]string{}, head...), swap...), "it needs a file"},
 		"another line":     {append(append([]string{test, "tests: none"}, head...), swap...), "what is the line"},
 	} {
