@@ -135,7 +135,7 @@ def test_a_line_that_was_cut_off(audit: Audit, tmp_path: Path) -> None:
     assert audit(broker, platform, options=TEXT) == Ran(0, told, "")
     broker.write_bytes(whole + torn + b"\n" + whole.split(b"\n")[1] + b"\n")
     ran = audit(broker, platform, options=TEXT)
-    assert ran == Ran(2, "", f"osb-audit: {broker}: line 13: the line before it is no line of a journal\n")
+    assert ran == Ran(78, "", f"osb-audit: {broker}: line 13: the line before it is no line of a journal\n")
 
 
 ZEROS = b"\0" * 4096
@@ -164,7 +164,7 @@ def test_zeros_after_a_power_cut(audit: Audit, tmp_path: Path, tail: bytes) -> N
         assert audit(broker, platform, options=TEXT) == Ran(0, told, "")
     broker.write_bytes(whole + tail + b"\n" + whole.split(b"\n")[1] + b"\n")
     ran = audit(broker, platform, options=TEXT)
-    assert (ran.status, ran.out) == (2, "") and ran.err.endswith("it is no line of a journal\n"), ran
+    assert (ran.status, ran.out) == (78, "") and ran.err.endswith("it is no line of a journal\n"), ran
 
 
 def test_zeros_before_a_line(audit: Audit, tmp_path: Path) -> None:
@@ -173,7 +173,7 @@ def test_zeros_before_a_line(audit: Audit, tmp_path: Path) -> None:
     lines = broker.read_bytes().splitlines(keepends=True)
     broker.write_bytes(b"".join([*lines[:5], ZEROS, *lines[5:]]))
     ran = audit(broker, platform, options=TEXT)
-    assert ran == Ran(2, "", f"osb-audit: {broker}: line 6: it is no line of a journal\n")
+    assert ran == Ran(78, "", f"osb-audit: {broker}: line 6: it is no line of a journal\n")
 
 
 @pytest.mark.parametrize(("event", "status"), [("started", 0), ("lost", 0), ("stopped", 2)])
@@ -194,7 +194,7 @@ def test_a_line_that_was_cut_off_between_stretches(audit: Audit, tmp_path: Path,
     if status == 0:
         assert ran.status == 0 and f"{broker}:{line}: the line was cut off\n" in ran.out
     else:
-        assert ran == Ran(2, "", f"osb-audit: {broker}: line {line}: it is no line of a journal\n")
+        assert ran == Ran(78, "", f"osb-audit: {broker}: line {line}: it is no line of a journal\n")
 
 
 def test_room(audit: Audit, tmp_path: Path) -> None:
@@ -226,12 +226,12 @@ def test_a_journal_under_two_names(audit: Audit, tmp_path: Path) -> None:
     copy.write_bytes(broker.read_bytes())
     why = "is the same line `started`: one is a copy of the other. Name each journal once"
     ran = audit(platform, broker, copy, options=TEXT)
-    assert ran == Ran(2, "", f"osb-audit: {broker}: line 1: {copy}, line 1 {why}\n")
+    assert ran == Ran(78, "", f"osb-audit: {broker}: line 1: {copy}, line 1 {why}\n")
     copy.unlink()
     with gzip.open(f"{platform}.gz", "wb") as file:
         file.write(platform.read_bytes())
     ran = audit(tmp_path / "journals", options=TEXT)
-    assert ran == Ran(2, "", f"osb-audit: {platform}: line 1: {platform}.gz, line 1 {why}\n")
+    assert ran == Ran(78, "", f"osb-audit: {platform}: line 1: {platform}.gz, line 1 {why}\n")
 
 
 # ---- the form of a line
@@ -361,20 +361,20 @@ def test_unusable_line(audit: Audit, tmp_path: Path, name: str) -> None:
     broker, platform = sorted(journals_in(tmp_path, CREATED))
     bad(broker, BAD[name][0])
     ran = audit(platform, broker, options=TEXT)
-    assert (ran.status, ran.out) == (2, "")
+    assert (ran.status, ran.out) == (78, "")
     line = 6 if BAD[name][1].startswith("the line before it") else 5
     assert ran.err.startswith(f"osb-audit: {broker}: line {line}: {BAD[name][1]}"), ran.err
 
 
 def test_unusable_files(audit: Audit, tmp_path: Path) -> None:
     ran = audit(tmp_path / "missing", options=TEXT)
-    assert ran == Ran(2, "", f"osb-audit: {tmp_path}/missing: read failed: No such file or directory\n")
+    assert ran == Ran(78, "", f"osb-audit: {tmp_path}/missing: read failed: No such file or directory\n")
     (tmp_path / "empty").mkdir()
     (tmp_path / "empty" / "more").mkdir()
     why = "no file in it ends with .jsonl or .jsonl.gz: name the folder of --journal"
-    assert audit(tmp_path / "empty", options=TEXT) == Ran(2, "", f"osb-audit: {tmp_path}/empty: {why}\n")
+    assert audit(tmp_path / "empty", options=TEXT) == Ran(78, "", f"osb-audit: {tmp_path}/empty: {why}\n")
     ran = audit("/dev/null", options=TEXT)
-    assert ran == Ran(2, "", "osb-audit: /dev/null: read failed: it isn't a file\n")
+    assert ran == Ran(78, "", "osb-audit: /dev/null: read failed: it isn't a file\n")
 
 
 def test_the_folder_of_a_storm(audit: Audit, tmp_path: Path) -> None:
@@ -390,7 +390,7 @@ def test_the_folder_of_a_storm(audit: Audit, tmp_path: Path) -> None:
     why = "no file in it ends with .jsonl or .jsonl.gz. Name its folders: osb-audit"
     names = f"'{folder}/broker' '{folder}/platform'"
     ran = audit(folder, options=TEXT)
-    assert ran == Ran(2, "", f"osb-audit: {folder}: {why} {names}\n")
+    assert ran == Ran(78, "", f"osb-audit: {folder}: {why} {names}\n")
     words = shlex.split(ran.err.partition("Name its folders: osb-audit ")[2])
     assert audit(*words, options=TEXT) == Ran(0, "1 instance, 7 events, 0 differences\n", "")
 
@@ -413,12 +413,12 @@ def test_one_side_only(audit: Audit, tmp_path: Path) -> None:
     broker, platform = sorted(journals_in(tmp_path, CREATED))
     ran = audit(platform, options=TEXT)
     why = "no journal of a broker was given"
-    assert ran.status == 2 and ran.err == ""
+    assert ran.status == 78 and ran.err == ""
     assert f"  1 instance, nothing of 1: {why}. The first is {INSTANCE}, from {platform}, line 2 on.\n" in ran.out
     end = f"{MISSING.format('broker')}\n{NOTHING}\n1 instance, 0 events, 0 differences\n"
     assert ran.out.endswith(end), ran
     ran = audit(broker, options=TEXT)
-    assert ran.status == 2 and "a request has changed it that no journal of a platform has" in ran.out
+    assert ran.status == 78 and "a request has changed it that no journal of a platform has" in ran.out
     assert f"{MISSING.format('platform')}\n{NOTHING}\n" in ran.out
 
 
@@ -428,7 +428,7 @@ def test_remarks_in_json(audit: Audit, tmp_path: Path) -> None:
     assert audit(broker, platform).report["remarks"] == []
     for one, other in ((broker, "platform"), (platform, "broker")):
         ran = audit(one)
-        assert (ran.status, ran.report["remarks"]) == (2, [MISSING.format(other), NOTHING])
+        assert (ran.status, ran.report["remarks"]) == (78, [MISSING.format(other), NOTHING])
     story = f"{CREATED}; B arrive 2 x deprovision; B change 2 ready+deprovision"
     ran = audit(*journals_in(tmp_path, story), options=("--json", "--unjudged", "9"))
     told = "Not judged to their end: 100 percent of the instances."
@@ -527,7 +527,7 @@ def test_other_settings(audit: Audit, tmp_path: Path) -> None:
     text = second.read_text()
     second.write_text(text.replace('"first_poll":false', '"first_poll":true'))
     ran = audit(*paths)
-    assert (ran.status, "another rule of the first Poll" in ran.report["unjudged"][0]["why"]) == (2, True)
+    assert (ran.status, "another rule of the first Poll" in ran.report["unjudged"][0]["why"]) == (78, True)
     second.write_text(text.partition("\n")[2])
     ran = audit(*paths)
-    assert (ran.status, "no line `started`" in ran.report["unjudged"][0]["why"]) == (2, True)
+    assert (ran.status, "no line `started`" in ran.report["unjudged"][0]["why"]) == (78, True)

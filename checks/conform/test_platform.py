@@ -236,7 +236,7 @@ def test_statuses(storm: Path, tmp_path: Path) -> None:
         assert (done.returncode, done.stderr) == (status, errors), done.stderr
         assert "no request about an instance came until the order command ended\n" in done.stdout
     with storming(storm) as (_, port):
-        assert ran(storm, "--listen", f"127.0.0.1:{port}").returncode == 2
+        assert ran(storm, "--listen", f"127.0.0.1:{port}").returncode == 78
     for wrong in (
         ["--faults", str(tmp_path / "faults")],
         ["--faults", str(tmp_path / "none")],
@@ -247,4 +247,5 @@ def test_statuses(storm: Path, tmp_path: Path) -> None:
         ["--user", "a:b"],
     ):
         done = ran(storm, *wrong)
-        assert (done.returncode, done.stderr.count("\n")) == (2, 1), (wrong, done.stderr)
+        status = 2 if wrong[0] == "--fault-percent" else 78
+        assert (done.returncode, done.stderr.count("\n")) == (status, 1), (wrong, done.stderr)

@@ -37,7 +37,7 @@ def ran(*line: object, seconds: float = 120) -> subprocess.CompletedProcess[str]
 
 @pytest.mark.parametrize("command", ["conform", "broker", "platform", "both"])
 def test_names_are_tried_first(storm: Path, tmp_path: Path, command: str) -> None:
-    """Nothing is sent or waited for, the status is 2, and no other file is left or changed."""
+    """Nothing is sent or waited for, the status is 78, and no other file is left or changed."""
     kept, new = tmp_path / "kept", tmp_path / "new"
     kept.write_text("before")
     with SmallBroker().running() as small:
@@ -48,7 +48,7 @@ def test_names_are_tried_first(storm: Path, tmp_path: Path, command: str) -> Non
                 others = [it for it in ("--json", "--html", "--faults-to") if it != option and command != "conform"]
                 files = [it for pair in zip(others, (kept, new)) for it in pair]
                 done = ran(storm, command, *arguments, option, wrong, *files, seconds=20)
-                assert (done.returncode, done.stderr.count("\n"), done.stdout) == (2, 1, ""), done.stderr
+                assert (done.returncode, done.stderr.count("\n"), done.stdout) == (78, 1, ""), done.stderr
                 assert f"the report can't be written: open {wrong}: " in done.stderr
                 assert kept.read_text() == "before" and not new.exists()
         assert small.instances == set()

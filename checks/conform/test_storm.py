@@ -163,7 +163,7 @@ def test_endless_list(storm: Path) -> None:
     """A command that prints too much is killed before the storm, and the error says what it must print."""
     with SmallBroker().running() as small:
         done = ran(command(storm, small.url, "--list-command", "head -c 70000000 /dev/zero; sleep 1000"))
-        assert (done.returncode, done.stderr.count("\n")) == (2, 1), done.stderr
+        assert (done.returncode, done.stderr.count("\n")) == (78, 1), done.stderr
         assert "the command of --list-command has failed: it printed more than " in done.stderr, done.stderr
         assert small.instances == set()
 
@@ -196,5 +196,6 @@ def test_statuses(storm: Path, tmp_path: Path) -> None:
             ["--list-command", "true"],
         ):
             done = ran(command(storm, small.url, *wrong))
-            assert (done.returncode, done.stderr.count("\n")) == (2, 1), (wrong, done.stderr)
+            status = 2 if wrong[0] in ("--instances", "--fault-percent") else 78
+            assert (done.returncode, done.stderr.count("\n")) == (status, 1), (wrong, done.stderr)
         assert small.instances == set()

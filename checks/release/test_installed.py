@@ -253,6 +253,7 @@ def check_services(debian: Fresh) -> str:
         assert 61184 <= int(user) <= 65519  # the accounts of DynamicUser
         assert re.search(r"^CapEff:\t0+$", status, re.MULTILINE) and "NoNewPrivs:\t1\nSeccomp:\t2\n" in status
     check_first_instance(debian)
+    check_crash(debian)
     debian.run(f"{client('create --id kept --service folder --plan at-once --wait')}\n{client('bind kept --wait')}")
     assert len(instances(debian)) == 1
     reload(debian)
@@ -278,6 +279,26 @@ def commands(beginning: str) -> str:
 def start(debian: Fresh, script: str) -> None:
     """Runs a script that starts services. If one doesn't start, the log is printed."""
     debian.run(f"trap 'journalctl -o cat -n 50' ERR\n{script}")
+
+
+def check_crash(debian: Fresh) -> None:
+    """Go's runtime ends a program with status 2 at SIGABRT. systemd starts it again, and not after a wrong option."""
+    for unit in ("osb-broker", "osb-platform"):
+        debian.run(f"systemctl kill -s ABRT {unit}")
+        waits(debian, unit, NRestarts="1", ActiveState="active")
+        options = f"/etc/default/{unit}"
+        variable = f"{unit.upper().replace('-', '_')}_OPTIONS"
+        debian.run(f"cp {options} /tmp/options && echo {variable}=--no-such-option >>{options}")
+        debian.run(f"! systemctl restart {unit} 2>/dev/null")
+        waits(debian, unit, ExecMainStatus="78", ActiveState="failed")
+        debian.run(f"mv /tmp/options {options} && systemctl restart {unit}")
+
+
+def waits(debian: Fresh, unit: str, **wanted: str) -> None:
+    """Waits until the properties of a unit are these."""
+    waiting.until(
+        lambda: {it: debian.run(f"systemctl show -P {it} {unit}").strip() for it in wanted} == wanted, seconds=120
+    )
 
 
 def reload(debian: Fresh) -> None:

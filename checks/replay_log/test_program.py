@@ -272,7 +272,7 @@ def test_a_report_that_is_missing(launcher: Launcher, logs: Logs, split: Split) 
 
 def test_parts_where_something_is(launcher: Launcher, logs: Logs, tmp_path: Path) -> None:
     told = launcher.run("split", "--parts", str(tmp_path), *logs.paths)
-    fails(told, 2, "the folder isn't empty")
+    fails(told, 78, "the folder isn't empty")
 
 
 def test_a_fault_that_another_engine_met(launcher: Launcher, logs: Logs, split: Split, tmp_path: Path) -> None:

@@ -174,17 +174,18 @@ def test_killed(storm: Path, broker: Path, platform: Path, replay: Path, tmp_pat
 
 def test_statuses(storm: Path, broker: Path, platform: Path, tmp_path: Path) -> None:
     ran = both(storm, broker, platform, "--crash-points")
-    assert (ran.returncode, "was built without the tag crashpoints" in ran.stderr) == (2, True)
+    assert (ran.returncode, "was built without the tag crashpoints" in ran.stderr) == (78, True)
     for programs in (
         (tmp_path / "none", platform),
         (broker, tmp_path),
         (script(tmp_path / "ends", "exit 3"), platform),
     ):
-        assert both(storm, *programs).returncode == 2, programs
+        assert both(storm, *programs).returncode == 78, programs
     for wrong in (
         ["--instances", "0"],
         ["--calm", "--unruly"],
         ["--fault-percent", "101"],
         ["--faults", str(tmp_path / "none")],
     ):
-        assert both(storm, broker, platform, *wrong).returncode == 2, wrong
+        status = 2 if wrong[0] in ("--instances", "--fault-percent") else 78
+        assert both(storm, broker, platform, *wrong).returncode == status, wrong

@@ -7,6 +7,7 @@ import (
 	"os"
 	"os/signal"
 	"runtime/debug"
+	"strconv"
 	"strings"
 	"syscall"
 	"time"
@@ -14,12 +15,13 @@ import (
 	"github.com/spf13/cobra"
 )
 
-// The exit statuses of Run (this project's choice; 70 and 75 are those of sysexits.h).
+// The exit statuses of Run (this project's choice; 70, 75 and 78 are those of sysexits.h).
 const (
 	StatusDone        = 0  // the command succeeded, or printed its help
-	StatusUnusable    = 2  // an argument or a file can't be used: the same command fails again
+	StatusUsage       = 2  // the command line can't be parsed; Go's runtime ends a program that crashes with 2, too
 	StatusFailed      = 70 // any other failure
 	StatusUnavailable = 75 // a service that the program needs is away: the same command may succeed later
+	StatusUnusable    = 78 // the operator has to change something first: the same command fails again
 )
 
 // Unusable returns an error with the text of err, for which Run returns StatusUnusable. Use it for an error that lasts
@@ -37,9 +39,11 @@ func Unavailable(err error) error { return statusOf(err, StatusUnavailable) }
 //
 //   - If the error is marked by Unusable or Unavailable, the outermost mark gives the status.
 //   - Any other error of a RunE gives StatusFailed.
-//   - An error of cobra, which is about the arguments, gives StatusUnusable.
+//   - An error of cobra, which is about the arguments, gives StatusUsage. If systemd has started the process, it gives
+//     StatusUnusable: the arguments are those of a unit.
 //   - A panic in the goroutine of Run is printed with its stack, and gives StatusFailed. (A panic in another goroutine
-//     ends a Go program with status 2, and Run can't change that.)
+//     ends a Go program with status 2, and Run can't change that. So a supervisor has to start a program again after
+//     status 2, and may leave it stopped after StatusUnusable.)
 //
 // Run is stricter than cobra: a command whose Args are nil takes no arguments, and a command that has only subcommands
 // is an error. For this Run changes root and its subcommands, so use them for one Run.
@@ -69,7 +73,7 @@ func Run(ctx context.Context, root *cobra.Command) (status int) {
 	if err == nil {
 		return StatusDone
 	}
-	status = StatusUnusable
+	status = usageStatus()
 	hint := fmt.Sprintf(" (see %s --help)", called.CommandPath())
 	var known *statusError
 	if errors.As(err, &known) {
@@ -77,6 +81,15 @@ func Run(ctx context.Context, root *cobra.Command) (status int) {
 	}
 	report(root, OneLine(err.Error())+hint)
 	return status
+}
+
+// usageStatus returns the status for a command line that can't be parsed. systemd reports the process that it starts as
+// the main process of a unit in SYSTEMD_EXEC_PID.
+func usageStatus() int {
+	if os.Getenv("SYSTEMD_EXEC_PID") == strconv.Itoa(os.Getpid()) {
+		return StatusUnusable
+	}
+	return StatusUsage
 }
 
 // report prints a text on standard error. If that takes too long, a goroutine is left to do it until the process ends.
@@ -118,7 +131,7 @@ func prepare(command *cobra.Command) {
 		command.Args = cobra.NoArgs
 	}
 	if !command.Runnable() {
-		missing := Unusable(fmt.Errorf("a command is missing: %s", strings.Join(namesOf(command), ", ")))
+		missing := statusOf(fmt.Errorf("a command is missing: %s", strings.Join(namesOf(command), ", ")), usageStatus())
 		command.RunE = func(*cobra.Command, []string) error { return missing }
 		return
 	}

@@ -43,11 +43,11 @@ func TestRunStatusOfErrors(t *testing.T) {
 	}{
 		"no error":    {nil, 0, ""},
 		"any error":   {errors.New("no memory"), 70, "osb-broker: no memory\n"},
-		"unusable":    {Unusable(errors.New("no file x")), 2, "osb-broker: no file x\n"},
+		"unusable":    {Unusable(errors.New("no file x")), 78, "osb-broker: no file x\n"},
 		"unavailable": {Unavailable(away), 75, "osb-broker: connection refused\n"},
 		"wrapped unavailable": {fmt.Errorf("open the store: %w", Unavailable(away)), 75,
 			"osb-broker: open the store: connection refused\n"},
-		"the outermost counts": {Unusable(Unavailable(away)), 2, "osb-broker: connection refused\n"},
+		"the outermost counts": {Unusable(Unavailable(away)), 78, "osb-broker: connection refused\n"},
 		"several lines":        {errors.New("one\r\n\ttwo\n"), 70, "osb-broker: one two\n"},
 		"escape sequences": {errors.New("a\x1b[31m\u202eb\u009b"), 70,
 			`osb-broker: a\x1b[31m\u202eb\u009b` + "\n"},
@@ -79,7 +79,7 @@ func TestRunRejectsArguments(t *testing.T) {
 			ran := false
 			status, stdout, stderr := runWith(func(*cobra.Command, []string) error { ran = true; return nil },
 				strings.Fields(test.arguments)...)
-			if status != StatusUnusable || ran || stdout != "" || stderr != test.stderr {
+			if status != StatusUsage || ran || stdout != "" || stderr != test.stderr {
 				t.Errorf("status %d, ran %v, output %q, errors %q; want %q", status, ran, stdout, stderr, test.stderr)
 			}
 		})
@@ -116,10 +116,19 @@ func TestRunCatchesPanics(t *testing.T) {
 	}
 }
 
-// brokenError is set in a process that TestRunOutlivesABrokenStandardError starts.
-const brokenError = "OSB_TEST_BROKEN_STANDARD_ERROR"
+const (
+	// brokenError is set in a process that TestRunOutlivesABrokenStandardError starts.
+	brokenError = "OSB_TEST_BROKEN_STANDARD_ERROR"
+	// wrongUsage is set in a process that TestStatusOfAUnit starts.
+	wrongUsage = "OSB_TEST_WRONG_USAGE"
+)
 
 func TestMain(m *testing.M) {
+	if os.Getenv(wrongUsage) != "" {
+		root := commands(func(*cobra.Command, []string) error { return nil })
+		root.SetArgs([]string{"serve", "--sotre", "x"})
+		os.Exit(Run(context.Background(), root))
+	}
 	if os.Getenv(brokenError) == "" {
 		os.Exit(m.Run())
 	}
@@ -144,6 +153,18 @@ func TestRunOutlivesABrokenStandardError(t *testing.T) {
 	child.Env, child.Stderr = append(os.Environ(), brokenError+"=1"), writer
 	if err := child.Run(); child.ProcessState.ExitCode() != StatusUnavailable {
 		t.Errorf("the process ended with %v, want status %d", err, StatusUnavailable)
+	}
+}
+
+// systemd has started a process if SYSTEMD_EXEC_PID has its number. Then an argument is part of a unit, and the unit mustn't
+// be started again.
+func TestStatusOfAUnit(t *testing.T) {
+	for set, want := range map[string]int{"$$": StatusUnusable, "1": StatusUsage, "": StatusUsage} {
+		child := exec.Command("sh", "-c", `SYSTEMD_EXEC_PID=`+set+` exec "$0"`, os.Args[0])
+		child.Env = append(os.Environ(), wrongUsage+"=1")
+		if err := child.Run(); child.ProcessState.ExitCode() != want {
+			t.Errorf("with SYSTEMD_EXEC_PID=%s the process ended with %v, want status %d", set, err, want)
+		}
 	}
 }
 

@@ -117,9 +117,6 @@ func (b *Both) victim(name string, number int, line []string, environment ...str
 	made.environment = append(made.environment, b.config.withoutOf(name)...)
 	if b.config.needsPostgreSQL() {
 		made.accepted = []int{program.StatusUnavailable}
-		if name == whoPlatform { // the server may still have the session of the last worker of this name
-			made.accepted = append(made.accepted, program.StatusUnusable)
-		}
 	}
 	return made, nil
 }

@@ -15,7 +15,7 @@ from typing import Callable, Iterable, Iterator, TypeVar
 from osb_audit import words
 from osb_replay_log import signals
 from osb_replay_log.engines import Engine, Processes
-from osb_replay_log.faults import NO_MEMORY, REFUSED_WORDS, UNABLE, UNREAD, UNWRITTEN, Unreplayed, unwritten
+from osb_replay_log.faults import NO_MEMORY, UNABLE, UNREAD, UNUSABLE, UNWRITTEN, Unreplayed, unwritten
 from osb_replay_log.logs import Log
 from osb_replay_log.program import Program, built
 from osb_replay_log.progress import Progress
@@ -56,7 +56,7 @@ def run(given: list[str]) -> int:
     try:
         return _audit(asked)
     except Unreplayed as error:
-        return refuse(words.PROGRAM, REFUSED_WORDS if error.status == UNREAD else error.status, error.said)
+        return refuse(words.PROGRAM, UNUSABLE if error.status == UNREAD else error.status, error.said)
     except MemoryError:
         return refuse(words.PROGRAM, NO_MEMORY, "out of memory")
 

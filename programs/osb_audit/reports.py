@@ -9,7 +9,7 @@ from osb_audit.events import COLUMNS
 from osb_audit.judging import RECENT, Difference
 from osb_audit.lines import Place
 from osb_audit.work import Audited
-from osb_replay_log.faults import REFUSED_WORDS, shown
+from osb_replay_log.faults import UNUSABLE, shown
 
 DIFFERENT = 1
 UNJUDGED = 3
@@ -51,7 +51,7 @@ class Report:
         if self.differences or self.disagreements:
             return DIFFERENT
         if self.instances == sum(it.whole for it in self.unjudged):
-            return REFUSED_WORDS
+            return UNUSABLE
         if self._allowed is None:
             return DIFFERENT if self._left * 100 > USUAL * self.instances else 0
         return UNJUDGED if self._left * 100 > self._allowed * self.instances else 0
@@ -120,7 +120,7 @@ class Report:
         for side in ("broker", "platform"):
             if not found.processes[side]:
                 yield f"There is no journal of a {side} among these: what the other side did can't be judged without it"
-        if self.status() == REFUSED_WORDS:
+        if self.status() == UNUSABLE:
             yield "Nothing could be judged."
         if self.status() == UNJUDGED:
             yield f"{self._share()} --unjudged allows {self._allowed:g} percent."

@@ -22,11 +22,12 @@ Exit status:
   0   no difference
   1   a difference, or the sides disagree at the end; or more than a tenth of the instances
       weren't judged to their end, and --unjudged isn't given
-  2   the command line was rejected, a journal can't be used, or nothing could be judged
+  2   the command line can't be parsed
   3   more instances than --unjudged allows weren't judged to their end
   4   the report, or a file of the workers, could not be written
   5   out of memory
   70  osb-replay, the library, or the workers, can't be started
+  78  change something first: a journal can't be used, or nothing could be judged
 
 If the environment variable OSB_REPLAY is set, it names the program osb-replay. LIBOSB names
 the library libosb.so.

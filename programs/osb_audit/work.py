@@ -15,7 +15,7 @@ from osb_audit.settings import Settings, settings_in
 from osb_audit.splitting import Heading, Split, Splitting, split
 from osb_audit.words import PROGRAM
 from osb_replay_log.engines import Engine
-from osb_replay_log.faults import REFUSED_WORDS, Unreplayed, reason
+from osb_replay_log.faults import UNUSABLE, Unreplayed, reason
 from osb_replay_log.logs import Log, Stretch, found, stretches
 from osb_replay_log.program import Program
 from osb_replay_log.progress import Progress
@@ -94,8 +94,8 @@ def _journals_in(folder: str) -> list[str]:
     why = f"{folder}: no file in it ends with .jsonl or .jsonl.gz"
     below = " ".join(shlex.quote(it) for it in folders if _has_journals(it))
     if below:
-        raise Unreplayed(REFUSED_WORDS, f"{why}. Name its folders: {PROGRAM} {below}")
-    raise Unreplayed(REFUSED_WORDS, f"{why}: name the folder of --journal")
+        raise Unreplayed(UNUSABLE, f"{why}. Name its folders: {PROGRAM} {below}")
+    raise Unreplayed(UNUSABLE, f"{why}: name the folder of --journal")
 
 
 def _scanned(folder: str) -> tuple[list[str], list[str]]:
@@ -104,7 +104,7 @@ def _scanned(folder: str) -> tuple[list[str], list[str]]:
         with os.scandir(folder) as entries:
             found_here = sorted(entries, key=lambda it: it.path)
     except OSError as error:
-        raise Unreplayed(REFUSED_WORDS, f"{folder}: it can't be read: {reason(error)}") from error
+        raise Unreplayed(UNUSABLE, f"{folder}: it can't be read: {reason(error)}") from error
     journals = [it.path for it in found_here if it.is_file() and _is_journal(it.name)]
     return journals, [it.path for it in found_here if it.is_dir()]
 
@@ -188,14 +188,14 @@ def _check_copies(splits: Sequence[Split], places: Places) -> None:
                 (one, line), (other, again) = places.told(first), places.told(place)
                 why = "one is a copy of the other. Name each journal once"
                 raise Unreplayed(
-                    REFUSED_WORDS, f"{one}: line {line}: {other}, line {again} is the same line `started`: {why}"
+                    UNUSABLE, f"{one}: line {line}: {other}, line {again} is the same line `started`: {why}"
                 )
 
 
 def unusable(places: Places, place: Place, why: str) -> Unreplayed:
     """A line that can't be used."""
     path, line = places.told(place)
-    return Unreplayed(REFUSED_WORDS, f"{path}: line {line}: {why}")
+    return Unreplayed(UNUSABLE, f"{path}: line {line}: {why}")
 
 
 def _settings(splits: Sequence[Split], places: Places) -> dict[str, Settings]:

@@ -12,7 +12,7 @@ from contextlib import ExitStack, closing
 from osb_replay_log import divided, reports, schedulers, signals, words, work
 from osb_replay_log.dask_engine import Dask, Missing
 from osb_replay_log.engines import Engine, Processes
-from osb_replay_log.faults import NO_MEMORY, REFUSED_WORDS, UNABLE, UNREAD, UNWRITTEN, Unreplayed, unwritten
+from osb_replay_log.faults import NO_MEMORY, UNABLE, UNREAD, UNUSABLE, UNWRITTEN, Unreplayed, unwritten
 from osb_replay_log.logs import Log, from_paths
 from osb_replay_log.program import Program, built
 from osb_replay_log.progress import Progress
@@ -51,7 +51,7 @@ def _split(asked: argparse.Namespace) -> None:
     with ExitStack() as stack:
         try:
             if os.stat(room).st_dev != os.stat(asked.parts).st_dev:
-                raise Unreplayed(REFUSED_WORDS, f"{room}: pass a --room on the same file system as {asked.parts}")
+                raise Unreplayed(UNUSABLE, f"{room}: pass a --room on the same file system as {asked.parts}")
             done, logs, _ = _work(asked, stack, (), room, False)
             divided.write(asked.parts, logs, done)
         except OSError as error:

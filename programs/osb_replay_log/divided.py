@@ -7,7 +7,7 @@ import re
 from pathlib import Path
 from typing import NamedTuple, TypeVar
 
-from osb_replay_log.faults import REFUSED_WORDS, UNREAD, Unreplayed, reason
+from osb_replay_log.faults import UNREAD, UNUSABLE, Unreplayed, reason
 from osb_replay_log.lines import name_in
 from osb_replay_log.logs import Log, found
 from osb_replay_log.parts import Faulty, faulty_line
@@ -45,9 +45,9 @@ def begin(folder: str) -> None:
     try:
         os.makedirs(folder, exist_ok=True)
         if os.listdir(folder):
-            raise Unreplayed(REFUSED_WORDS, f"{folder}: the folder isn't empty: pass a new one, or an empty one")
+            raise Unreplayed(UNUSABLE, f"{folder}: the folder isn't empty: pass a new one, or an empty one")
     except OSError as error:
-        raise Unreplayed(REFUSED_WORDS, f"{folder}: it can't be used: {reason(error)}") from error
+        raise Unreplayed(UNUSABLE, f"{folder}: it can't be used: {reason(error)}") from error
 
 
 def write(folder: str, logs: tuple[Log, ...], outcome: Outcome) -> Divided:

@@ -1,8 +1,8 @@
 """Why a log isn't replayed: what is told of it, and the exit status."""
 from __future__ import annotations
 
-FAULTY, REFUSED_WORDS, UNREAD, UNWRITTEN, NO_MEMORY, UNABLE = 1, 2, 3, 4, 5, 70
-"""The statuses of `osb-replay`, and that of what can't be run at all."""
+FAULTY, UNREAD, UNWRITTEN, NO_MEMORY, UNABLE, UNUSABLE = 1, 3, 4, 5, 70, 78
+"""The statuses of `osb-replay`, that of what can't be run at all, and that of what has to be changed first."""
 
 
 class Unreplayed(Exception):

@@ -32,11 +32,12 @@ processes of this machine if not.
 Exit status:
   0   done
   1   the log has a fault, or too many lines of one instance: see standard error
-  2   the command line was rejected
+  2   the command line can't be parsed
   3   a log could not be read
   4   the report, or a file of the workers, could not be written
   5   out of memory
   70  osb-replay, or the workers, can't be started
+  78  change something first: the folder of --parts, or that of --room
 
 If the environment variable OSB_REPLAY is set, it names the program osb-replay.
 

@@ -3,7 +3,9 @@ package command
 import (
 	"context"
 	"encoding/json"
+	"errors"
 	"fmt"
+	"syscall"
 
 	"pippinterm/broker"
 )
@@ -102,21 +104,39 @@ func (p *program) call(ctx context.Context, call string, request broker.Request,
 func (p *program) capabilities(ctx context.Context) (found capable, err error) {
 	const call = "capabilities"
 	input, err := json.Marshal(map[string]string{"state": p.state})
-	if err == nil {
-		err = p.run(ctx, call, input, nil, func(run ended) error {
-			if run.exit.ExitStatus() == statusUnsupported {
-				return nil
-			}
-			return run.read(&found, false)
-		})
+	if err != nil {
+		return found, p.wrapped(call, err)
 	}
-	return found, p.wrapped(call, err)
+	isLasting := false
+	err = p.run(ctx, call, input, nil, func(run ended) error {
+		if run.exit.ExitStatus() == statusUnsupported {
+			return nil
+		}
+		isLasting = run.isLasting()
+		return run.read(&found, false)
+	})
+	if err == nil {
+		return found, nil
+	}
+	return found, &CallError{Program: p.path, Call: call, Err: err, MayPass: !isLasting && mayPass(err)}
+}
+
+// mayPass returns whether the error of a run that hasn't ended by itself may be over later.
+func mayPass(err error) bool {
+	var number syscall.Errno
+	if !errors.As(err, &number) {
+		return !errors.Is(err, errTooLong)
+	}
+	return number == syscall.EAGAIN || number == syscall.ENOMEM || number == syscall.EMFILE || number == syscall.ENFILE
 }
 
 // A CallError is the error of a call, with the program and the call.
 type CallError struct {
 	Program, Call string
 	Err           error
+	// MayPass is set for capabilities: the program failed, was killed or took too long, so the same call may succeed
+	// later. It isn't set if the program can't be run, or reports something wrong.
+	MayPass bool
 }
 
 // Error returns the text of Err after the program and the call.

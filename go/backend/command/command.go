@@ -52,8 +52,8 @@ type program struct {
 //
 // Errors: if the program doesn't exist or isn't executable; if the command timeout of coreutils isn't in PATH; those of
 // creating the folder and its file .locks; if Options.Existing is true and the file doesn't exist; if Options.Limit is
-// negative; if the program fails to report its capabilities, or reports credentials without bindings. The folder may
-// have been created then, unless Options.Existing is true.
+// negative; if the program fails to report its capabilities, or reports credentials without bindings, a *CallError. The
+// folder may have been created then, unless Options.Existing is true.
 func New(ctx context.Context, program string, options Options) (broker.Backend, error) {
 	p, err := newProgram(program, options)
 	if err != nil {

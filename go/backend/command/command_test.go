@@ -9,6 +9,7 @@ import (
 	"sort"
 	"strings"
 	"testing"
+	"time"
 
 	"pippinterm/broker"
 	"pippinterm/osb"
@@ -90,6 +91,45 @@ func TestCapabilities(t *testing.T) {
 			}
 			if _, hasSync := backend.(broker.SyncBackend); hasSync {
 				t.Error("the backend claims to know what is on disk")
+			}
+		})
+	}
+}
+
+// A program that fails, is killed or is slow may report its capabilities at the next start. One that can't be run, or
+// reports something wrong, needs a change first.
+func TestCapabilitiesThatMayPass(t *testing.T) {
+	for name, it := range map[string]struct {
+		text    string
+		mayPass bool
+	}{
+		"it fails":                       {"exit 1", true},
+		"it fails with 2":                {"exit 2", true},
+		"it fails with a text":           {"echo no; exit 4", true},
+		"it is killed":                   {"kill -9 $$", true},
+		"it is slow":                     {"sleep 600", true},
+		"its output isn't closed":        {"sleep 600 & exit 0", true},
+		"no JSON":                        {"echo yes", false},
+		"credentials alone":              {`echo '{"credentials": true}'`, false},
+		"too much output":                {"head -c 2000000 /dev/zero", false},
+		"no such interpreter":            {"#!/nowhere/sh", false},
+		"its last command doesn't exist": {"/nowhere/program", false},
+	} {
+		t.Run(name, func(t *testing.T) {
+			limit := time.Minute
+			if strings.Contains(it.text, "sleep") {
+				limit = 300 * time.Millisecond
+			}
+			file := script(t, it.text)
+			if strings.HasPrefix(it.text, "#!") {
+				if err := os.WriteFile(file, []byte(it.text+"\n"), 0o700); err != nil {
+					t.Fatal(err)
+				}
+			}
+			_, err := New(ctx, file, Options{State: t.TempDir(), Limit: limit})
+			var called *CallError
+			if !errors.As(err, &called) || called.MayPass != it.mayPass {
+				t.Errorf("New returned %v, which may pass: %v; want %v", err, called != nil && called.MayPass, it.mayPass)
 			}
 		})
 	}

@@ -18,6 +18,10 @@ const (
 	statusRejected    = 3
 	statusDescribed   = 4
 	statusUnsupported = 5
+
+	// Those of the command timeout, and of a shell: the program can't be run.
+	statusNotExecutable = 126
+	statusNotFound      = 127
 )
 
 // A result is what standard output has after a call that succeeded.
@@ -101,6 +105,13 @@ func (e ended) read(into result, isCreation bool) error {
 		return e.failed("the program doesn't support this call")
 	}
 	return e.failed("")
+}
+
+// isLasting returns whether a run whose result can't be used ends so again: the program can't be run, or it has
+// succeeded and reported something wrong.
+func (e ended) isLasting() bool {
+	status := e.exit.ExitStatus()
+	return status == statusDone || status == statusNotExecutable || status == statusNotFound
 }
 
 // rejected is the error of a creation that the program rejects. Many commands exit with status 3 for other reasons. So

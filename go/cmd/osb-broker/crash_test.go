@@ -10,6 +10,6 @@ func TestUnknownCrashPoint(t *testing.T) {
 		"begin-nxt": "begin-next, begin-written", "begin-next": "--listen 192.0.2.1:1",
 	} {
 		environment := []string{password, "OSB_CRASH_AT=" + point}
-		ended(t, 2, says, osbBroker(environment, "serve", "--state", t.TempDir(), "--listen", "192.0.2.1:1"))
+		ended(t, 78, says, osbBroker(environment, "serve", "--state", t.TempDir(), "--listen", "192.0.2.1:1"))
 	}
 }

@@ -105,7 +105,7 @@ func TestJournalTaken(t *testing.T) {
 	for place, says := range map[string]string{
 		file: "--journal: " + file + ": another process writes this journal", "/nowhere/journal": "--journal: open /nowhere",
 	} {
-		ended(t, 2, says, osbBroker([]string{password}, "serve", "--state", t.TempDir(), "--listen", "127.0.0.1:0",
+		ended(t, 78, says, osbBroker([]string{password}, "serve", "--state", t.TempDir(), "--listen", "127.0.0.1:0",
 			"--journal", place))
 	}
 }

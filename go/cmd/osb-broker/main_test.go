@@ -180,7 +180,7 @@ func TestServe(t *testing.T) {
 	}
 }
 
-// Arguments and files that can't be used end it with status 2 and one line.
+// Arguments that can't be parsed end it with status 2 and one line, and what an operator has to change with 78.
 func TestUnusable(t *testing.T) {
 	empty := t.TempDir()
 	file := func(name, text string) string {
@@ -191,34 +191,35 @@ func TestUnusable(t *testing.T) {
 		return path
 	}
 	for _, it := range []struct {
+		status                 int
 		environment, arguments []string
 		says                   string
 	}{
-		{nil, nil, "a command is missing: key, password, rekey, serve, try"},
-		{nil, []string{"sell"}, "sell"},
-		{nil, []string{"serve"}, "OSB_BROKER_PASSWORD"},
-		{[]string{password}, []string{"serve", "--threads", "0"}, "threads"},
-		{[]string{password}, []string{"serve", "--ids-return-after", "299"}, `"--ids-return-after" flag: want a number from 300`},
-		{[]string{password}, []string{"serve", "--ids-return-after", "0"}, "from 300"},
-		{[]string{password}, []string{"serve", "--listen", "nowhere"}, "HOST:PORT"},
-		{[]string{password}, []string{"serve", "--user", "a:b"}, "--user"},
-		{[]string{password}, []string{"serve", "--state", empty, "--store", "mysql://x"}, "--store"},
-		{[]string{password}, []string{"serve", "--state", empty, "--backend", "postgresq://x"}, "begins with postgresq://"},
-		{[]string{password}, []string{"serve", "--state", empty, "--existing"}, "--existing"},
-		{[]string{password}, []string{"serve", "--state", file("f", "")}, "the state folder can't be created"},
-		{[]string{password}, []string{"serve", "--state", empty, "--catalog", file("c", "{}")},
+		{2, nil, nil, "a command is missing: key, password, rekey, serve, try"},
+		{2, nil, []string{"sell"}, "sell"},
+		{78, nil, []string{"serve"}, "OSB_BROKER_PASSWORD"},
+		{2, []string{password}, []string{"serve", "--threads", "0"}, "threads"},
+		{2, []string{password}, []string{"serve", "--ids-return-after", "299"}, `"--ids-return-after" flag: want a number`},
+		{2, []string{password}, []string{"serve", "--ids-return-after", "0"}, "from 300"},
+		{2, []string{password}, []string{"serve", "--listen", "nowhere"}, "HOST:PORT"},
+		{78, []string{password}, []string{"serve", "--user", "a:b"}, "--user"},
+		{2, []string{password}, []string{"serve", "--state", empty, "--store", "mysql://x"}, "--store"},
+		{2, []string{password}, []string{"serve", "--state", empty, "--backend", "postgresq://x"}, "with postgresq://"},
+		{78, []string{password}, []string{"serve", "--state", empty, "--existing"}, "--existing"},
+		{78, []string{password}, []string{"serve", "--state", file("f", "")}, "the state folder can't be created"},
+		{78, []string{password}, []string{"serve", "--state", empty, "--catalog", file("c", "{}")},
 			"can't be the catalogue"},
-		{[]string{password}, []string{"serve", "--state", empty, "--catalog", file("m",
+		{78, []string{password}, []string{"serve", "--state", empty, "--catalog", file("m",
 			string(catalogueWith(`"requires": ["syslog_drain"],`)))}, `service "shelf": requires has "syslog_drain"`},
-		{[]string{password}, []string{"serve", "--state", empty, "--catalog", "/nowhere/c"}, "/nowhere/c"},
-		{[]string{password}, []string{"serve", "--state", empty, "--backend", "command:/nowhere/b"}, "/nowhere/b"},
-		{[]string{password}, []string{"serve", "--state", empty, "--store", "postgresql://u:pw@h/d"}, "PGPASSWORD"},
-		{[]string{password}, []string{"serve", "--state", empty, "--tls-certificate", "/nowhere/t", "--tls-key", "/n/k"},
+		{78, []string{password}, []string{"serve", "--state", empty, "--catalog", "/nowhere/c"}, "/nowhere/c"},
+		{78, []string{password}, []string{"serve", "--state", empty, "--backend", "command:/nowhere/b"}, "/nowhere/b"},
+		{78, []string{password}, []string{"serve", "--state", empty, "--store", "postgresql://u:pw@h/d"}, "PGPASSWORD"},
+		{78, []string{password}, []string{"serve", "--state", empty, "--tls-certificate", "/nowhere/t", "--tls-key", "/n/k"},
 			"/nowhere/t"},
-		{[]string{password}, []string{"serve", "--state", empty, "--listen", "192.0.2.1:1"}, "--listen 192.0.2.1:1"},
-		{nil, []string{"serve", "--users-file", file("u", "nobody\n")}, "user:password"},
-		{nil, []string{"password", "one"}, "OSB_BACKEND_KEY"},
-		{nil, []string{"rekey", "--backend", "folder"}, "postgresql://"},
+		{78, []string{password}, []string{"serve", "--state", empty, "--listen", "192.0.2.1:1"}, "--listen 192.0.2.1:1"},
+		{78, nil, []string{"serve", "--users-file", file("u", "nobody\n")}, "user:password"},
+		{78, nil, []string{"password", "one"}, "OSB_BACKEND_KEY"},
+		{78, nil, []string{"rekey", "--backend", "folder"}, "postgresql://"},
 	} {
 		var stderr bytes.Buffer
 		command := osbBroker(it.environment, it.arguments...)
@@ -226,8 +227,8 @@ func TestUnusable(t *testing.T) {
 		_ = command.Run()
 		text := stderr.String()
 		isLine := strings.HasPrefix(text, "osb-broker: ") && strings.Count(text, "\n") == 1
-		if command.ProcessState.ExitCode() != 2 || !isLine || !strings.Contains(text, it.says) {
-			t.Errorf("%v: status %d, %q", it.arguments, command.ProcessState.ExitCode(), text)
+		if got := command.ProcessState.ExitCode(); got != it.status || !isLine || !strings.Contains(text, it.says) {
+			t.Errorf("%v: status %d, %q, want %d and %q", it.arguments, got, text, it.status, it.says)
 		}
 		if strings.Contains(text, "secret") || strings.Contains(text, ":pw@") {
 			t.Errorf("%v shows a secret: %q", it.arguments, text)
@@ -247,7 +248,7 @@ func TestUnavailable(t *testing.T) {
 // The present key of rekey may be short, as in version 0.2. The new one may not.
 func TestRekeyTakesAShortKey(t *testing.T) {
 	file := filepath.Join(t.TempDir(), "new")
-	for key, status := range map[string]int{strings.Repeat("k", 32): 75, "short": 2} {
+	for key, status := range map[string]int{strings.Repeat("k", 32): 75, "short": 78} {
 		if err := os.WriteFile(file, []byte(key), 0o600); err != nil {
 			t.Fatal(err)
 		}

@@ -51,8 +51,9 @@ GET /healthz, /readyz and /metrics need no password. The log is lines of JSON on
 error. SIGTERM and SIGINT end the broker with status 0, once the running work has ended.
 SIGHUP reads the files of --users-file, --password-file and --tls-.. again.
 
-exit status: 0 done; 2 change something first: an argument, a file, a password or a right;
-75 the store or the backend is away, so try again; 70 any other error`
+exit status: 0 done; 2 the command line can't be parsed (78 if systemd has started the program);
+78 change something first: an option, a file, a password or a right; 75 the store or the backend
+is away, so try again; 70 any other error`
 
 func serveCommand() *cobra.Command {
 	s := &settings{}

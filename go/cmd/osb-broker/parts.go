@@ -105,6 +105,10 @@ func (p *parts) openBackend(ctx context.Context, s *settings, log *logs.Logger) 
 		p.sells = "resource"
 		options := command.Options{State: commandState(s), Limit: s.commandTime, Existing: s.existing}
 		p.backend, err = command.New(ctx, name, options)
+		var called *command.CallError
+		if errors.As(err, &called) && called.MayPass {
+			return program.Unavailable(wrapped("the backend can't be used", err))
+		}
 		return ofFiles("the backend can't be used", err)
 	}
 	if session.IsAddress(s.backend) {

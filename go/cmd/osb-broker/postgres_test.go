@@ -45,7 +45,7 @@ func ended(t *testing.T, status int, says string, command *exec.Cmd) {
 	}
 }
 
-// What an operator has to change ends the broker with status 2, and a server that may be back soon with 75.
+// What an operator has to change ends the broker with status 78, and a server that may be back soon with 75.
 func TestStatusOfPostgreSQL(t *testing.T) {
 	address, environment := postgresql(t)
 	db := pgtest.DB(t, pgtest.URL(t))
@@ -67,16 +67,16 @@ func TestStatusOfPostgreSQL(t *testing.T) {
 		status                int
 		says                  string
 	}{
-		{"a wrong password", address, "wrong", 2, "Set PGPASSWORD"},
-		{"no password", address, "", 2, "Set PGPASSWORD"},
-		{"an unknown database", pgtest.In(t, address, "osb_nowhere"), "", 2, "Create the database"},
-		{"an unknown parameter", pgtest.With(t, address, "no_such_parameter", "1"), "", 2, "Correct the parameters"},
-		{"a bad value", pgtest.With(t, address, "work_mem", "much"), "", 2, "Correct the parameters"},
-		{"a missing file", pgtest.With(t, verified, "sslrootcert", "/nowhere/r"), "", 2, "/nowhere/r"},
-		{"another encoding", pgtest.In(t, address, "osb_status_latin1"), "", 2, "ENCODING 'UTF8'"},
-		{"a lossy commit", pgtest.With(t, address, "synchronous_commit", "off"), "", 2, "SET synchronous_commit = on"},
-		{"a missing right", as("osb_poor", "osb_status"), "of its own", 2, "Grant the right"},
-		{"an unknown schema", as("osb_poor", "osb_nowhere"), "of its own", 2, "Create the schema"},
+		{"a wrong password", address, "wrong", 78, "Set PGPASSWORD"},
+		{"no password", address, "", 78, "Set PGPASSWORD"},
+		{"an unknown database", pgtest.In(t, address, "osb_nowhere"), "", 78, "Create the database"},
+		{"an unknown parameter", pgtest.With(t, address, "no_such_parameter", "1"), "", 78, "Correct the parameters"},
+		{"a bad value", pgtest.With(t, address, "work_mem", "much"), "", 78, "Correct the parameters"},
+		{"a missing file", pgtest.With(t, verified, "sslrootcert", "/nowhere/r"), "", 78, "/nowhere/r"},
+		{"another encoding", pgtest.In(t, address, "osb_status_latin1"), "", 78, "ENCODING 'UTF8'"},
+		{"a lossy commit", pgtest.With(t, address, "synchronous_commit", "off"), "", 78, "SET synchronous_commit = on"},
+		{"a missing right", as("osb_poor", "osb_status"), "of its own", 78, "Grant the right"},
+		{"an unknown schema", as("osb_poor", "osb_nowhere"), "of its own", 78, "Create the schema"},
 		{"no connection left", as("osb_limited", "osb_status"), "of its own", 75, "too many connections"},
 		{"nobody listens", "postgresql://u@127.0.0.1:1/d", "", 75, "Check that the server runs"},
 		{"no socket", "postgresql:///d?user=u&host=/nowhere", "", 75, "Check that the server runs"},
@@ -95,7 +95,7 @@ func TestStatusOfPostgreSQL(t *testing.T) {
 func TestSocketOfTheBackend(t *testing.T) {
 	variables := []string{password, "OSB_BACKEND_KEY=" + strings.Repeat("k", 32)}
 	line := []string{"serve", "--state", t.TempDir(), "--backend", "postgresql:///d?user=u&host=/nowhere"}
-	ended(t, 2, "--customer-address", osbBroker(variables, line...))
+	ended(t, 78, "--customer-address", osbBroker(variables, line...))
 	ended(t, 75, "Check that the server runs", osbBroker(variables, append(line, "--customer-address", "db:5432")...))
 }
 

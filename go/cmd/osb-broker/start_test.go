@@ -14,15 +14,15 @@ import (
 	"pippinterm/broker/sqlite"
 )
 
-// unusable runs the program, and checks that it ends with status 2 and this text.
+// unusable runs the program, and checks that it ends with status 78 and this text.
 func unusable(t *testing.T, says string, arguments ...string) {
 	t.Helper()
 	var stderr bytes.Buffer
 	command := osbBroker([]string{password}, arguments...)
 	command.Stderr = &stderr
 	_ = command.Run()
-	if command.ProcessState.ExitCode() != 2 || !strings.Contains(stderr.String(), says) {
-		t.Errorf("%v: status %d, %q; 2 and %q are wanted", arguments, command.ProcessState.ExitCode(), stderr.String(), says)
+	if command.ProcessState.ExitCode() != 78 || !strings.Contains(stderr.String(), says) {
+		t.Errorf("%v: status %d, %q; 78 and %q are wanted", arguments, command.ProcessState.ExitCode(), stderr.String(), says)
 	}
 }
 

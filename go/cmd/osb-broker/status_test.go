@@ -36,9 +36,9 @@ func TestStatusOfFiles(t *testing.T) {
 		{fmt.Errorf("sqlite: %w: database is locked", sqlitefile.ErrBusy), 75},
 		{fmt.Errorf("sqlite: %w", sqlite3.Error{Code: sqlite3.ErrFull}), 75},
 		{&fs.PathError{Op: "mkdir", Path: "s", Err: syscall.ENOSPC}, 75},
-		{&fs.PathError{Op: "mkdir", Path: "s", Err: syscall.EACCES}, 2},
-		{fmt.Errorf("sqlite: %w", sqlite3.Error{Code: sqlite3.ErrNotADB}), 2},
-		{errors.New("another"), 2},
+		{&fs.PathError{Op: "mkdir", Path: "s", Err: syscall.EACCES}, 78},
+		{fmt.Errorf("sqlite: %w", sqlite3.Error{Code: sqlite3.ErrNotADB}), 78},
+		{errors.New("another"), 78},
 	} {
 		if status := statusOf(ofFiles("the store can't be used", it.err)); status != it.status {
 			t.Errorf("%v: status %d, want %d", it.err, status, it.status)

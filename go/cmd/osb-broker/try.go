@@ -45,8 +45,9 @@ environment:
   OSB_BACKEND_KEY, PGPASSWORD, PGPASSFILE, BACKEND_..   as for 'osb-broker serve'
 
 exit status: 0 all calls did what the guide says; 1 a call failed, something couldn't be deleted, or a
-signal ended the test; 2 change something first: an argument, a file, a program that can't be run, or one
-that doesn't report its capabilities; 75 the server of the backend is away; 70 any other error`
+signal ended the test; 2 the command line can't be parsed; 78 change something first: an option, a file, a
+program that can't be run, or one whose capabilities can't be read; 75 the server of the backend is away, or
+the program failed to report its capabilities; 70 any other error`
 
 // tried are the options of `osb-broker try`.
 type tried struct {

@@ -120,7 +120,7 @@ func TestAskInVain(t *testing.T) {
 	t.Setenv(passwordVariable, "another")
 	check(t, store, []line{
 		{"broker set local --store-password --url " + s.url + " --key-file " + key, 0, ``, ``},
-		{"ask one", 2, ``, `osb-platform: name the file with the key that encrypted the broker's password: .*`},
+		{"ask one", 78, ``, `osb-platform: name the file with the key that encrypted the broker's password: .*`},
 		{"ask one --key-file " + key, 0, "id\tone\n.*status\t410\n.*", ``},
 	})
 }

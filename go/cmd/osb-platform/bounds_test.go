@@ -138,8 +138,8 @@ func TestURLWithVersion(t *testing.T) {
 	write(t, password, "secret")
 	for _, it := range []string{"http://127.0.0.1:1/v2", "http://127.0.0.1:1/a/v2/"} {
 		check(t, store, []line{
-			{"broker add two " + it + " --password-file " + password, 2, ``, `osb-platform: .*: leave the /v2 out`},
-			{"broker set shop --url " + it, 2, ``, `osb-platform: .*: leave the /v2 out`},
+			{"broker add two " + it + " --password-file " + password, 78, ``, `osb-platform: .*: leave the /v2 out`},
+			{"broker set shop --url " + it, 78, ``, `osb-platform: .*: leave the /v2 out`},
 		})
 	}
 	check(t, store, []line{{"broker list", 0, "shop\thttp://127.0.0.1:1\t[^\n]*", ``}})
@@ -168,7 +168,7 @@ func TestParametersBeyondTheBounds(t *testing.T) {
 	store := newStore(t)
 	deep := `{"a":` + strings.Repeat("[", 126) + strings.Repeat("]", 126) + `}`
 	check(t, store, []line{
-		{"create --plan small --parameters " + deep, 2, ``,
+		{"create --plan small --parameters " + deep, 78, ``,
 			`osb-platform: parameters can't be sent: more than 126 arrays and objects lie within each other`},
 		{`create --plan small --parameters {"a":1e400}`, 2, ``, `osb-platform: .*: the number 1e400 is above 1.8e308`},
 		{`create --plan small --context {"a":1,"a":2}`, 2, ``,

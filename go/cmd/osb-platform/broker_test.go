@@ -35,16 +35,16 @@ plan	database	small	s-1	p-1	bindable
 plan	database	large	s-1	p-2	not bindable`, ``},
 		{"broker show other", 1, ``, `osb-platform: the broker "other" is unknown`},
 		{"broker add shop http://127.0.0.1:1 --password-file " + password, 1, ``, `.*: there is a broker shop.*`},
-		{"broker add Shop http://127.0.0.1:1 --password-file " + password, 2, ``, `.*: the name of a broker.*`},
-		{"broker add two http://192.0.2.1 --password-file " + password, 2, ``, `.*: with http:// every.*`},
-		{"broker add two http://u:pw@127.0.0.1 --password-file " + password, 2, ``, `osb-platform: .*no user.*`},
-		{"broker add two http://127.0.0.1:1", 2, ``, `osb-platform: the broker two has no password.*`},
-		{"broker add two http://127.0.0.1:1 --password-file /nowhere/p", 2, ``, `osb-platform: --password-file: .*`},
-		{"broker add two http://127.0.0.1:1 --store-password --password-file " + password, 2, ``, `.*not both`},
-		{"broker add two http://127.0.0.1:1 --store-password --key-file " + key, 2, ``, `osb-platform: set OSB_PL.*`},
+		{"broker add Shop http://127.0.0.1:1 --password-file " + password, 78, ``, `.*: the name of a broker.*`},
+		{"broker add two http://192.0.2.1 --password-file " + password, 78, ``, `.*: with http:// every.*`},
+		{"broker add two http://u:pw@127.0.0.1 --password-file " + password, 78, ``, `osb-platform: .*no user.*`},
+		{"broker add two http://127.0.0.1:1", 78, ``, `osb-platform: the broker two has no password.*`},
+		{"broker add two http://127.0.0.1:1 --password-file /nowhere/p", 78, ``, `osb-platform: --password-file: .*`},
+		{"broker add two http://127.0.0.1:1 --store-password --password-file " + password, 78, ``, `.*not both`},
+		{"broker add two http://127.0.0.1:1 --store-password --key-file " + key, 78, ``, `osb-platform: set OSB_PL.*`},
 		{"broker add two http://127.0.0.1:1/ --hold 9 --password-file " + password, 0, ``, `osb-platform: warning: .*`},
 		{"create --broker two --plan small", 1, ``, `.*has given no catalogue yet \(.*refused\): run the platform.*`},
-		{"broker set two", 2, ``, `osb-platform: give an option .*`},
+		{"broker set two", 78, ``, `osb-platform: give an option .*`},
 		{"broker set two --first-pace 0.5 --url http://127.0.0.1:2", 0, ``, `osb-platform: warning: .*refused.*`},
 		{"broker show two", 0, `name	two
 url	http://127.0.0.1:2
@@ -58,9 +58,9 @@ last reason	20[^ ]* the catalogue of two: .*refused`, ``},
 		{"broker show two", 0, `.*hold	default
 first pace	0.5
 .*`, ``},
-		{"broker set two --hold never", 2, ``, `osb-platform: .*want a number of seconds.*`},
+		{"broker set two --hold never", 78, ``, `osb-platform: .*want a number of seconds.*`},
 		{"broker set three --hold 1", 1, ``, `osb-platform: the broker "three" is unknown.*`},
-		{"create --plan small", 2, ``, `osb-platform: there are several brokers: name one of shop, two`},
+		{"create --plan small", 78, ``, `osb-platform: there are several brokers: name one of shop, two`},
 		{"create --broker two --plan small", 1, ``, `osb-platform: the broker two has given no catalogue yet.*`},
 		{"broker drop two", 0, ``, ``},
 		{"broker drop two", 1, ``, `osb-platform: the broker "two" is unknown`},
@@ -71,7 +71,7 @@ first pace	0.5
 func TestStoredPassword(t *testing.T) {
 	store, key := newStore(t), newKey(t)
 	add := []string{"--store", store, "broker", "add", "two", "http://127.0.0.1:1", "--store-password"}
-	if got := callWith(t, "hunter2\n", add...); got.status != 2 || !strings.Contains(got.failed, "--key-file FILE") {
+	if got := callWith(t, "hunter2\n", add...); got.status != 78 || !strings.Contains(got.failed, "--key-file FILE") {
 		t.Errorf("without a key: %+v", got)
 	}
 	if got := callWith(t, "hunter2\n", append(add, "--key-file", key)...); got.status != 0 {
@@ -83,7 +83,7 @@ func TestStoredPassword(t *testing.T) {
 	}
 	other := newKey(t)
 	got = callWith(t, "hunter3\n", "--store", store, "broker", "set", "two", "--store-password", "--key-file", other)
-	if got.status != 2 || !strings.Contains(got.failed, "another key") {
+	if got.status != 78 || !strings.Contains(got.failed, "another key") {
 		t.Errorf("with another key: %+v", got)
 	}
 	got = callWith(t, "hunter3\n", "--store", store, "broker", "set", "two", "--store-password", "--key-file", other,
@@ -102,14 +102,14 @@ func TestRejectedBrokerLeavesNoStore(t *testing.T) {
 	folder := filepath.Join(t.TempDir(), "state")
 	store := filepath.Join(folder, "store")
 	for _, it := range []line{
-		{"one http://127.0.0.1:1 --store-password", 2, ``, `.*--key-file FILE.*`},
-		{"one http://127.0.0.1:1 --store-password --key-file /nowhere/key", 2, ``, `.*/nowhere/key.*`},
-		{"one http://127.0.0.1:1 --store-password --key-file " + key, 2, ``, `.*set OSB_PLATFORM_PASSWORD.*`},
-		{"one http://127.0.0.1:1", 2, ``, `.*has no password.*`},
-		{"one http://127.0.0.1:1 --password-file /nowhere/password", 2, ``, `.*/nowhere/password.*`},
-		{"one http://127.0.0.1:1 --tls-ca /nowhere/ca --password-file " + password, 2, ``, `.*/nowhere/ca.*`},
-		{"One http://127.0.0.1:1 --password-file " + password, 2, ``, `.*the name of a broker.*`},
-		{"one http://192.0.2.1 --password-file " + password, 2, ``, `.*with http://.*`},
+		{"one http://127.0.0.1:1 --store-password", 78, ``, `.*--key-file FILE.*`},
+		{"one http://127.0.0.1:1 --store-password --key-file /nowhere/key", 78, ``, `.*/nowhere/key.*`},
+		{"one http://127.0.0.1:1 --store-password --key-file " + key, 78, ``, `.*set OSB_PLATFORM_PASSWORD.*`},
+		{"one http://127.0.0.1:1", 78, ``, `.*has no password.*`},
+		{"one http://127.0.0.1:1 --password-file /nowhere/password", 78, ``, `.*/nowhere/password.*`},
+		{"one http://127.0.0.1:1 --tls-ca /nowhere/ca --password-file " + password, 78, ``, `.*/nowhere/ca.*`},
+		{"One http://127.0.0.1:1 --password-file " + password, 78, ``, `.*the name of a broker.*`},
+		{"one http://192.0.2.1 --password-file " + password, 78, ``, `.*with http://.*`},
 	} {
 		it.arguments = "broker add " + it.arguments
 		check(t, store, []line{it})
@@ -138,7 +138,7 @@ func TestAddOverTLS(t *testing.T) {
 	check(t, store, []line{
 		{"broker add one" + add, 0, ``, `osb-platform: warning: .*certificate.*`},
 		{"broker add two" + add + " --tls-ca " + ca, 0, ``, ``},
-		{"broker add three" + add + " --tls-ca /nowhere/ca", 2, ``, `osb-platform: .*/nowhere/ca.*`},
+		{"broker add three" + add + " --tls-ca /nowhere/ca", 78, ``, `osb-platform: .*/nowhere/ca.*`},
 		{"broker show three", 1, ``, `osb-platform: the broker "three" is unknown`},
 		{"broker set one --url " + server.URL + "/x --tls-ca " + ca, 0, ``, ``},
 		{"broker show one", 0, ".*\nplan\tdatabase\tsmall\t.*", ``},

@@ -18,7 +18,7 @@ import (
 func TestUnknownCrashPoint(t *testing.T) {
 	command := osbPlatform([]string{"OSB_CRASH_AT=claim-nxt"}, "list", "--store", filepath.Join(t.TempDir(), "store"))
 	out, _ := command.CombinedOutput()
-	if command.ProcessState.ExitCode() != 2 || !strings.Contains(string(out), strings.Join(platform.Points, ", ")) {
+	if command.ProcessState.ExitCode() != 78 || !strings.Contains(string(out), strings.Join(platform.Points, ", ")) {
 		t.Errorf("status %d: %s", command.ProcessState.ExitCode(), out)
 	}
 }

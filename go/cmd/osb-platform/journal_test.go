@@ -116,7 +116,7 @@ func TestJournalTaken(t *testing.T) {
 	start(t, store, ownPassword, "--broker", s.url, "--worker", "one", "--journal", file)
 	command := osbPlatform(ownPassword, "run", "--store", store, "--worker", "two", "--journal", file)
 	out, _ := command.CombinedOutput()
-	if command.ProcessState.ExitCode() != 2 || !strings.Contains(string(out), "--journal: "+file+": another process writes") {
+	if command.ProcessState.ExitCode() != 78 || !strings.Contains(string(out), "--journal: "+file+": another process writes") {
 		t.Errorf("status %d: %s", command.ProcessState.ExitCode(), out)
 	}
 }

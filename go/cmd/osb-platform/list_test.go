@@ -131,7 +131,7 @@ func TestListWithoutReader(t *testing.T) {
 func TestMissingStore(t *testing.T) {
 	for _, arguments := range ofExistingStores(t) {
 		store := filepath.Join(t.TempDir(), "folder", "store")
-		check(t, store, []line{{arguments, 2, ``, noStore}})
+		check(t, store, []line{{arguments, 78, ``, noStore}})
 		if _, err := os.Stat(filepath.Dir(store)); !os.IsNotExist(err) {
 			t.Errorf("%s: there is a folder for it now: %v", arguments, err)
 		}
@@ -157,7 +157,7 @@ func TestEmptyFile(t *testing.T) {
 	store := filepath.Join(t.TempDir(), "store")
 	write(t, store, "")
 	for _, arguments := range ofExistingStores(t) {
-		check(t, store, []line{{arguments, 2, ``, noStore}})
+		check(t, store, []line{{arguments, 78, ``, noStore}})
 	}
 	if about, err := os.Stat(store); err != nil || about.Size() != 0 {
 		t.Errorf("the file: %v, %v", about, err)

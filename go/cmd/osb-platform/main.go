@@ -30,10 +30,11 @@ environment:
                          must not have a password
 
 exit status: 0 done; 1 rejected: an id or a broker is unknown, used already, or in a state
-that doesn't allow it; 2 change something first: an argument, a file, a password or a right;
-3 --wait: it has ended in another state than you asked for; 4 --wait: the wait timed out or was
-interrupted, and the creation or the deletion goes on; 75 the store isn't available, its disk is
-full, or another worker has the name, so try again; 70 any other error`
+that doesn't allow it; 2 the command line can't be parsed (78 if systemd has started the
+program); 3 --wait: it has ended in another state than you asked for; 4 --wait: the wait timed
+out or was interrupted, and the creation or the deletion goes on; 75 the store isn't available,
+its disk is full, or another worker has the name, so try again; 78 change something first: an
+option, a file, a password or a right; 70 any other error`
 
 func rootCommand(a *app) *cobra.Command {
 	root := &cobra.Command{

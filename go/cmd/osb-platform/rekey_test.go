@@ -42,15 +42,15 @@ func TestRekey(t *testing.T) {
 	const credentials = `{"credentials":{"folder":".*","token":".*"}}`
 	rekey := "rekey --key-file " + key + " --new-key-file " + other
 	check(t, store, []line{
-		{"rekey --key-file " + key, 2, ``, `osb-platform: --new-key-file is missing`},
-		{"rekey --new-key-file " + other, 2, ``, `osb-platform: name the file with the present key: .*`},
-		{"rekey --key-file " + key + " --new-key-file " + key, 2, ``, `osb-platform: .* the same key as --key-file.*`},
-		{"rekey --key-file " + key + " --new-key-file /nowhere", 2, ``, `osb-platform: the key: .*/nowhere.*`},
-		{"rekey --key-file " + wrong + " --new-key-file " + other, 2, ``, `osb-platform: .*used with another key: .*`},
+		{"rekey --key-file " + key, 78, ``, `osb-platform: --new-key-file is missing`},
+		{"rekey --new-key-file " + other, 78, ``, `osb-platform: name the file with the present key: .*`},
+		{"rekey --key-file " + key + " --new-key-file " + key, 78, ``, `osb-platform: .* the same key as --key-file.*`},
+		{"rekey --key-file " + key + " --new-key-file /nowhere", 78, ``, `osb-platform: the key: .*/nowhere.*`},
+		{"rekey --key-file " + wrong + " --new-key-file " + other, 78, ``, `osb-platform: .*used with another key: .*`},
 		{"credentials one/1 --key-file " + key, 0, credentials, ``},
 		{rekey, 0, `encrypted again: the credentials of 3 bindings, the passwords of 1 broker`, ``},
 		{rekey, 0, `encrypted again: the credentials of 0 bindings, the passwords of 0 brokers`, ``},
-		{"credentials one/1 --key-file " + key, 2, ``, `osb-platform: the store was used with another key.*`},
+		{"credentials one/1 --key-file " + key, 78, ``, `osb-platform: the store was used with another key.*`},
 		{"credentials one/1 --key-file " + other, 0, credentials, ``},
 		{"credentials one/3 --key-file " + other, 0, credentials, ``},
 	})

@@ -17,9 +17,9 @@ func TestKilledRekey(t *testing.T) {
 		wantKilled(t, point, osbPlatform([]string{"OSB_CRASH_AT=" + point}, arguments...))
 		const credentials = `{"credentials":{"folder":".*","token":".*"}}`
 		check(t, store, []line{
-			{"credentials one/1 --key-file " + key, 2, ``, `osb-platform: the key of the store is being replaced: .*`},
-			{"credentials one/1 --key-file " + other, 2, ``, `osb-platform: the key of the store is being replaced: .*`},
-			{"run --once --key-file " + key, 2, ``, `.*osb-platform: the key of the store is being replaced: .*`},
+			{"credentials one/1 --key-file " + key, 78, ``, `osb-platform: the key of the store is being replaced: .*`},
+			{"credentials one/1 --key-file " + other, 78, ``, `osb-platform: the key of the store is being replaced: .*`},
+			{"run --once --key-file " + key, 78, ``, `.*osb-platform: the key of the store is being replaced: .*`},
 			{"credentials one/1 --key-file " + other + " --key-file " + key, 0, credentials, ``},
 			{"credentials one/3 --key-file " + other + " --key-file " + key, 0, credentials, ``},
 			{"run --once --key-file " + other + " --key-file " + key, 0, ``, `.*"broker_reached".*`},

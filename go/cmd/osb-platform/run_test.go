@@ -128,10 +128,10 @@ func TestWholeWay(t *testing.T) {
 	check(t, store, []line{
 		{"create --plan by-worker --id one --wait=60", 0, `one`, `ordered one`},
 		{"bind one --id two --wait=60 --key-file " + key, 0, `one/two`, `ordered one/two`},
-		{"credentials one/two", 2, ``, `osb-platform: name the file with the key .*--key-file FILE`},
+		{"credentials one/two", 78, ``, `osb-platform: name the file with the key .*--key-file FILE`},
 		{"credentials one/two --key-file " + key, 0, `{"credentials":{"folder":".*","token":".*"}}`, ``},
 		{"credentials one/two --to " + secret + " --key-file " + key, 0, ``, ``},
-		{"credentials one/two --to " + secret + " --key-file " + key, 2, ``, `osb-platform: .* exists already.*`},
+		{"credentials one/two --to " + secret + " --key-file " + key, 78, ``, `osb-platform: .* exists already.*`},
 		{"list --bindings", 0, "one\tready\t.*\none/two\tready\t.*|one/two\tready\t.*\none\tready\t.*", ``},
 		{"show one/two", 0, ".*\nlast reason\t" + since + " bind 20.*\nwas\t" + since + " ordered\n.*", ``},
 		{"remove one", 1, ``, `osb-platform: the instance one has bindings: .*--bindings`},
@@ -317,7 +317,7 @@ func TestWorkers(t *testing.T) {
 		says      string
 	}{
 		{[]string{"--broker", s.url, "--once"}, 0, `"broker_reached"`},
-		{[]string{"--broker", s.url + "/elsewhere", "--once"}, 2, "--moved"},
+		{[]string{"--broker", s.url + "/elsewhere", "--once"}, 78, "--moved"},
 		{[]string{"--broker", "http://127.0.0.1:1", "--moved", "--once", "--seconds", "0.3"}, 1, "refused\n"},
 		{[]string{"--broker", s.url, "--moved", "--late-for", "0", "--pace", "0.5", "--threads", "2", "--once"}, 0, ""},
 	} {

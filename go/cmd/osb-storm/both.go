@@ -45,7 +45,8 @@ Without them, both programs are looked for beside osb-storm.
 
 exit status: 0 nothing was lost; 1 something was lost, a record was false, something disagrees, not everything
 converged, an answer broke a MUST, a program ended by itself, not everything was tried, or a signal ended the run; 2
-change something first: an argument, a file, a program or a server; 70 any other error`
+the command line can't be parsed; 78 change something first: an option, a file, a program or a server; 70 any other
+error`
 
 func bothCommand(o *outcome) *cobra.Command {
 	s := &bothSettings{}

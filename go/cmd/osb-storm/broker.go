@@ -42,9 +42,9 @@ environment:
 
 exit status: 0 nothing was lost; 1 something was lost, a record was false, an answer broke a MUST, not everything
 converged, something couldn't be asked for, no request had a fault though --fault-percent or --faults asks for some, or
-a signal ended the run; 2 change something first: an argument, a file, a name, a plan that can't be created without
-faults, or a command that doesn't list what exists; 3 an instance or a binding could not be deleted, and standard output
-lists it; 69 the broker can't be reached; 70 any other error`
+a signal ended the run; 2 the command line can't be parsed; 3 an instance or a binding could not be deleted, and standard
+output lists it; 69 the broker can't be reached; 78 change something first: an option, a file, a name, a plan that can't
+be created without faults, or a command that doesn't list what exists; 70 any other error`
 
 func brokerCommand(o *outcome) *cobra.Command {
 	s := &brokerSettings{}

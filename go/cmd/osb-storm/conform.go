@@ -35,8 +35,9 @@ environment:
   OSB_BROKER_PASSWORD      the password, if --password-file isn't given
 
 exit status: 0 every MUST passed that was run; 1 a MUST failed, or the run ended before all cases
-were tried; 2 change something first: an argument, a file or a name; 3 an instance or a binding could
-not be deleted, and standard output lists it; 69 the broker can't be reached; 70 any other error`
+were tried; 2 the command line can't be parsed; 3 an instance or a binding could not be deleted, and
+standard output lists it; 69 the broker can't be reached; 78 change something first: an option, a file
+or a name; 70 any other error`
 
 func conformCommand(o *outcome) *cobra.Command {
 	s := &conformSettings{}

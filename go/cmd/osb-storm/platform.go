@@ -47,7 +47,8 @@ environment:
 
 exit status: 0 nothing was abandoned; 1 something was abandoned, a record was false, not everything converged, a
 request broke a MUST, no request came, no request had a fault though --fault-percent or --faults asks for some, or a
-signal ended the run; 2 change something first: an argument or a file; 70 any other error, such as a command that fails`
+signal ended the run; 2 the command line can't be parsed; 78 change something first: an option or a file; 70 any other
+error, such as a command that fails`
 
 func platformCommand(o *outcome) *cobra.Command {
 	s := &platformSettings{}
