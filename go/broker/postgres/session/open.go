@@ -10,7 +10,10 @@ import (
 	"fmt"
 	"net/url"
 	"os"
+	"regexp"
+	"sort"
 	"strconv"
+	"strings"
 	"time"
 
 	"github.com/lib/pq"
@@ -25,8 +28,8 @@ type Options struct {
 	Lock, Statement, Idle time.Duration
 	// Database, User and Password take the place of those of the URL, unless they are empty.
 	Database, User, Password string
-	// Settings are further settings of the sessions, such as search_path. They win over those of the database and of the
-	// role.
+	// Settings are further settings of the sessions, such as search_path, which may be empty. They win over those of the
+	// database, of the role and of the URL.
 	Settings map[string]string
 }
 
@@ -79,24 +82,47 @@ func withSettings(address string, options Options) (string, error) {
 			asked.Set(name, value)
 		}
 	}
-	for name, value := range map[string]string{
+	for name, value := range fixed(options) {
+		asked.Set(name, value)
+	}
+	if len(options.Settings) > 0 {
+		asked.Set("options", switches(first(asked.Get("options"), os.Getenv("PGOPTIONS")), options.Settings))
+	}
+	for name := range options.Settings {
+		asked.Del(name) // it would win over the switch
+	}
+	parsed.RawQuery = replace(parsed, asked, options).Encode()
+	return parsed.String(), nil
+}
+
+// fixed are the settings of all sessions.
+func fixed(options Options) map[string]string {
+	return map[string]string{
 		"lock_timeout":                        milliseconds(options.Lock),
 		"statement_timeout":                   milliseconds(options.Statement),
 		"idle_in_transaction_session_timeout": milliseconds(options.Idle),
+		"client_min_messages":                 "warning", // Transaction has to see a warning to a COMMIT
 		"tcp_keepalives_idle":                 "30",
 		"tcp_keepalives_interval":             "10",
 		"tcp_keepalives_count":                "3",
 		"tcp_user_timeout":                    "60000", // so a lost machine gives back its locks within a minute
 		"binary_parameters":                   "yes",   // a statement with parameters is one round trip
-	} {
-		asked.Set(name, value)
 	}
-	for name, value := range options.Settings {
-		asked.Set(name, value)
-	}
-	parsed.RawQuery = replace(parsed, asked, options).Encode()
-	return parsed.String(), nil
 }
+
+// switches adds settings to the switches with which the server starts a session. Other than a parameter of a URL, a
+// switch may be empty.
+func switches(before string, settings map[string]string) string {
+	words := []string{}
+	for name, value := range settings {
+		words = append(words, "-c "+name+"="+spaces.ReplaceAllString(value, `\$0`))
+	}
+	sort.Strings(words)
+	return strings.TrimSpace(before + " " + strings.Join(words, " "))
+}
+
+// spaces are what the server splits switches at, and what it escapes that with.
+var spaces = regexp.MustCompile(`[\s\v\\]`)
 
 // replace puts another database, user and password into the URL.
 func replace(parsed *url.URL, asked url.Values, options Options) url.Values {

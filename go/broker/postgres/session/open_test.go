@@ -50,6 +50,38 @@ func TestSettings(t *testing.T) {
 	}
 }
 
+// Settings win over those of the database and of the URL, also if they are empty or have spaces, and beside switches of
+// the environment.
+func TestSettingsThatAreEmptyOrHaveSpaces(t *testing.T) {
+	url := pgtest.URL(t)
+	pgtest.Exec(t, pgtest.DB(t, url), "DROP DATABASE IF EXISTS osb_session_settings",
+		"CREATE DATABASE osb_session_settings TEMPLATE template0",
+		"ALTER DATABASE osb_session_settings SET local_preload_libraries = 'garbage'",
+		"ALTER DATABASE osb_session_settings SET default_transaction_isolation = 'serializable'",
+		"ALTER DATABASE osb_session_settings SET client_min_messages = 'error'")
+	t.Cleanup(func() { pgtest.Exec(t, pgtest.DB(t, url), "DROP DATABASE osb_session_settings WITH (FORCE)") })
+	t.Setenv("PGOPTIONS", "-c geqo=off")
+	want := map[string]string{
+		"local_preload_libraries": "", "default_transaction_isolation": "repeatable read", "search_path": `"a \b", "c"`,
+		"default_tablespace": "", "application_name": "of two words",
+	}
+	db, err := session.Open(pgtest.With(t, url, "search_path", "public"), session.Options{
+		Most: 1, Lock: time.Second, Statement: time.Second, Idle: time.Minute, Database: "osb_session_settings",
+		Settings: want,
+	})
+	if err != nil {
+		t.Fatal(err)
+	}
+	defer db.Close()
+	want["geqo"], want["client_min_messages"] = "off", "warning"
+	for name, want := range want {
+		var got string
+		if err := db.QueryRow("SHOW " + name).Scan(&got); err != nil || got != want {
+			t.Errorf("%s: %q, %v, want %q", name, got, err, want)
+		}
+	}
+}
+
 // A session that has ended needs no goodbye: whoever closes it has lost nothing.
 func TestCloseAfterTheSessionHasEnded(t *testing.T) {
 	url := pgtest.URL(t)

@@ -114,7 +114,7 @@ func TestCommits(t *testing.T) {
 		{"a COMMIT with a warning", "osb_session_warns", "RAISE WARNING 'no standby'", true, 1},
 	} {
 		t.Run(it.name, func(t *testing.T) {
-			url := table(t, it.schema)
+			url := pgtest.With(t, table(t, it.schema), "client_min_messages", "error") // it hides no warning
 			pgtest.Exec(t, pgtest.DB(t, url),
 				"CREATE FUNCTION f() RETURNS trigger LANGUAGE plpgsql AS $$ BEGIN "+it.does+"; RETURN NULL; END $$",
 				"CREATE CONSTRAINT TRIGGER late AFTER INSERT ON t DEFERRABLE INITIALLY DEFERRED "+
