@@ -38,9 +38,10 @@ func TestStateIsPrivate(t *testing.T) {
 var (
 	nameOfTest   = regexp.MustCompile(`\bTest[A-Z]\w*`)
 	functionTest = regexp.MustCompile(`(?m)^func (Test[A-Z]\w*)\(`)
+	tableOfTests = regexp.MustCompile(`(?m)^\|.*\| test \|\n\|[-|]+\|\n((?:\|.*\n)+)`)
 )
 
-// The tests that SECURITY.md names exist.
+// The tests that SECURITY.md names exist, and each attack of its tables has one.
 func TestSecurityNamesTests(t *testing.T) {
 	document, err := os.ReadFile("../../../SECURITY.md")
 	if err != nil {
@@ -68,5 +69,13 @@ func TestSecurityNamesTests(t *testing.T) {
 	}
 	if len(named) < 40 {
 		t.Errorf("only %d tests are named", len(named))
+	}
+	for _, table := range tableOfTests.FindAllStringSubmatch(string(document), -1) {
+		for _, row := range strings.Split(strings.TrimSpace(table[1]), "\n") {
+			cells := strings.Split(row, " | ")
+			if !nameOfTest.MatchString(cells[len(cells)-1]) {
+				t.Errorf("this attack has no test: %s", row)
+			}
+		}
 	}
 }
