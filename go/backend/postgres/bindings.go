@@ -99,6 +99,9 @@ func (d *Databases) removeBinding(ctx context.Context, conn *sql.Conn, key broke
 	if !own.hasRole {
 		return nil
 	}
+	if err := rejoin(ctx, conn, own.name, of.name); err != nil {
+		return err
+	}
 	return persist(func() error {
 		if err := endSessions(ctx, conn, "", []string{own.name}, 0); err != nil {
 			return err

@@ -47,6 +47,9 @@ func (d *Databases) remove(ctx context.Context, conn *sql.Conn, f found) error {
 		return err
 	}
 	roles := append(bindings, f.name)
+	if err := rejoin(ctx, conn, roles...); err != nil {
+		return err
+	}
 	err = persist(func() error { return d.dropDatabase(ctx, conn, f, roles) })
 	if err != nil {
 		return err
@@ -63,19 +66,24 @@ func (d *Databases) remove(ctx context.Context, conn *sql.Conn, f found) error {
 
 // bindingRoles are the roles of the bindings of an instance. There are none, unless somebody has created them by hand.
 func bindingRoles(ctx context.Context, conn *sql.Conn, name string) (roles []string, err error) {
-	rows, err := conn.QueryContext(ctx, "SELECT rolname FROM pg_roles WHERE starts_with(rolname, $1)", name+"_")
+	return column(ctx, conn, "SELECT rolname FROM pg_roles WHERE starts_with(rolname, $1)", name+"_")
+}
+
+// column returns the only column of a query.
+func column(ctx context.Context, conn *sql.Conn, query string, arguments ...any) (found []string, err error) {
+	rows, err := conn.QueryContext(ctx, query, arguments...)
 	if err != nil {
 		return nil, err
 	}
 	defer rows.Close()
 	for rows.Next() {
-		var role string
-		if err := rows.Scan(&role); err != nil {
+		var it string
+		if err := rows.Scan(&it); err != nil {
 			return nil, err
 		}
-		roles = append(roles, role)
+		found = append(found, it)
 	}
-	return roles, rows.Err()
+	return found, rows.Err()
 }
 
 // persist calls again while somebody is in the way: a customer may hold a lock, or change its own role or database at

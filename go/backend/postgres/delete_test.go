@@ -106,6 +106,13 @@ func TestWhatAnotherCustomerHolds(t *testing.T) {
 		{"in a transaction", []string{"BEGIN", "GRANT SELECT ON t TO $name"}},
 		{"and its settings are in the way", []string{"GRANT SELECT ON t TO $name",
 			"ALTER DATABASE $other SET role = '$other'", "ALTER DATABASE $other SET default_transaction_read_only = on"}},
+		{"and its settings have the broker wait", []string{"GRANT SELECT ON t TO $name",
+			"ALTER DATABASE $other SET default_transaction_isolation = serializable",
+			"ALTER DATABASE $other SET default_transaction_read_only = on",
+			"ALTER DATABASE $other SET default_transaction_deferrable = on",
+			"BEGIN ISOLATION LEVEL SERIALIZABLE", "INSERT INTO t VALUES (1)"}},
+		{"and takes the right to connect away", []string{"GRANT SELECT ON t TO $name",
+			"REVOKE ALL ON DATABASE $other FROM $other"}},
 		{"and lets nobody in", []string{"GRANT SELECT ON t TO $name", "ALTER DATABASE $other CONNECTION LIMIT 0"}},
 		{"and changes it in a transaction", []string{"GRANT SELECT ON t TO $name", "BEGIN",
 			"ALTER TABLE t ADD COLUMN y integer"}},
@@ -123,6 +130,99 @@ func TestWhatAnotherCustomerHolds(t *testing.T) {
 			r.wantNothing(of.request.Key)
 			wantThere(t, d, other, broker.Whole)
 		})
+	}
+}
+
+// A customer that shuts its database again and again keeps nothing of another one. Its sessions are in a second database
+// of its own, so that it gets in again once they have ended.
+func TestACustomerThatShutsItsDatabase(t *testing.T) {
+	r := newRig(t)
+	d := r.open()
+	of, shut, second := created(t, d), created(t, d), created(t, d)
+	name, inside := postgres.NameOf(shut.request.Key), postgres.NameOf(second.request.Key)
+	pgtest.Exec(t, r.customer(shut.request.Key), "CREATE TABLE t (x integer)",
+		"GRANT SELECT ON t TO "+postgres.NameOf(of.request.Key))
+	pgtest.Exec(t, r.customer(second.request.Key), "GRANT CONNECT ON DATABASE "+inside+" TO "+name)
+	ctx, cancel := context.WithCancel(context.Background())
+	var all sync.WaitGroup
+	defer all.Wait()
+	defer cancel()
+	begun := make(chan struct{}, 1)
+	for _, statement := range named([]string{
+		"ALTER DATABASE $name CONNECTION LIMIT 0", "ALTER DATABASE $name CONNECTION LIMIT 9",
+		"ALTER DATABASE $name ALLOW_CONNECTIONS false", "REVOKE ALL ON DATABASE $name FROM $name",
+		"ALTER DATABASE $name SET local_preload_libraries = 'garbage'",
+	}, shut.request.Key) {
+		db := r.login(name, postgres.PasswordOf(secret, shut.request.Key), inside)
+		statement := statement
+		all.Add(1)
+		go func() {
+			defer all.Done()
+			for ctx.Err() == nil {
+				if _, err := db.ExecContext(ctx, statement); err == nil && len(begun) == 0 {
+					begun <- struct{}{}
+				}
+			}
+		}()
+	}
+	<-begun
+	if err := d.Delete(of.ctx, of.request); err != nil {
+		t.Errorf("Delete: %v", err)
+	}
+	r.wantNothing(of.request.Key)
+}
+
+// Roles of which the broker's role isn't a member any more keep nothing. On PostgreSQL 14 a role that has logged in can
+// bring that about.
+func TestRolesThatAreLeft(t *testing.T) {
+	r := newRig(t)
+	d := r.open()
+	of, other := created(t, d), created(t, d)
+	bind, one := bound(t, d, other.request.Key)
+	unbound, two := bound(t, d, other.request.Key)
+	name := postgres.NameOf(other.request.Key)
+	pgtest.Exec(t, r.customer(other.request.Key), "CREATE TABLE t (x integer)",
+		"GRANT SELECT ON t TO "+postgres.NameOf(of.request.Key))
+	for _, binding := range []credentials{one, two} {
+		hold(t, r.login(binding.Username, binding.Password, binding.Database), "SET ROLE NONE",
+			"CREATE TABLE "+binding.Username+" (x integer)")
+	}
+	leave := "REVOKE " + name + ", " + one.Username + ", " + two.Username + " FROM " + r.role
+	for _, it := range []struct {
+		name string
+		call func(context.Context, broker.Request) error
+		of   locked
+	}{{"Delete of another", d.Delete, of}, {"DeleteBinding", d.DeleteBinding, bind}, {"Delete", d.Delete, other}} {
+		pgtest.Exec(t, r.admin, leave)
+		if err := it.call(it.of.ctx, it.of.request); err != nil {
+			t.Errorf("%s: %v", it.name, err)
+		}
+		r.wantNothing(it.of.request.Key)
+		leave = "REVOKE " + name + ", " + two.Username + " FROM " + r.role
+	}
+	wantThere(t, d, unbound, broker.None)
+}
+
+// Settings of a database that are so long that no session is opened there in time are reset.
+func TestLongSettings(t *testing.T) {
+	r := newRig(t)
+	d := r.open()
+	it := created(t, d)
+	name := postgres.NameOf(it.request.Key)
+	pgtest.Exec(t, r.customer(it.request.Key), "ALTER DATABASE "+name+" SET application_name = 'short'")
+	wantReset(t, d, it, false)
+	pgtest.Exec(t, r.customer(it.request.Key),
+		"ALTER DATABASE "+name+" SET search_path = '"+strings.Repeat("garbage, ", 1<<18)+"x'")
+	wantReset(t, d, it, true)
+	if got := r.settingsOf(name); got != "" {
+		t.Errorf("%d bytes of settings are left", len(got))
+	}
+}
+
+func wantReset(t *testing.T, d *postgres.Databases, it locked, want bool) {
+	t.Helper()
+	if got, err := d.ForgetLongSettings(it.ctx, it.request); err != nil || got != want {
+		t.Errorf("the settings were reset: %t, %v, want %t", got, err, want)
 	}
 }
 

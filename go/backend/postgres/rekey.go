@@ -72,7 +72,10 @@ func (r rekeying) all(tx *sql.Tx) (left []string, err error) {
 	for _, role := range roles {
 		isOurs := role.label == labelOf(kept.store)
 		if role.label == "" && kept.hasUnlabelled {
-			if isOurs = r.opens(role.key); !isOurs {
+			if isOurs, err = r.opens(tx, role.key); err != nil {
+				return nil, err
+			}
+			if !isOurs {
 				left = append(left, NameOf(role.key))
 			}
 		}
@@ -113,17 +116,22 @@ func (r rekeying) roles(tx *sql.Tx) (found []labelled, err error) {
 }
 
 // opens is whether the role logs in with the password of the old key.
-func (r rekeying) opens(key broker.Key) bool {
+func (r rekeying) opens(tx *sql.Tx, key broker.Key) (bool, error) {
+	own, err := ownParameters(r.ctx, tx)
+	if err != nil {
+		return false, err
+	}
+	name := NameOf(key)
+	own["session_authorization"], own["role"] = name, "none"
 	db, err := session.Open(r.url, session.Options{
 		Most: 1, Lock: lockWait, Statement: statement, Idle: idle,
-		Database: NameOf(key), User: NameOf(key), Password: PasswordOf(r.old, key),
-		Settings: map[string]string{"synchronous_commit": "on"},
+		Database: name, User: name, Password: PasswordOf(r.old, key), Settings: own,
 	})
 	if err != nil {
-		return false
+		return false, err
 	}
 	defer db.Close()
-	return db.PingContext(r.ctx) == nil
+	return db.PingContext(r.ctx) == nil, nil
 }
 
 // change gives a role its new password, and its label. A customer that changes its own password in an open transaction

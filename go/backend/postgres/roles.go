@@ -5,6 +5,8 @@ import (
 	"database/sql"
 	"fmt"
 
+	"github.com/lib/pq"
+
 	"pippinterm/broker/postgres/session"
 )
 
@@ -30,6 +32,27 @@ func (d *Databases) dropRole(ctx context.Context, conn *sql.Conn, role, heir str
 	})
 }
 
+// The store's own roles that the broker's role isn't a member of.
+const selectLeft = `
+SELECT rolname FROM pg_roles WHERE rolname = ANY ($1) AND NOT pg_has_role(oid, 'USAGE')
+    AND shobj_description(oid, 'pg_authid') = (SELECT $2::text || store FROM osb_owner)
+`
+
+// rejoin makes the broker's role a member of roles again, as it became when it created them. On PostgreSQL 14 a role that
+// has logged in can undo that.
+func rejoin(ctx context.Context, conn *sql.Conn, roles ...string) error {
+	left, err := column(ctx, conn, selectLeft, pq.Array(roles), labelOf(""))
+	if err != nil {
+		return err
+	}
+	for _, role := range left {
+		if err := exec(ctx, conn, "GRANT "+quote(role)+" TO CURRENT_USER"); err != nil {
+			return err
+		}
+	}
+	return nil
+}
+
 // A role can't be dropped while it owns something or has a right in any database. That may be the database of another
 // customer, who can grant something to every role.
 const selectDatabasesWith = `
@@ -39,36 +62,28 @@ WHERE s.refclassid = 'pg_authid'::regclass AND s.refobjid = (SELECT oid FROM pg_
 `
 
 func databasesWith(ctx context.Context, conn *sql.Conn, role string) (names []string, err error) {
-	rows, err := conn.QueryContext(ctx, selectDatabasesWith, role)
-	if err != nil {
-		return nil, err
-	}
-	defer rows.Close()
-	for rows.Next() {
-		var name string
-		if err := rows.Scan(&name); err != nil {
-			return nil, err
-		}
-		names = append(names, name)
-	}
-	return names, rows.Err()
+	return column(ctx, conn, selectDatabasesWith, role)
 }
 
-// notAccepting is the code of the error that a database doesn't accept connections (object_not_in_prerequisite_state).
-const notAccepting = "55000"
-
 // enterAndDisown is disown, also if another customer is in the way: it holds locks, or it lets nobody into its own
-// database, or has taken all connections. In the database of the instance itself (inherit), other bindings may work.
+// database. In the database of the instance itself (inherit), other bindings may work.
 func (d *Databases) enterAndDisown(ctx context.Context, conn *sql.Conn, database, role string, inherit bool) error {
+	if err := rejoin(ctx, conn, database); err != nil {
+		return err
+	}
 	for n := 0; ; n++ {
-		failed := d.disown(ctx, database, role, inherit)
+		db, failed := d.enter(ctx, conn, database)
+		if failed == nil {
+			failed = disown(ctx, db, database, role, inherit)
+			_ = session.Close(db)
+		}
 		if failed == nil || n == tries {
 			return failed
 		}
 		hasChanged, err := false, error(nil)
 		switch {
-		case session.IsCode(failed, session.TooManyConnections, notAccepting):
-			hasChanged, err = reopen(ctx, conn, database, n > 0)
+		case isNotEntered(failed):
+			hasChanged, err = forgetLongSettings(ctx, conn, database)
 		case isInTheWay(failed):
 			hasChanged, err = endAround(ctx, conn, database, inherit)
 		}
@@ -78,61 +93,17 @@ func (d *Databases) enterAndDisown(ctx context.Context, conn *sql.Conn, database
 	}
 }
 
-const selectUnlimited = "SELECT datallowconn AND datconnlimit = -1 FROM pg_database WHERE datname = $1"
-
-// reopen lifts the limit of a database, which its owner can do too: no role can lift its own limit. If the owner holds
-// that up, or has closed the database again, sessions end. reopen returns whether there was a limit.
-func reopen(ctx context.Context, conn *sql.Conn, database string, isAgain bool) (wasClosed bool, err error) {
-	var isUnlimited bool
-	if err := conn.QueryRowContext(ctx, selectUnlimited, database).Scan(&isUnlimited); err != nil || isUnlimited {
-		return false, err
-	}
-	err = exec(ctx, conn, "ALTER DATABASE "+quote(database)+" ALLOW_CONNECTIONS true CONNECTION LIMIT -1")
-	if err != nil && !isInTheWay(err) {
-		return false, err
-	}
-	if err != nil || isAgain {
-		_, err = endAround(ctx, conn, database, false)
-	}
-	return true, err
-}
-
-// The sessions in a database, and those of its roles in any database. With $2, only the sessions of other roles.
-const selectEndAround = `
-SELECT count(pg_terminate_backend(pid)) FROM pg_stat_activity
-WHERE backend_type = 'client backend' AND pg_has_role(usesysid, 'USAGE') AND usename <> current_user
-    AND CASE WHEN usename = $1::text OR starts_with(usename, $1::text || '_') THEN NOT $2 ELSE datname = $1::text END
-`
-
-// endAround ends sessions that may be in the way, and returns whether there were any.
-func endAround(ctx context.Context, conn *sql.Conn, database string, onlyStrangers bool) (hasEnded bool, err error) {
-	var count int
-	err = conn.QueryRowContext(ctx, selectEndAround, database, onlyStrangers).Scan(&count)
-	return count > 0, err
-}
-
-// disown takes away what a role owns, and its rights, in another database. In the database of another customer, what
-// that customer has made to depend on it goes too: otherwise the role could never be dropped. One transaction takes all
-// away, unless that needs too many locks.
-//
-// The owner of a database can change the defaults of all sessions there with ALTER DATABASE .. SET. The session's own
-// settings win over those, so that no function of the customer runs with the rights of the broker.
-func (d *Databases) disown(ctx context.Context, database, role string, inherit bool) error {
-	db, err := session.Open(d.url, session.Options{
-		Most: 1, Lock: lockWait, Statement: statement, Idle: idle, Database: database,
-		Settings: map[string]string{"search_path": "pg_catalog", "role": "none"},
-	})
-	if err != nil {
-		return err
-	}
-	defer db.Close()
+// disown takes away what a role owns, and its rights, in the database of a session. In the database of another customer,
+// what that customer has made to depend on it goes too: otherwise the role could never be dropped. One transaction takes
+// all away, unless that needs too many locks.
+func disown(ctx context.Context, db *sql.DB, database, role string, inherit bool) error {
 	statements, heir := []string{"DROP OWNED BY " + quote(role) + " CASCADE"}, ""
 	if inherit {
 		heir = database
 		statements = []string{"REASSIGN OWNED BY " + quote(role) + " TO " + quote(heir), "DROP OWNED BY " + quote(role)}
 	}
 	atOnce := func(tx *sql.Tx) (bool, error) { return true, execAll(ctx, tx, statements...) }
-	err = inTransaction(ctx, db, atOnce)
+	err := inTransaction(ctx, db, atOnce)
 	if !session.IsCode(err, outOfMemory) {
 		return err
 	}
