@@ -125,3 +125,36 @@ func newLoneOver(t *testing.T, backend *mute) (*lone, *mute) {
 	it.handler = handlerFor(t, it.Service)
 	return it, backend
 }
+
+// A changing backend creates a part of a binding, and fails to delete it: the password is another one then, and all of
+// the binding exists.
+type changing struct{ *mute }
+
+func (c changing) CreateBinding(ctx context.Context, r broker.Request) (json.RawMessage, error) {
+	_ = c.Create(ctx, r)
+	c.there = part
+	return json.RawMessage(`"before"`), nil
+}
+
+func (c changing) DeleteBinding(context.Context, broker.Request) error {
+	c.there = whole
+	return errScripted
+}
+
+func (changing) Credentials(context.Context, broker.Request) (json.RawMessage, error) {
+	return json.RawMessage(`"after"`), nil
+}
+
+// A binding whose deletion has failed is reported with the credentials that it has then, and not with those of its
+// creation.
+func TestCredentialsAfterADeletionThatFailed(t *testing.T) {
+	backend := changing{&mute{scripted: &scripted{made: whole}}}
+	it := &lone{bench: newBench(t, backend, newMemoryLocks()), backend: backend.scripted}
+	it.handler = handlerFor(t, it.Service)
+	it.expect(t, 201, "PUT", instances+"i", bodyOf(now, ""))
+	backend.there = none
+	given := it.ask("PUT", instances+"i/service_bindings/b", bodyOf(now, ""))
+	if got := credentialsOf(given.body); given.status != 201 || got != "after" {
+		t.Errorf("got %d with the credentials %q, want 201 with \"after\"", given.status, got)
+	}
+}

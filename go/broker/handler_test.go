@@ -578,6 +578,26 @@ func (unsendable) Credentials(context.Context, broker.Request) (json.RawMessage,
 	return json.RawMessage("\xff"), nil
 }
 
+// A Fetch of a binding is answered 404 if the catalogue says that bindings can't be retrieved.
+func TestFetchOfWhatIsNotRetrievable(t *testing.T) {
+	const document = `{"services": [{"id": "00000000-0000-0000-0000-0000000000a0", "name": "shelf", "description": "d",
+		"bindable": true, "bindings_retrievable": IS, "plans": [
+		{"id": "00000000-0000-0000-0000-0000000000c1", "name": "now", "description": "d"}]}]}`
+	for retrievable, want := range map[string]int{"true": 200, "false": 404} {
+		b := newBench(t, newShelf(calm), newMemoryLocks())
+		document := strings.Replace(document, "IS", retrievable, 1)
+		service := broker.NewService(
+			catalogueFor(t, document), b.store, newShelf(calm), newMemoryLocks(), broker.Rules{}, b.observed)
+		l := &lone{handler: handlerFor(t, service)}
+		l.expect(t, 201, "PUT", instances+"i", bodyOf(now, ""))
+		l.expect(t, 201, "PUT", instances+"i/service_bindings/b", bodyOf(now, ""))
+		given := l.ask("GET", instances+"i/service_bindings/b", "")
+		if has := bytes.Contains(given.body, []byte("credentials")); given.status != want || has != (want == 200) {
+			t.Errorf("bindings_retrievable %s: got %d %s, want %d", retrievable, given.status, given.body, want)
+		}
+	}
+}
+
 // Each of two passwords of a user is valid, and so is another user's.
 func TestUsers(t *testing.T) {
 	s := newSite(t, setting{users: map[string][]string{"u": {"p", "new"}, "v": {"w"}}})

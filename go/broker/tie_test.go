@@ -282,3 +282,24 @@ func TestLateTieThatWasInterrupted(t *testing.T) {
 		g.parted(g.store("a"), late{g.folders("there")}, "has begun with other resources")
 	}
 }
+
+// A nameless store can't be given a name.
+type nameless struct{ broker.NamedStore }
+
+var errDiskFull = errors.New("the disk is full")
+
+func (nameless) Begin(context.Context, string) (string, error) { return "", errDiskFull }
+
+// A store that can't be given a name is tied to nothing.
+func TestTieOfAStoreWithoutAName(t *testing.T) {
+	g := newGround(t)
+	backend := g.folders("here")
+	err := broker.Tie(context.Background(), nameless{g.store("a")}, backend, false)
+	if !errors.Is(err, errDiskFull) {
+		t.Errorf("got %v, want %v", err, errDiskFull)
+	}
+	if owner := g.owner(backend); owner != "" {
+		t.Errorf("the folders are owned by %q, want none", owner)
+	}
+	g.tie(g.store("a"), backend) // later it is tied
+}

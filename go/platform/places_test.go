@@ -176,3 +176,16 @@ func TestRunGoesOnWithoutALook(t *testing.T) {
 		p.untilState(it, Ready)
 	}
 }
+
+// While all places are taken, and while no broker is reached, a run waits until it looks again: it isn't busy.
+func TestPumpWithoutPlaces(t *testing.T) {
+	p := newPlant(t, Options{AtOnce: 3})
+	p.engine.Look = time.Hour
+	r := newRun(background, p.engine)
+	for _, running := range []int{0, 2 * p.engine.AtOnce} {
+		r.running, r.inFlight = running, running
+		if wait := r.pump(); wait != p.engine.Look {
+			t.Errorf("with %d that run: got a wait of %v, want %v", running, wait, p.engine.Look)
+		}
+	}
+}

@@ -297,3 +297,35 @@ func TestTerms(t *testing.T) {
 		}
 	}
 }
+
+// A catalogue that couldn't be written isn't had: otherwise nobody would write it later, and nobody know why.
+func TestCatalogueThatIsNotKept(t *testing.T) {
+	p := newPlant(t, Options{})
+	s := newSites(background, p.engine, &sync.WaitGroup{})
+	broker := p.brokerNamed("shelf")
+	p.store.setAway(ErrAway)
+	if _, status, err := s.catalogue(background, broker); !errors.Is(err, ErrAway) {
+		t.Errorf("got %d, %v, want %v", status, err, ErrAway)
+	}
+	p.store.setAway(nil)
+	if _, status, err := s.catalogue(background, broker); err != nil || !p.hasCatalogue() {
+		t.Errorf("once the store is back: got %d, %v, want a catalogue", status, err)
+	}
+}
+
+// A reading of the brokers that fails says nothing about them: they stay reached.
+func TestBrokersThatAreNotRead(t *testing.T) {
+	p := newPlant(t, Options{})
+	p.engine.Look = time.Hour
+	var group sync.WaitGroup
+	s := newSites(background, p.engine, &group)
+	s.byName["shelf"] = &site{broker: p.brokerNamed("shelf"), catalogue: &Catalogue{}, cancel: func() {}}
+	p.store.setAway(ErrAway)
+	s.watch()
+	p.until("a failure", func() bool { return p.failed("store_failed") == 1 })
+	s.stop()
+	group.Wait()
+	if it := s.byName["shelf"]; it == nil || it.catalogue == nil {
+		t.Errorf("got %+v, want the broker with its catalogue", it)
+	}
+}

@@ -1,10 +1,15 @@
 package folders
 
 import (
+	"errors"
+	"io/fs"
 	"os"
+	"path/filepath"
 	"reflect"
+	"runtime"
 	"strings"
 	"sync"
+	"syscall"
 	"testing"
 )
 
@@ -63,5 +68,51 @@ func TestOwnersAtOnce(t *testing.T) {
 		if owner == "" || owner != owners[0] {
 			t.Fatalf("the owners are %q", owners)
 		}
+	}
+}
+
+// unlisted returns a folder in which names can be written and looked up, but not listed, and which can't be synced.
+// Until the end of the test, this goroutine has the rights of a user who isn't root.
+func unlisted(t *testing.T) string {
+	t.Helper()
+	folder := t.TempDir()
+	if os.Geteuid() == 0 {
+		const nobody = 65534
+		ok(t, os.Chown(folder, nobody, nobody))
+		for above := filepath.Dir(folder); above != os.TempDir() && above != "/"; above = filepath.Dir(above) {
+			ok(t, os.Chmod(above, 0o755))
+		}
+		runtime.LockOSThread()
+		_, _, _ = syscall.RawSyscall(syscall.SYS_SETFSUID, nobody, 0, 0) // of this thread
+		t.Cleanup(func() {
+			_, _, _ = syscall.RawSyscall(syscall.SYS_SETFSUID, 0, 0, 0)
+			runtime.UnlockOSThread()
+		})
+	}
+	ok(t, os.Chmod(folder, 0o300))
+	t.Cleanup(func() { _ = os.Chmod(folder, 0o700) })
+	if _, err := os.ReadDir(folder); !errors.Is(err, fs.ErrPermission) {
+		t.Fatalf("got %v, want a folder that can't be listed", err)
+	}
+	return folder
+}
+
+// A top that can't be listed may contain folders of another store, so it isn't taken.
+func TestOwnerOfATopThatCanNotBeListed(t *testing.T) {
+	f := newFolders(t, t.TempDir())
+	f.top = unlisted(t)
+	if owner, err := f.Own(ctx, "one"); !errors.Is(err, fs.ErrPermission) {
+		t.Errorf("got %q, %v, want %v", owner, err, fs.ErrPermission)
+	}
+	if owner, err := f.Owner(ctx); owner != "" || err != nil {
+		t.Errorf("the owner is %q, %v, want none", owner, err)
+	}
+}
+
+// A new folder is there after a power cut: the folder that it is in is synced. If that fails, so does New.
+func TestNewFoldersAreSynced(t *testing.T) {
+	top := filepath.Join(unlisted(t), "top")
+	if _, err := New(top); !errors.Is(err, fs.ErrPermission) || !strings.Contains(err.Error(), filepath.Dir(top)) {
+		t.Errorf("got %v, want the error of syncing %s", err, filepath.Dir(top))
 	}
 }

@@ -116,3 +116,25 @@ func TestServerThatIsSilent(t *testing.T) {
 		t.Errorf("the store has %q", text)
 	}
 }
+
+// While the server is silent, a binding isn't read as one that was never there.
+func TestReadOfASilentServer(t *testing.T) {
+	ctx, calls := context.Background(), 0
+	proxy, through := pgtest.NewProxy(t, pgtest.Schema(t, pgtest.URL(t), "osb_silent_read"))
+	store := open(t, through)
+	t.Cleanup(func() { _ = store.Close() })
+	instance := osb.MustParseID("00000000-0000-0000-0000-000000000001")
+	for _, key := range []broker.Key{broker.InstanceKey(instance), broker.BindingKey(instance, instance)} {
+		if err := store.Change(ctx, key, 0, describe("text", &calls)); err != nil {
+			t.Fatal(err)
+		}
+		if text := described(t, store, key); text != "text" {
+			t.Fatalf("%v: got %q, want \"text\"", key, text)
+		}
+		proxy.Hang(true)
+		if held, err := store.Read(ctx, key); !errors.Is(err, broker.ErrAway) {
+			t.Errorf("%v: got %+v, %v, want %v", key, held.Entry, err, broker.ErrAway)
+		}
+		proxy.Hang(false)
+	}
+}

@@ -265,6 +265,67 @@ func TestUnreadableRow(t *testing.T) {
 	}
 }
 
+// alter executes a statement in the file of a store.
+func alter(t *testing.T, s *Store, statement string) {
+	t.Helper()
+	if err := s.file.Write(context.Background(), func(c *connection) error { return c.exec(statement) }); err != nil {
+		t.Fatalf("%s: %v", statement, err)
+	}
+}
+
+// Of a row that can't be read nothing is known: a Change ends with the error, without its step, and the row stays.
+func TestChangeOfAnUnreadableRow(t *testing.T) {
+	s := open(t, filepath.Join(t.TempDir(), "store"), broker.Silent{})
+	if err := s.Change(context.Background(), keyOf(1), 0, provision(keyOf(1))); err != nil {
+		t.Fatal(err)
+	}
+	alter(t, s, "UPDATE holdings SET holding = '{}', description = 'unreadable'")
+	isCalled := false
+	err := s.Change(context.Background(), keyOf(1), 0, func(held broker.Held) (*broker.Entry, error) {
+		isCalled = true
+		return provision(keyOf(1))(held)
+	})
+	if err == nil || isCalled {
+		t.Errorf("got %v, the step called: %t; want an error, and no call", err, isCalled)
+	}
+	var description string
+	if err := s.file.Read(context.Background(), func(c *connection) (err error) {
+		description, err = c.text("SELECT description FROM holdings")
+		return err
+	}); err != nil || description != "unreadable" {
+		t.Errorf("the row has the description %q, %v, want \"unreadable\"", description, err)
+	}
+}
+
+// A Change whose row can't be written fails, also if the transaction of which it is a part goes on.
+func TestChangeThatIsNotWritten(t *testing.T) {
+	s := open(t, filepath.Join(t.TempDir(), "store"), broker.Silent{})
+	alter(t, s, "CREATE TRIGGER no BEFORE INSERT ON holdings BEGIN SELECT RAISE(ABORT, 'no'); END")
+	err := s.Change(context.Background(), keyOf(1), 0, provision(keyOf(1)))
+	if err == nil || !strings.Contains(err.Error(), "no") {
+		t.Errorf("got %v, want the error of the trigger", err)
+	}
+}
+
+// A worker whose number can't be compared writes nothing.
+func TestChangeWithoutTheWorkers(t *testing.T) {
+	s := open(t, filepath.Join(t.TempDir(), "store"), broker.Silent{})
+	fence, err := s.Fence(context.Background(), keyOf(1))
+	if err != nil {
+		t.Fatal(err)
+	}
+	alter(t, s, "DROP TABLE workers")
+	for _, it := range []int64{fence, fence + 1} {
+		err := s.Change(context.Background(), keyOf(1), it, provision(keyOf(1)))
+		if err == nil || errors.Is(err, broker.ErrLostLock) {
+			t.Errorf("with the fence %d: got %v, want the error of the table", it-fence, err)
+		}
+	}
+	if held, err := s.Read(context.Background(), keyOf(1)); err != nil || held.Holding != (osb.Holding{}) {
+		t.Errorf("got %v, %v, want nothing written", held.Holding, err)
+	}
+}
+
 // Ready writes, so that a full disk shows.
 func TestReadyWrites(t *testing.T) {
 	s := open(t, filepath.Join(t.TempDir(), "store"), broker.Silent{})

@@ -2,6 +2,7 @@ package journaled
 
 import (
 	"context"
+	"encoding/json"
 	"errors"
 	"os"
 	"strconv"
@@ -304,6 +305,34 @@ func TestUsed(t *testing.T) {
 	want(t, "tried again", s.events(from), "order ordered; undone; order ordered")
 }
 
+// What is to be checked before an order is inserted is checked beside the journal, too.
+func TestOrderThatIsNotAllowed(t *testing.T) {
+	s := newSite(t)
+	err := s.to.OrdersStore(s.store.Store).Insert(background, platform.Entry{
+		Order: platform.Order{Key: keyOf("one"), Broker: "shop", Body: json.RawMessage("{}")},
+	}, func(platform.Held) error { return errFull })
+	if !errors.Is(err, errFull) {
+		t.Errorf("got %v, want %v", err, errFull)
+	}
+	if _, err := s.store.Read(background, keyOf("one")); !errors.Is(err, platform.ErrUnknown) {
+		t.Errorf("got %v, want no row", err)
+	}
+	want(t, "no order", s.events(1), "")
+}
+
+// A step that writes nothing has no line, and is no error.
+func TestStepThatWritesNothing(t *testing.T) {
+	s := newSite(t)
+	key := s.create("one")
+	from := len(s.lines())
+	err := s.to.EngineStore(s.store.Store).Change(background, key,
+		func(time.Time, platform.Held) (*platform.Change, error) { return nil, nil })
+	if err != nil {
+		t.Errorf("got %v, want nil", err)
+	}
+	want(t, "a step that writes nothing", s.events(from), "")
+}
+
 // An order that wasn't sent is withdrawn.
 func TestWithdrawn(t *testing.T) {
 	s := newSite(t)
@@ -395,4 +424,12 @@ func TestNoSecrets(t *testing.T) {
 	if !strings.Contains(string(text), bound.Key.Binding.String()) {
 		t.Errorf("%s", text)
 	}
+}
+
+func keyOf(text string) platform.Key {
+	id, err := osb.IDOfText(text)
+	if err != nil {
+		panic(err)
+	}
+	return platform.InstanceKey(id)
 }

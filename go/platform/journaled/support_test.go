@@ -169,6 +169,7 @@ type site struct {
 	seller *seller
 	engine *platform.Engine
 	orders *platform.Orders
+	to     *Journal
 }
 
 func newSite(t *testing.T) *site {
@@ -185,6 +186,7 @@ func newSite(t *testing.T) *site {
 	})
 	check(t, err)
 	to := New(writer, plainVault{}, func(err error) bool { return errors.Is(err, errDoubt) })
+	s.to = to
 	s.orders = platform.NewOrders(to.OrdersStore(s.store), plainVault{})
 	s.engine = platform.NewEngine(to.EngineStore(s.store), to.Client(s.seller), plainVault{}, platform.Options{
 		Worker: "one", FirstPace: time.Millisecond, LongestPace: time.Millisecond,

@@ -88,6 +88,24 @@ func TestUnreadableRows(t *testing.T) {
 	}
 }
 
+// A broker whose row can't be read isn't changed: its URL and its password would be lost.
+func TestUnreadableBroker(t *testing.T) {
+	path := filepath.Join(t.TempDir(), "store")
+	s := withBroker(t, open(t, path))
+	executed(t, path, "UPDATE osb_brokers SET settings = 'x'")
+	isCalled := false
+	err := s.ChangeBroker(background, "one", func(it platform.Broker) (*platform.Broker, error) {
+		isCalled = true
+		return &platform.Broker{Name: it.Name}, nil
+	})
+	if err == nil || isCalled {
+		t.Errorf("got %v, the change called: %t; want an error, and no call", err, isCalled)
+	}
+	if found := queried(t, path, "SELECT url FROM osb_brokers"); len(found) != 1 || found[0] != "http://one" {
+		t.Errorf("got the URL %v, want http://one", found)
+	}
+}
+
 // No call changes the tables, which would have every other process read the schema again.
 func TestNoCallChangesTables(t *testing.T) {
 	path := filepath.Join(t.TempDir(), "store")

@@ -151,6 +151,24 @@ func (f failing) Change(ctx context.Context, key platform.Key, step platform.Ste
 	}
 }
 
+// A secretive store doesn't take the fingerprints of a rotation that begins.
+type secretive struct{ platform.Store }
+
+func (secretive) ReplaceFingerprint(context.Context, string, string) error { return errFailing }
+
+// If it can't be written that the key is being replaced, nothing is sealed again: a worker with the old key alone may
+// start, and seal with it.
+func TestRotateThatCanNotBegin(t *testing.T) {
+	before, both := newVault(t, one), newVault(t, other, one)
+	r := newRig(t, before, 3)
+	if done, err := both.Rotate(background, secretive{r}); !errors.Is(err, errFailing) || done != (Rotated{}) {
+		t.Errorf("got %+v, %v, want %v", done, err, errFailing)
+	}
+	if opened := r.opens(t, before); opened != 4 {
+		t.Errorf("the old key opens %d, want 4", opened)
+	}
+}
+
 // After a rotation that has ended in the middle, both keys are needed, and a further one ends it.
 func TestRotateInTheMiddle(t *testing.T) {
 	before, both, after := newVault(t, one), newVault(t, other, one), newVault(t, other)

@@ -228,6 +228,31 @@ func TestTransactionFails(t *testing.T) {
 	}
 }
 
+// A Transaction that fails or panics leaves no transaction open, so that it keeps no lock, and writes nothing.
+func TestTransactionThatFails(t *testing.T) {
+	file := open(t, filepath.Join(t.TempDir(), "file"), options())
+	for name, fails := range map[string]func(){"error": func() {}, "panic": func() { panic("a bug") }} {
+		err := file.Read(background, func(n *notes) error {
+			err := n.Transaction(background, func() error {
+				err := note("lost")(n)
+				fails()
+				return first(err, errWrong)
+			})
+			if n.InTransaction() {
+				t.Errorf("%s: the transaction is open", name)
+			}
+			return err
+		})
+		if err == nil {
+			t.Errorf("%s: got nil, want an error", name)
+		}
+	}
+	wantNotes(t, file)
+	if err := file.Write(background, note("next")); err != nil {
+		t.Errorf("the next write: got %v, want nil", err)
+	}
+}
+
 // Of jobs of one statement, one that fails, panics or breaks a constraint writes nothing. The others are written. None
 // has a savepoint.
 func TestOneStatement(t *testing.T) {
