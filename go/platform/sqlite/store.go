@@ -36,7 +36,7 @@ var _ platform.Store = (*Store)(nil)
 //
 // Errors name the file: it can't be opened or extended, it is of a later version or of another program, or it is of
 // version 0.2 and a worker of that version runs. Nothing was changed then.
-func Open(ctx context.Context, path string) (*Store, error) { return opened(ctx, path, migrate) }
+func Open(ctx context.Context, path string) (*Store, error) { return opened(ctx, path, nil, migrate) }
 
 // OpenExisting is Open of a file that has the tables, of this version or of version 0.2. Otherwise it creates nothing,
 // and the error is platform.ErrNoStore: there is no file, or it has no tables.
@@ -45,15 +45,17 @@ func OpenExisting(ctx context.Context, path string) (*Store, error) {
 	if errors.Is(err, fs.ErrNotExist) || err == nil && about.Mode().IsRegular() && about.Size() == 0 {
 		return nil, fmt.Errorf("sqlite: %s: %w", path, platform.ErrNoStore)
 	}
-	return opened(ctx, path, migrateExisting)
+	return opened(ctx, path, nil, migrateExisting)
 }
 
-// opened is a store over a file. bring brings its tables up to date.
+// opened is a store over a file whose connections a driver opens, SQLite's own if it is nil. bring brings its tables up
+// to date.
 func opened(
-	ctx context.Context, path string, bring func(ctx context.Context, conn *sqlitefile.Conn, path string) error,
+	ctx context.Context, path string, by driver.Driver,
+	bring func(ctx context.Context, conn *sqlitefile.Conn, path string) error,
 ) (*Store, error) {
 	file, err := sqlitefile.Open(ctx, path, sqlitefile.Options[*connection]{
-		Readers: readers, Together: together, Cache: cache, Migrate: bring, Prepare: prepared,
+		Readers: readers, Together: together, Cache: cache, Driver: by, Migrate: bring, Prepare: prepared,
 	})
 	if err != nil {
 		return nil, err

@@ -38,24 +38,39 @@ func isFull(err error) bool { return errors.Is(err, syscall.ENOSPC) || errors.Is
 
 // A Conn is a connection. One goroutine at a time uses it.
 type Conn struct {
-	sqlite                       *sqlite3.SQLiteConn
+	sqlite                       sqliteConn
 	begin, end                   *Statement
 	savepoint, rollback, release *Statement
 	prepared                     []*Statement
 }
 
+// A sqliteConn is what is used of a *sqlite3.SQLiteConn.
+type sqliteConn interface {
+	driver.Conn
+	Exec(statements string, values []driver.Value) (driver.Result, error)
+	Query(query string, values []driver.Value) (driver.Rows, error)
+	AutoCommit() bool
+}
+
+// A sqliteStmt is what is used of a *sqlite3.SQLiteStmt.
+type sqliteStmt interface {
+	Exec(values []driver.Value) (driver.Result, error)
+	Query(values []driver.Value) (driver.Rows, error)
+	Close() error
+}
+
 // connect opens a connection whose commits are on disk when they return.
-func connect(ctx context.Context, path string) (*Conn, error) {
+func connect(ctx context.Context, by driver.Driver, path string) (*Conn, error) {
 	var made driver.Conn
 	name := (&url.URL{Scheme: "file", Opaque: escaped(path)}).String() + "?_mutex=no&_busy_timeout=0"
 	err := Patiently(ctx, func() (err error) { // the driver begins with a statement of its own
-		made, err = (&sqlite3.SQLiteDriver{}).Open(name)
+		made, err = by.Open(name)
 		return err
 	})
 	if err != nil {
 		return nil, err
 	}
-	c := &Conn{sqlite: made.(*sqlite3.SQLiteConn)}
+	c := &Conn{sqlite: made.(sqliteConn)}
 	if err := c.set(ctx); err != nil {
 		_ = c.close()
 		return nil, err
@@ -72,7 +87,7 @@ func Look(ctx context.Context, path string, call func(*Conn) error) error {
 		if err != nil {
 			return err
 		}
-		conn := &Conn{sqlite: made.(*sqlite3.SQLiteConn)}
+		conn := &Conn{sqlite: made.(sqliteConn)}
 		defer conn.close()
 		return call(conn)
 	})
@@ -122,7 +137,7 @@ func (c *Conn) Prepare(ctx context.Context, text string) (*Statement, error) {
 	if err != nil {
 		return nil, fmt.Errorf("%s: %w", text, err)
 	}
-	statement := &Statement{driver: made.(*sqlite3.SQLiteStmt)}
+	statement := &Statement{driver: made.(sqliteStmt)}
 	c.prepared = append(c.prepared, statement)
 	return statement, nil
 }
@@ -224,7 +239,7 @@ func Safely(do func() error) (err error) {
 
 // A Statement is prepared for one connection.
 type Statement struct {
-	driver  *sqlite3.SQLiteStmt
+	driver  sqliteStmt
 	columns int // of its rows, once it was executed
 }
 

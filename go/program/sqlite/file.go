@@ -8,6 +8,7 @@ package sqlitefile
 
 import (
 	"context"
+	"database/sql/driver"
 	"errors"
 	"fmt"
 	"os"
@@ -16,6 +17,8 @@ import (
 	"sync"
 	"sync/atomic"
 	"time"
+
+	"github.com/mattn/go-sqlite3"
 )
 
 // Options say how a file is used. C is what its user has for each connection, such as prepared statements.
@@ -30,6 +33,10 @@ type Options[C any] struct {
 	// writes with at most one statement, and does nothing after it that can fail: a job that fails has then written
 	// nothing. If a job failed after it has written, what it has written would be committed.
 	OneStatement bool
+
+	// Driver opens the connections. Nil is SQLite's own. Another one wraps its connections and statements, and has the
+	// methods of theirs.
+	Driver driver.Driver
 
 	// Migrate brings the tables up to date, on the first connection. The path is that of File.Path. It may be nil.
 	Migrate func(ctx context.Context, conn *Conn, path string) error
@@ -99,6 +106,9 @@ func (unknownCommit) Is(target error) bool { return target == ErrUnknownCommit }
 //
 // Errors name the file: those of SQLite, of Migrate and of Prepare. Nothing is open then.
 func Open[C any](ctx context.Context, path string, options Options[C]) (*File[C], error) {
+	if options.Driver == nil {
+		options.Driver = &sqlite3.SQLiteDriver{}
+	}
 	f := &File[C]{
 		options: options,
 		readers: make(chan side[C], options.Readers),
@@ -155,7 +165,7 @@ func (f *File[C]) openReaders(ctx context.Context, path string) error {
 func (f *File[C]) side(
 	ctx context.Context, path string, first func(context.Context, *Conn, string) error,
 ) (side[C], error) {
-	conn, err := connect(ctx, path)
+	conn, err := connect(ctx, f.options.Driver, path)
 	if err != nil {
 		return side[C]{}, err
 	}
