@@ -98,12 +98,19 @@ func (c *connection) held(key broker.Key) (held broker.Held, err error) {
 		return held, err
 	}
 	if held.Entry, err = entryOf(row, &c.bindings, osb.BindingHoldingFromText); err != nil {
-		return held, fmt.Errorf("sqlite: what is held of %v: %w", key, err)
+		return held, unreadable{fmt.Errorf("sqlite: what is held of %v: %w", key, err)}
 	}
 	held.EndedAgo = ago(row[5])
-	held.Entry.Binding, err = optional(row[6])
-	return held, err
+	if held.Entry.Binding, err = optional(row[6]); err != nil {
+		return held, unreadable{fmt.Errorf("sqlite: what is held of %v: %w", key, err)}
+	}
+	return held, nil
 }
+
+// unreadable is the error of a row that was found, and that can't be read.
+type unreadable struct{ error }
+
+func (u unreadable) Unwrap() error { return u.error }
 
 // instance reads what is kept of an instance, and how long ago it has ended.
 func (c *connection) instance(id osb.ID) (entry broker.Entry, endedAgo time.Duration, err error) {
@@ -116,7 +123,7 @@ func (c *connection) instance(id osb.ID) (entry broker.Entry, endedAgo time.Dura
 		return holding, err
 	}
 	if entry, err = entryOf(row, &c.instances, read); err != nil {
-		return entry, 0, fmt.Errorf("sqlite: what is held of %v: %w", id, err)
+		return entry, 0, unreadable{fmt.Errorf("sqlite: what is held of %v: %w", id, err)}
 	}
 	return entry, ago(row[5]), nil
 }

@@ -3,6 +3,7 @@ package sqlite
 import (
 	"context"
 	"database/sql/driver"
+	"errors"
 	"sync"
 	"time"
 
@@ -21,10 +22,15 @@ type counted struct {
 func (s *Store) Stats(ctx context.Context) (stats broker.Stats, err error) {
 	err = s.file.Read(ctx, func(c *connection) error {
 		stats = broker.Stats{} // the call may be repeated
-		return c.unfinished(func(key broker.Key) {
-			if held, err := c.held(key); err == nil { // a row that can't be read isn't counted
+		return c.unfinished(func(key broker.Key) error {
+			held, err := c.held(key)
+			if errors.As(err, &unreadable{}) { // it isn't counted
+				return nil
+			}
+			if err == nil {
 				add(&stats, held.Entry)
 			}
+			return err
 		})
 	})
 	if err == nil {
@@ -96,7 +102,7 @@ func instanceOfText(text []byte) (holding osb.Holding, err error) {
 }
 
 // unfinished calls with each key that is unfinished.
-func (c *connection) unfinished(call func(broker.Key)) error {
+func (c *connection) unfinished(call func(broker.Key) error) error {
 	err := c.each("SELECT id FROM holdings WHERE unfinished", func(row []driver.Value) error {
 		return unfinishedOf(call, row[0], nil)
 	})
@@ -108,7 +114,7 @@ func (c *connection) unfinished(call func(broker.Key)) error {
 	})
 }
 
-func unfinishedOf(call func(broker.Key), instance, binding any) error {
+func unfinishedOf(call func(broker.Key) error, instance, binding any) error {
 	var key broker.Key
 	if err := key.Instance.Scan(instance); err != nil {
 		return err
@@ -119,6 +125,5 @@ func unfinishedOf(call func(broker.Key), instance, binding any) error {
 			return err
 		}
 	}
-	call(key)
-	return nil
+	return call(key)
 }

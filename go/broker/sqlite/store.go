@@ -4,6 +4,7 @@ package sqlite
 
 import (
 	"context"
+	"database/sql/driver"
 	"time"
 
 	"pippinterm/broker"
@@ -26,10 +27,16 @@ type Store struct {
 // Open opens a file, and makes it if there is none. A file of version 0.2 is extended: 0.2 can't serve it beside this
 // version, and can again if no binding was created. The observer is told how many changes each commit has written.
 func Open(ctx context.Context, path string, observer broker.Observer) (*Store, error) {
+	return opened(ctx, path, observer, nil)
+}
+
+// opened is a store over a file whose connections a driver opens, SQLite's own if it is nil.
+func opened(ctx context.Context, path string, observer broker.Observer, by driver.Driver) (*Store, error) {
 	file, err := sqlitefile.Open(ctx, path, sqlitefile.Options[*connection]{
 		Readers:      readers,
 		Together:     together,
 		OneStatement: true, // each change ends with the only statement that writes
+		Driver:       by,
 		Migrate:      makeTables,
 		Prepare:      prepared,
 		Committed:    observer.Committed,
@@ -87,7 +94,10 @@ func (s *Store) HeldBindings(ctx context.Context, instance osb.ID) (ids []osb.ID
 func (s *Store) Unfinished(ctx context.Context) (keys []broker.Key, err error) {
 	err = s.file.Read(ctx, func(c *connection) error {
 		keys = nil // the call may be repeated
-		return c.unfinished(func(key broker.Key) { keys = append(keys, key) })
+		return c.unfinished(func(key broker.Key) error {
+			keys = append(keys, key)
+			return nil
+		})
 	})
 	return keys, err
 }

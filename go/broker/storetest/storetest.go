@@ -131,13 +131,16 @@ func read(t *testing.T, store broker.Store, key broker.Key) broker.Held {
 // wantEntry compares what two stores have of a key.
 func wantEntry(t *testing.T, what string, got, want broker.Entry) {
 	t.Helper()
-	isSame := got.Holding == want.Holding && string(got.Request) == string(want.Request) &&
+	if !sameEntry(got, want) {
+		t.Errorf("%s: got %+v, want %+v", what, got, want)
+	}
+}
+
+func sameEntry(got, want broker.Entry) bool {
+	return got.Holding == want.Holding && string(got.Request) == string(want.Request) &&
 		(got.Request == nil) == (want.Request == nil) && string(got.Binding) == string(want.Binding) &&
 		(got.Binding == nil) == (want.Binding == nil) && got.Description == want.Description &&
 		got.Since.Equal(want.Since) && got.Life == want.Life
-	if !isSame {
-		t.Errorf("%s: got %+v, want %+v", what, got, want)
-	}
 }
 
 // changed is the error of a Change. A panic of the step counts as one, if Change lets it through.

@@ -1,0 +1,31 @@
+package postgres_test
+
+import (
+	"testing"
+
+	"pippinterm/broker"
+	"pippinterm/broker/postgres/pgtest"
+	"pippinterm/broker/storetest"
+	"pippinterm/storefaults"
+)
+
+// What every store must do if one of its statements fails.
+func TestFaults(t *testing.T) {
+	pgtest.URL(t)
+	all := &schemas{urls: map[string]string{}}
+	storetest.RunFaults(t, storetest.Faulty{
+		Open: func(t *testing.T) (broker.NamedStore, *storefaults.Countdown) {
+			proxy, url := storefaults.NewProxy(t, all.url(t))
+			return open(t, url), &proxy.Countdown
+		},
+		Beside: func(t *testing.T) broker.NamedStore { return open(t, all.url(t)) },
+		Spoil: func(t *testing.T, key broker.Key) {
+			table, where := "osb_holdings", "id = '"+key.Instance.String()+"'"
+			if key.IsBinding {
+				table, where = "osb_bindings", "binding = '"+key.Binding.String()+"'"
+			}
+			pgtest.Exec(t, pgtest.DB(t, all.url(t)), "UPDATE "+table+" SET holding = '{}' WHERE "+where)
+		},
+		Faults: []storefaults.Fault{storefaults.Refused, storefaults.Cut, storefaults.Lost, storefaults.Broken},
+	})
+}

@@ -1,0 +1,339 @@
+package storetest
+
+import (
+	"context"
+	"errors"
+	"fmt"
+	"reflect"
+	"sort"
+	"testing"
+
+	"pippinterm/broker"
+	"pippinterm/osb"
+	"pippinterm/storefaults"
+)
+
+// Faulty opens stores over the database of a test, as the function open of Run does.
+type Faulty struct {
+	// Open opens a store whose statements a Countdown has fail.
+	Open func(*testing.T) (broker.NamedStore, *storefaults.Countdown)
+	// Beside opens a store over the same database whose statements don't fail.
+	Beside func(*testing.T) broker.NamedStore
+	// Spoil makes the row of a key one that can't be read.
+	Spoil func(t *testing.T, key broker.Key)
+	// Faults are those that the database has.
+	Faults []storefaults.Fault
+}
+
+// RunFaults has each statement of each call fail once. The call returns the error, and what is left is what was there
+// before, or what the call was to write if the answer to its COMMIT was lost. A step never sees anything but what is
+// written. Afterwards the call succeeds, and nothing is locked.
+func RunFaults(t *testing.T, by Faulty) {
+	t.Run("a row that can't be read", by.unreadable)
+	for _, fault := range by.Faults {
+		for _, it := range faultyCalls {
+			fault, it := fault, it
+			t.Run(fault.String()+", "+it.name, func(t *testing.T) {
+				f := &faulty{Faulty: by, beside: opened(t, by.Beside), fault: fault}
+				begin(t, f.beside)
+				f.store, f.countdown = by.Open(t)
+				f.each(t, it)
+				f.close(t)
+			})
+		}
+	}
+}
+
+// faulty is a store of which one call fails, beside another one of the same database.
+type faulty struct {
+	Faulty
+	store      broker.NamedStore
+	countdown  *storefaults.Countdown
+	beside     broker.NamedStore
+	fault      storefaults.Fault
+	key        broker.Key
+	before     broker.Held // what is written of the key before the call
+	tombstones int         // of a call whose keys are oneOfTwo
+	wrong      error       // what the call has returned, or shown to its step, though it isn't written
+}
+
+// A faultyCall is a call whose statements fail, of a key that depends on which one does.
+type faultyCall struct {
+	name string
+	key  func(n int) broker.Key
+	call func(f *faulty, t *testing.T) error
+	// after is what is written of the key once the call has returned nil, or nil if that is what was there before.
+	after func(t *testing.T) broker.Entry
+	// isFirst has each call be the first of its store, as one that keeps what it has read.
+	isFirst bool
+}
+
+func ofOne(n int) broker.Key { return binding(n, n) }
+
+// oneOfTwo is for calls that read all rows.
+func oneOfTwo(n int) broker.Key { return instance(n % 2) }
+
+var faultyCalls = []faultyCall{
+	{"Read of an instance", instance, (*faulty).read, nil, false},
+	{"Read of a binding", ofOne, (*faulty).read, nil, false},
+	{"Change of an instance", instance, (*faulty).change, ready, false},
+	{"Change of a binding", ofOne, (*faulty).change, ready, false},
+	{"Change of an instance with a fence", instance, (*faulty).changeFenced, ready, false},
+	{"Change of a binding with a fence", ofOne, (*faulty).changeFenced, ready, false},
+	{"Fence of an instance", instance, (*faulty).fence, nil, false},
+	{"Fence of a binding", ofOne, (*faulty).fence, nil, false},
+	{"HeldBindings", instance, (*faulty).held, nil, false},
+	{"Unfinished", oneOfTwo, (*faulty).unfinished, nil, false},
+	{"Stats", oneOfTwo, (*faulty).stats, nil, true},
+	{"Ready", instance, func(f *faulty, _ *testing.T) error { return f.store.Ready(context.Background()) }, nil, false},
+	{"Name and Begin", instance, (*faulty).name, nil, false},
+	{"Tie", instance, (*faulty).tie, nil, false},
+}
+
+// each has one statement of a call fail after the other, until the call has none that could: of keys with and without a
+// row.
+func (f *faulty) each(t *testing.T, it faultyCall) {
+	const most = 200 // no call has so many statements
+	for n, isLast := 1, false; !isLast; n++ {
+		if n == most {
+			t.Fatalf("got %d statements, want fewer", n)
+		}
+		isLast = true
+		for _, hasRow := range []bool{false, true} {
+			f.key = it.key(2 * n)
+			if hasRow {
+				f.key = it.key(2*n + 1)
+			}
+			f.prepare(t, hasRow)
+			if it.isFirst {
+				f.close(t)
+				f.store, f.countdown = f.Open(t)
+			}
+			if f.fails(t, it, n) {
+				isLast = false
+			} else if n == 1 && f.fault == storefaults.Refused {
+				t.Fatal("the call has no statement")
+			}
+		}
+	}
+}
+
+func (f *faulty) close(t *testing.T) {
+	t.Helper()
+	if err := f.store.Close(); err != nil {
+		t.Errorf("Close: %v", err)
+	}
+}
+
+// prepare writes what is there before the call: the instance, a binding of it that is held, one that isn't, and the row of
+// the key itself.
+func (f *faulty) prepare(t *testing.T, hasRow bool) {
+	t.Helper()
+	of := f.key.Instance
+	if f.key.IsBinding || hasRow {
+		write(t, f.beside, broker.InstanceKey(of), broker.Entry{Holding: in(t, "deleting"), Life: 2})
+	}
+	if hasRow {
+		f.tombstones = 1
+		write(t, f.beside, broker.BindingKey(of, id(1<<20)), broker.Entry{Holding: in(t, "failed")})
+		write(t, f.beside, broker.BindingKey(of, id(1<<21)), broker.Entry{Holding: tombstone(t)})
+		write(t, f.beside, f.key, entries(t, f.key)[0])
+	}
+	f.before = read(t, f.beside, f.key)
+}
+
+// fails has the n-th statement of a call fail, looks at what it has left, and returns whether it has so many.
+func (f *faulty) fails(t *testing.T, it faultyCall, n int) bool {
+	t.Helper()
+	f.wrong = nil
+	f.countdown.Fail(n, f.fault)
+	err := it.call(f, t)
+	failed := f.countdown.Failed()
+	f.countdown.Fail(0, f.fault)
+	if f.wrong != nil {
+		t.Errorf("%q has failed: %v", failed, f.wrong)
+	}
+	after := f.before.Entry
+	if it.after != nil {
+		after = it.after(t)
+	}
+	f.judge(t, failed, err, read(t, f.beside, f.key).Entry, after)
+	write(t, f.beside, f.key, f.before.Entry) // nothing is locked
+	if err := it.call(f, t); err != nil || f.wrong != nil {
+		t.Errorf("after %q has failed: got %v, %v, want a call that succeeds", failed, err, f.wrong)
+	}
+	return failed != ""
+}
+
+// judge compares what is left, got, with what the call was to write.
+func (f *faulty) judge(t *testing.T, failed string, err error, got, after broker.Entry) {
+	t.Helper()
+	what := fmt.Sprintf("%q has failed with %v", failed, err)
+	isLost := storefaults.IsCommit(failed) && (f.fault == storefaults.Lost || f.fault == storefaults.Broken)
+	switch {
+	case failed == "" && err != nil:
+		t.Errorf("no statement has failed: got %v, want nil", err)
+	case failed != "" && err == nil && f.fault == storefaults.Refused && !storefaults.IsBegin(failed):
+		t.Errorf("%q has failed: got nil, want the error", failed)
+	case err == nil: // also if the statement was tried again over another connection
+		wantEntry(t, what, got, after)
+	case !isLost || !sameEntry(got, after):
+		wantEntry(t, what, got, f.before.Entry)
+	}
+}
+
+// want notes what is wrong.
+func (f *faulty) want(what string, got, want any) {
+	if !reflect.DeepEqual(got, want) {
+		f.wrong = fmt.Errorf("%s: got %v, want %v", what, got, want)
+	}
+}
+
+// wantHeld notes it if anything else was read than what is written, and returns the error of AnyBinding.
+func (f *faulty) wantHeld(held broker.Held) error {
+	if !sameEntry(held.Entry, f.before.Entry) || !sameEntry(held.Instance, f.before.Instance) {
+		f.wrong = fmt.Errorf("read: got %+v of %+v, want %+v of %+v",
+			held.Entry, held.Instance, f.before.Entry, f.before.Instance)
+	}
+	if f.key.IsBinding {
+		return nil
+	}
+	any, err := held.AnyBinding()
+	if err != nil {
+		return err
+	}
+	f.want("AnyBinding", any, !sameEntry(f.before.Entry, broker.Entry{}))
+	return nil
+}
+
+func (f *faulty) read(*testing.T) error {
+	held, err := f.store.Read(context.Background(), f.key)
+	if err != nil {
+		return err
+	}
+	return f.wantHeld(held)
+}
+
+func (f *faulty) change(t *testing.T) error { return f.changeWith(t, 0) }
+
+func (f *faulty) changeFenced(t *testing.T) error { return f.changeWith(t, fence(t, f.beside, f.key)) }
+
+func (f *faulty) changeWith(t *testing.T, fence int64) error {
+	next := ready(t)
+	return f.store.Change(context.Background(), f.key, fence, func(held broker.Held) (*broker.Entry, error) {
+		return &next, f.wantHeld(held)
+	})
+}
+
+// fence takes a fence, which is the last one then.
+func (f *faulty) fence(t *testing.T) error {
+	number, err := f.store.Fence(context.Background(), f.key)
+	if err != nil {
+		return err
+	}
+	return f.beside.Change(context.Background(), f.key, number, func(broker.Held) (*broker.Entry, error) { return nil, nil })
+}
+
+func (f *faulty) held(*testing.T) error {
+	got, err := f.store.HeldBindings(context.Background(), f.key.Instance)
+	if err != nil {
+		return err
+	}
+	var want []osb.ID
+	if !sameEntry(f.before.Entry, broker.Entry{}) {
+		want = []osb.ID{id(1 << 20)}
+	}
+	f.want("HeldBindings", got, want)
+	return nil
+}
+
+// texts are the texts of keys, in order.
+func texts(keys []broker.Key) (found []string) {
+	for _, it := range keys {
+		found = append(found, it.String())
+	}
+	sort.Strings(found)
+	return found
+}
+
+func (f *faulty) unfinished(t *testing.T) error {
+	got, err := f.store.Unfinished(context.Background())
+	if err != nil {
+		return err
+	}
+	want, err := f.beside.Unfinished(context.Background())
+	if err != nil {
+		t.Fatal(err)
+	}
+	f.want("Unfinished", texts(got), texts(want))
+	return nil
+}
+
+func (f *faulty) stats(t *testing.T) error {
+	got, err := f.store.Stats(context.Background())
+	if err != nil {
+		return err
+	}
+	want, err := f.beside.Stats(context.Background())
+	if err != nil {
+		t.Fatal(err)
+	}
+	want.Tombstones = f.tombstones // a store may count them now and then
+	f.want("Stats", got, want)
+	return nil
+}
+
+func (f *faulty) name(*testing.T) error {
+	for _, call := range []func() (string, error){
+		func() (string, error) { return f.store.Name(context.Background()) },
+		func() (string, error) { return f.store.Begin(context.Background(), "two") },
+	} {
+		name, err := call()
+		if err != nil {
+			return err
+		}
+		f.want("the name", name, "one")
+	}
+	return nil
+}
+
+// errTied ends a Tie that is only to look.
+var errTied = errors.New("it was to look")
+
+func (f *faulty) tie(t *testing.T) error {
+	want, err := tie(f.beside, errTied)
+	if !errors.Is(err, errTied) {
+		t.Fatal(err)
+	}
+	return f.store.Tie(context.Background(), func(isUsed bool) error {
+		f.want("isUsed", isUsed, want)
+		return nil
+	})
+}
+
+// unreadable has a row that can't be read, of an instance or of a binding. It is neither taken for one that was never
+// there, nor written.
+func (by Faulty) unreadable(t *testing.T) {
+	store := opened(t, by.Beside)
+	for _, it := range []struct{ spoiled, key broker.Key }{
+		{instance(1), instance(1)}, {instance(1), binding(1, 1)}, {instance(2), binding(2, 2)}, {binding(3, 3), binding(3, 3)},
+	} {
+		if it.key == it.spoiled || !it.key.IsBinding || it.spoiled == instance(2) {
+			write(t, store, broker.InstanceKey(it.key.Instance), ready(t))
+		}
+		if it.key != binding(1, 1) { // it has no row
+			write(t, store, it.key, ready(t))
+		}
+		by.Spoil(t, it.spoiled)
+		if held, err := store.Read(context.Background(), it.key); err == nil {
+			t.Errorf("Read of %v beside %v: got %+v, want an error", it.key, it.spoiled, held)
+		}
+		err := store.Change(context.Background(), it.key, 0, func(held broker.Held) (*broker.Entry, error) {
+			t.Errorf("the step of %v beside %v is called with %+v", it.key, it.spoiled, held)
+			return nil, nil
+		})
+		if err == nil {
+			t.Errorf("Change of %v beside %v: got nil, want an error", it.key, it.spoiled)
+		}
+	}
+}
