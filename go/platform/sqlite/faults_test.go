@@ -1,0 +1,47 @@
+package sqlite
+
+import (
+	"os"
+	"path/filepath"
+	"testing"
+
+	"pippinterm/platform"
+	"pippinterm/platform/storetest"
+	"pippinterm/storefaults"
+)
+
+// What every store must do if one of its statements fails.
+func TestFaults(t *testing.T) {
+	folder, err := os.MkdirTemp("", "osb-sqlite")
+	if err != nil {
+		t.Fatal(err)
+	}
+	t.Cleanup(func() { _ = os.RemoveAll(folder) })
+	path := func(t *testing.T) string { return filepath.Join(folder, storetest.NameOf(t)) }
+	storetest.TestFaults(t, storetest.Faulty{
+		Open: func(t *testing.T) (platform.Store, *storefaults.Countdown) {
+			by := &storefaults.Driver{}
+			store, err := opened(background, path(t), by, migrate)
+			if err != nil {
+				t.Fatal(err)
+			}
+			return store, &by.Countdown
+		},
+		Beside: func(t *testing.T) platform.Store {
+			store, err := Open(background, path(t))
+			if err != nil {
+				t.Fatal(err)
+			}
+			return store
+		},
+		Empty: func(t *testing.T) {
+			executed(t, path(t), "DELETE FROM osb_instances; DELETE FROM osb_bindings; DELETE FROM osb_lives; "+
+				"DELETE FROM osb_brokers; DELETE FROM osb_counts; UPDATE osb_store SET fingerprint = NULL")
+		},
+		Spoil: func(t *testing.T, broker string) {
+			executed(t, path(t), "UPDATE osb_brokers SET settings = 'x' WHERE name = '"+broker+"'")
+		},
+		Faults:  []storefaults.Fault{storefaults.Refused, storefaults.Lost},
+		Without: []string{"Only", "HasWorkers"}, // they lock files
+	})
+}
