@@ -377,6 +377,36 @@ def test_unusable_files(audit: Audit, tmp_path: Path) -> None:
     assert ran == Ran(78, "", "osb-audit: /dev/null: read failed: it isn't a file\n")
 
 
+def packed(folder: Path, byte: bytes, size: int = 128 << 20) -> Path:
+    """A gzip file of so many equal bytes."""
+    path = folder / "packed.jsonl.gz"
+    with gzip.open(path, "wb") as file:
+        for _ in range(size >> 20):
+            file.write(byte * (1 << 20))
+    return path
+
+
+@pytest.mark.parametrize("byte", [b"\0", b"x", b"{"], ids=["zeros", "a line that never ends", "an object"])
+def test_a_gzip_file_that_holds_far_more_than_its_size(audit: Audit, tmp_path: Path, byte: bytes) -> None:
+    """It isn't read to its end."""
+    path = packed(tmp_path, byte)
+    assert path.stat().st_size < 1 << 20
+    ran = audit(path, options=TEXT)
+    why = "read failed: it holds more than 100 times its own size, as no log does. If it is one, decompress it first"
+    assert ran == Ran(2, "", f"osb-audit: {path}: {why}\n")
+
+
+@pytest.mark.parametrize("pack", [False, True])
+def test_a_line_that_is_too_long(audit: Audit, tmp_path: Path, pack: bool) -> None:
+    """It can't be one that was cut off, however it begins."""
+    broker, platform = sorted(journals_in(tmp_path, CREATED))
+    text = broker.read_bytes() + b'{"time":' + b"1" * (3 << 20)
+    path = broker.with_suffix(".jsonl.gz") if pack else broker
+    path.write_bytes(gzip.compress(text, 1) if pack else text)
+    ran = audit(path, platform, options=TEXT)
+    assert ran == Ran(2, "", f"osb-audit: {path}: line 12: it is longer than the 1,048,576 bytes of a line\n")
+
+
 def test_the_folder_of_a_storm(audit: Audit, tmp_path: Path) -> None:
     """`osb-storm both --journal FOLDER` writes the journals of each side to a folder in it."""
     broker, platform = sorted(journals_in(tmp_path, CREATED))

@@ -88,6 +88,23 @@ def test_room_limit(launcher: Launcher, bomb: str, engine: str, command: str, tm
     assert launcher.run(*arguments, "--room-limit", "30M").status == 0
 
 
+@pytest.mark.parametrize("byte", [b"\0", b"x", b"\n"], ids=["zeros", "a line that never ends", "blank lines"])
+@pytest.mark.parametrize("is_head", [True, False])
+def test_a_gzip_file_that_holds_far_more_than_its_size(
+    launcher: Launcher, tmp_path: Path, byte: bytes, is_head: bool
+) -> None:
+    """It isn't read to its end, whether an event has come before or not."""
+    log = tmp_path / "log.gz"
+    with gzip.open(log, "wb") as file:
+        file.writelines(f"{it}\n".encode() for it in HEAD)
+        file.write(b"" if is_head else f"send {ONE}\n".encode())
+        for _ in range(128):
+            file.write(byte * (1 << 20))
+    assert log.stat().st_size < 1 << 20
+    told = replayed(launcher, "--engine", "processes", str(log))
+    fails(told, 3, f"osb-replay-log: {log}: read failed: it holds more than 100 times its own size")
+
+
 def test_room_limit_of_the_reports(launcher: Launcher, logs: Logs) -> None:
     """The reports are in the work directory too, and don't fit if there is space for the log alone."""
     size = Path(logs.whole).stat().st_size

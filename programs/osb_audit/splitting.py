@@ -138,6 +138,8 @@ class _Splitter:
 
     def _odd(self, text: bytes) -> str | None:
         """A line that was cut off may stand at the end, or before a line `started` or `lost`."""
+        if len(text.rstrip(b"\0")) > LONGEST:
+            return f"it is longer than the {LONGEST:,} bytes of a line"
         if self.odd or not is_torn(text):
             return "it is no line of a journal"
         self.odd.append(self.lines)
@@ -160,7 +162,7 @@ def split(splitting: Splitting) -> Split:
     """Splits a stretch."""
     splitter, count, bad = _Splitter(splitting.number, splitting.buckets), 0, None
     try:
-        for piece in pieces(splitting.stretch, splitting.chunk, LONGEST):
+        for piece in pieces(splitting.stretch, splitting.chunk, LONGEST + 1):
             splitter.begin()
             bad = splitter.split(blocks(piece))
             spool.write(splitting.room, splitting.room.piece(splitting.number, count), splitter.buckets)

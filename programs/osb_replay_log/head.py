@@ -30,6 +30,9 @@ def head_of(logs: Sequence[Log], most: int, chunk: int) -> Head:
         for stretch in stretches(log, 0, chunk):
             for lines in lines_of(stretch, chunk):
                 for text in lines:
+                    if not text:  # a log may have millions of blank lines
+                        line, offset = line + 1, offset + 1
+                        continue
                     if not is_head(text):
                         return Head(tuple(plans), tuple(places), number, offset)
                     line, offset = line + 1, offset + len(text) + 1

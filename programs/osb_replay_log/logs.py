@@ -15,6 +15,12 @@ _MARGIN = 2 * LONGEST
 """The bytes that are read of a line that goes on behind its piece: enough for its end, or to see that it is too long.
 """
 _FAILURES = (OSError, EOFError, zlib.error)
+_FREE = 64 << 20
+"""The bytes that a gzip file may hold in any case."""
+_MOST_TIMES = 100
+"""How many times its own size a gzip file may hold besides. Logs and journals hold 5 to 50 times theirs. A file that
+was made to keep its reader busy holds 1,000 times.
+"""
 
 
 class Log(NamedTuple):
@@ -62,9 +68,9 @@ def pieces(stretch: Stretch, chunk: int, margin: int = _MARGIN) -> Iterator[byte
     log = stretch.log
     try:
         if log.is_gzip:
-            with gzip.open(log.path, "rb") as file:
+            with open(log.path, "rb") as packed, gzip.open(packed, "rb") as file:
                 file.seek(stretch.begin)
-                yield from _streamed(cast(BinaryIO, file), chunk, margin)
+                yield from _streamed(_unpacked(packed, cast(BinaryIO, file), chunk), margin)
         else:
             with open(log.path, "rb") as plain:
                 yield _cut(plain, stretch, margin)
@@ -97,18 +103,25 @@ def lines_of(stretch: Stretch, chunk: int) -> Iterator[list[bytes]]:
     return (lines for piece in pieces(stretch, chunk) for lines in blocks(piece))
 
 
-def _streamed(file: BinaryIO, chunk: int, margin: int) -> Iterator[bytes]:
+def _unpacked(packed: BinaryIO, file: BinaryIO, chunk: int) -> Iterator[bytes]:
+    """What a gzip file holds, piece by piece, as long as it isn't far more than a log has."""
+    while data := file.read(chunk):
+        if file.tell() > _FREE + _MOST_TIMES * packed.tell():
+            why = f"it holds more than {_MOST_TIMES} times its own size, as no log does"
+            raise EOFError(f"{why}. If it is one, decompress it first")
+        yield data
+
+
+def _streamed(read: Iterator[bytes], margin: int) -> Iterator[bytes]:
     """The lines of what is read, piece by piece. What is carried on from one to the next is short."""
     carried = b""
-    while True:
-        data = file.read(chunk)
-        if not data:
-            break
+    for data in read:
         end = data.rfind(b"\n") + 1
         if end:
             yield carried + data[:end]
-            carried = b""
-        carried = (carried + data[end:])[:margin]
+            carried = data[end:][:margin]
+        elif len(carried) < margin:
+            carried = (carried + data)[:margin]
     if carried:
         yield carried
 

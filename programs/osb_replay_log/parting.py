@@ -74,6 +74,8 @@ def part_lines(lines: Iterator[bytes], buckets: list[list[bytes]]) -> tuple[int,
     """
     many, puts, restarts = len(buckets), [bucket.append for bucket in buckets], 0
     for line in lines:
+        if not line:  # a log may have millions of blank lines
+            continue
         words = line.split(None, 2)
         if len(words) > 1 and words[0] in EVENTS and len(words[1]) == ID_SIZE and len(line) <= LONGEST:
             puts[crc32(words[1].lower()) % many](line)
