@@ -4,12 +4,21 @@ import (
 	"context"
 	"errors"
 	"regexp"
+	"strconv"
 	"strings"
 	"time"
+	"unicode/utf8"
 )
 
-// PasswordContext is the context under which the password of a broker is sealed. No key of a row is like it.
-func PasswordContext(broker string) string { return "broker " + broker }
+// PasswordContext is the context under which the password of a broker is sealed: it can't be opened for another URL, or
+// for another user. No key of a row is like it, and no two brokers have the same.
+func PasswordContext(broker Broker) string {
+	context := "password"
+	for _, it := range []string{broker.Name, broker.URL, broker.User} {
+		context += " " + strconv.Itoa(len(it)) + ":" + it
+	}
+	return context
+}
 
 // longestSetting is the greatest time that a setting of a broker may have.
 const longestSetting = 366 * 24 * time.Hour
@@ -33,9 +42,10 @@ func (o *Orders) AddBroker(ctx context.Context, broker Broker, password []byte) 
 }
 
 // SetBroker changes a broker: change gets it as it is, and password is the new one in clear, or nil to keep the old
-// one. change may be called more than once; the last call counts.
+// one. change may be called more than once; the last call counts. If the URL or the user changes, a password that is
+// kept is sealed again. That needs the vault.
 //
-// Errors: those of AddBroker; a Fault if it is unknown.
+// Errors: those of AddBroker; a Fault if it is unknown, or a password that is kept can't be opened.
 func (o *Orders) SetBroker(ctx context.Context, name string, change func(*Broker) error, password []byte) error {
 	if name == "" {
 		return fault(Invalid, "name the broker to change")
@@ -52,6 +62,7 @@ func (o *Orders) SetBroker(ctx context.Context, name string, change func(*Broker
 
 // set changes a broker that was read.
 func (o *Orders) set(broker *Broker, change func(*Broker) error, password []byte) error {
+	before := *broker
 	name, url, file := broker.Name, broker.URL, broker.PasswordFile
 	hasPassword := broker.Password != nil || file != ""
 	if err := change(broker); err != nil {
@@ -66,7 +77,32 @@ func (o *Orders) set(broker *Broker, change func(*Broker) error, password []byte
 	case password == nil && broker.PasswordFile != "":
 		broker.Password = nil
 	}
+	broker.URL = strings.TrimRight(broker.URL, "/")
+	if password == nil && broker.Password != nil && PasswordContext(*broker) != PasswordContext(before) {
+		var err error
+		if password, err = o.kept(before, *broker); err != nil {
+			return err
+		}
+	}
 	return o.finish(broker, password, hasPassword, strings.TrimRight(broker.URL, "/") != url)
+}
+
+// kept is the password of a broker whose URL or user changes. If somebody has changed these in the store, it is sealed
+// for those that the broker gets back.
+func (o *Orders) kept(before, after Broker) ([]byte, error) {
+	if o.vault == nil {
+		return nil, fault(Conflict, "the password of the broker %s is encrypted for its URL and its user: give the "+
+			"program the key, or the broker its password again", before.Name)
+	}
+	password, err := o.vault.Open(before.Password, PasswordContext(before))
+	if err != nil {
+		password, err = o.vault.Open(before.Password, PasswordContext(after))
+	}
+	if err != nil {
+		return nil, fault(Conflict, "the password of the broker %s can't be decrypted: %v. Give it again",
+			before.Name, err)
+	}
+	return password, nil
 }
 
 // DropBroker forgets a broker of which nothing was ever ordered.
@@ -98,8 +134,8 @@ func (o *Orders) finish(broker *Broker, password []byte, needsPassword, isNewURL
 		}
 	}
 	broker.URL = strings.TrimRight(broker.URL, "/")
-	if broker.User == "" || strings.ContainsAny(broker.User, ":\x00") {
-		return fault(Invalid, "the user at a broker isn't empty, and has neither a colon nor a NUL")
+	if broker.User == "" || strings.ContainsAny(broker.User, ":\x00") || !utf8.ValidString(broker.User) {
+		return fault(Invalid, "the user at a broker is UTF-8, isn't empty, and has neither a colon nor a NUL")
 	}
 	if err := checkSettings(broker.Settings); err != nil {
 		return err
@@ -116,7 +152,7 @@ func (o *Orders) finish(broker *Broker, password []byte, needsPassword, isNewURL
 	case o.vault == nil:
 		return fault(Conflict, "there is no key to keep a password with: give the program one, or name a file")
 	}
-	sealed, err := o.vault.Seal(password, PasswordContext(broker.Name))
+	sealed, err := o.vault.Seal(password, PasswordContext(*broker))
 	if err != nil {
 		return err
 	}

@@ -517,7 +517,7 @@ func TestCredentials(t *testing.T) {
 func TestBrokers(t *testing.T) {
 	d := newDesk(t)
 	stored := d.store.brokers["shelf"]
-	password, err := seal{}.Open(stored.Password, PasswordContext("shelf"))
+	password, err := seal{}.Open(stored.Password, PasswordContext(stored))
 	if err != nil || string(password) != "secret" || strings.Contains(stored.URL, "/v2") {
 		t.Errorf("the password is %q: %v", password, err)
 	}
@@ -527,9 +527,30 @@ func TestBrokers(t *testing.T) {
 		return nil
 	}, nil))
 	changed := d.store.brokers["shelf"]
-	if changed.URL != "https://shelf/v" || string(changed.Password) != string(stored.Password) ||
-		*changed.Settings.Hold != 0 || changed.Catalogue == nil {
+	if changed.URL != "https://shelf/v" || *changed.Settings.Hold != 0 || changed.Catalogue == nil {
 		t.Errorf("got %+v", changed)
+	}
+	if password, err := (seal{}).Open(changed.Password, PasswordContext(changed)); string(password) != "secret" {
+		t.Errorf("at the new URL the password is %q: %v, want the one before", password, err)
+	}
+	toUser := func(b *Broker) error { b.User = "another"; return nil }
+	wantFault(t, NewOrders(d.store, nil).SetBroker(background, "shelf", toUser, nil), Conflict, "give the program the key")
+	check(t, d.orders.SetBroker(background, "shelf", toUser, nil))
+	changed = d.store.brokers["shelf"]
+	if password, err := (seal{}).Open(changed.Password, PasswordContext(changed)); string(password) != "secret" {
+		t.Errorf("for the new user the password is %q: %v, want the one before", password, err)
+	}
+	moved := changed
+	moved.URL = "https://evil" // by somebody who can write the store
+	d.store.brokers["shelf"] = moved
+	toURL := func(url string) func(*Broker) error {
+		return func(b *Broker) error { b.URL = url; return nil }
+	}
+	wantFault(t, d.orders.SetBroker(background, "shelf", toURL("https://evil/v"), nil), Conflict, "Give it again")
+	check(t, d.orders.SetBroker(background, "shelf", toURL("https://shelf/v"), nil)) // where it belongs
+	changed = d.store.brokers["shelf"]
+	if password, err := (seal{}).Open(changed.Password, PasswordContext(changed)); string(password) != "secret" {
+		t.Errorf("back at its URL the password is %q: %v, want the one before", password, err)
 	}
 	toFile := func(b *Broker) error { b.PasswordFile = "/run/p"; return nil }
 	check(t, d.orders.SetBroker(background, "shelf", toFile, nil))

@@ -71,6 +71,7 @@ type session struct {
 	store  platform.Store
 	vault  platform.Vault // or nil
 	orders *platform.Orders
+	keys   []string // the files with keys
 }
 
 // A need is what a command works with.
@@ -96,16 +97,18 @@ func (a *app) over(
 				return closed(store, err)
 			}
 		}
-		return closed(store, a.within(c.Context(), store, keys, func(s session) error {
+		return closed(store, a.within(c.Context(), store, keys, warner(c.ErrOrStderr()), func(s session) error {
 			return do(c.Context(), c, s, arguments)
 		}))
 	}
 }
 
 // within calls do in a session over a store, with these keys or nil.
-func (a *app) within(ctx context.Context, store platform.Store, keys *vault.Vault, do func(session) error) error {
+func (a *app) within(
+	ctx context.Context, store platform.Store, keys *vault.Vault, warn func(string), do func(session) error,
+) error {
 	if keys != nil {
-		if err := checkVault(ctx, store, keys); err != nil {
+		if err := useVault(ctx, store, keys, warn); err != nil {
 			return a.judged(err)
 		}
 	}
@@ -117,7 +120,7 @@ func (a *app) within(ctx context.Context, store platform.Store, keys *vault.Vaul
 	}
 	defer journal.close()
 	orders := platform.NewOrders(journal.ordersStore(store), sealing)
-	return a.judged(do(session{store: store, vault: sealing, orders: orders}))
+	return a.judged(do(session{store: store, vault: sealing, orders: orders, keys: a.places.keys()}))
 }
 
 // closed closes a store, and returns the error of what was done with it, or else that of Close.

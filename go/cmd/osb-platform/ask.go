@@ -59,7 +59,7 @@ func (s session) asking(files client.Files, allowHTTP bool, warn func(string)) (
 		return nil, err
 	}
 	asking, err := client.New(client.Options{
-		Password: passwordsOf(own, client.NewPasswords(s.vault, warn)), TLS: files, AllowHTTP: allowHTTP,
+		Password: passwordsOf(own, client.NewPasswords(s.vault, warn, s.keys...)), TLS: files, AllowHTTP: allowHTTP,
 		CatalogueTime: askTime,
 	})
 	return asking, program.Unusable(err)

@@ -184,7 +184,7 @@ func (a *app) addBroker(c *cobra.Command, l *login, broker platform.Broker) erro
 	if broker.PasswordFile, err = absolute(l.passwordFile); err != nil {
 		return err
 	}
-	asking, err := l.client(asVault(keys), warn)
+	asking, err := l.client(asVault(keys), a.places.keys(), warn)
 	if err != nil {
 		return err
 	}
@@ -200,7 +200,7 @@ func (a *app) addBroker(c *cobra.Command, l *login, broker platform.Broker) erro
 	if err != nil {
 		return err
 	}
-	return closed(store, a.within(ctx, store, keys, func(s session) error {
+	return closed(store, a.within(ctx, store, keys, warn, func(s session) error {
 		if err := addTo(s.orders); err != nil {
 			return err
 		}
@@ -244,7 +244,7 @@ nothing more to the broker until the catalogue is answered again, and orders tha
 			if err != nil {
 				return err
 			}
-			asking, err := l.client(s.vault, warn)
+			asking, err := l.client(s.vault, s.keys, warn)
 			if err != nil {
 				return err
 			}

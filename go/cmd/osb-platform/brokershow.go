@@ -133,9 +133,9 @@ func first(text string, most int) string {
 }
 
 // client is what asks for a catalogue.
-func (l *login) client(vault platform.Vault, warn func(string)) (*client.Client, error) {
+func (l *login) client(vault platform.Vault, keys []string, warn func(string)) (*client.Client, error) {
 	asking, err := client.New(client.Options{
-		Password: client.NewPasswords(vault, warn).Of, TLS: l.tls, AllowHTTP: l.allowHTTP, CatalogueTime: askTime,
+		Password: client.NewPasswords(vault, warn, keys...).Of, TLS: l.tls, AllowHTTP: l.allowHTTP, CatalogueTime: askTime,
 	})
 	return asking, program.Unusable(err)
 }

@@ -67,6 +67,10 @@ func rekey(ctx context.Context, p places, file string, to io.Writer, warn func(s
 			err = failed
 		}
 	}()
+	if err := useVault(ctx, store, keys, warn); err != nil && !errors.Is(err, vault.ErrRotating) &&
+		!errors.Is(err, vault.ErrStoreKey) {
+		return err
+	} // a rotation says more of these
 	done, err := keys.Rotate(ctx, store)
 	if done != (vault.Rotated{}) || err == nil {
 		if _, failed := fmt.Fprintf(to, "encrypted again: the credentials of %s, the passwords of %s\n",

@@ -113,7 +113,7 @@ func TestKeyReplacedBesideServe(t *testing.T) {
 		if err != nil {
 			return err
 		}
-		password, err := keys.Open(of.Password, platform.PasswordContext("local"))
+		password, err := keys.Open(of.Password, platform.PasswordContext(of))
 		if string(password) != "secret" {
 			t.Errorf("the password is %q", password)
 		}

@@ -223,8 +223,8 @@ func (r *running) openEngine(ctx context.Context, own string) (err error) {
 		r.log.at(warningLevel, "no_brokers").Str("remedy", "osb-platform broker add NAME URL").Send()
 	}
 	r.client, err = client.New(client.Options{
-		Password: passwordsOf(own, client.NewPasswords(r.vault, r.log.warn)), TLS: s.tls, Connections: s.atOnce,
-		AllowHTTP: s.allowHTTP,
+		Password: passwordsOf(own, client.NewPasswords(r.vault, r.log.warn, r.places.keys()...)), TLS: s.tls,
+		Connections: s.atOnce, AllowHTTP: s.allowHTTP,
 	})
 	if err != nil {
 		return program.Unusable(err)

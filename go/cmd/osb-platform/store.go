@@ -183,13 +183,13 @@ func openVault(
 	if err != nil || opened == nil {
 		return nil, err
 	}
-	if err := checkVault(ctx, store, opened); err != nil {
+	if err := useVault(ctx, store, opened, warn); err != nil {
 		return nil, err
 	}
 	return opened, nil
 }
 
-// readVault is openVault without a store: call checkVault before you use the vault over one.
+// readVault is openVault without a store: call useVault before you use the vault over one.
 func readVault(files []string, warn func(string)) (*vault.Vault, error) {
 	if len(files) == 0 {
 		return nil, nil
@@ -218,14 +218,41 @@ func checkVault(ctx context.Context, store platform.Store, opened *vault.Vault) 
 	if err != nil {
 		return err
 	}
-	switch err := opened.Fits(written); {
+	return keyError(opened.Fits(written))
+}
+
+// useVault brings the passwords of a store of version 0.3 up to date, and returns an error unless a vault can be used
+// over the store.
+func useVault(ctx context.Context, store platform.Store, opened *vault.Vault, warn func(string)) error {
+	done, err := opened.Renew(ctx, store)
+	for _, it := range done.Brokers {
+		warn(fmt.Sprintf("the password of the broker %s, which version 0.3 has encrypted, is encrypted again: for the "+
+			"URL %s and the user %s. If these aren't right, somebody has changed the store: change the password at the "+
+			"broker", it.Name, it.URL, it.User))
+	}
+	for _, it := range done.Unopened {
+		warn(fmt.Sprintf("the password of the broker %s can't be decrypted, and nothing is sent to this broker. Set the "+
+			"password again: osb-platform broker set %s --store-password", it.Name, it.Name))
+	}
+	if errors.Is(err, vault.ErrWorkers) {
+		return &platform.Fault{Kind: platform.Conflict, Text: err.Error() + ", and its passwords are encrypted as " +
+			"version 0.3 did it: stop all workers and every 'serve' once, and run this again"}
+	}
+	return keyError(err)
+}
+
+// keyError says what to do if a vault can't be used over a store.
+func keyError(err error) error {
+	switch {
+	case errors.Is(err, vault.ErrOldPasswords):
+		return program.Unusable(fmt.Errorf("%w: somebody has written an old key's fingerprint into the store", err))
 	case errors.Is(err, vault.ErrRotating):
 		return program.Unusable(fmt.Errorf("%w: run 'osb-platform rekey' again with the files that it was given. "+
 			"Until it has succeeded, name both: --key-file NEW --key-file OLD", err))
-	case err != nil:
+	case errors.Is(err, vault.ErrStoreKey):
 		return program.Unusable(fmt.Errorf("%w: name the file with that key by --key-file", err))
 	}
-	return nil
+	return err
 }
 
 // warner prints warnings.

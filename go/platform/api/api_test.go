@@ -255,17 +255,18 @@ func TestBrokers(t *testing.T) {
 			made.at("password") != "store" || made.at("settings", "hold_seconds") != "1.5" {
 			t.Errorf("it is %s", made.text)
 		}
-		before := r.brokerNamed("other").Password
 		changed := r.call("PUT", path, `{"url": "https://other.example", "user": "you"}`).want(200, "")
 		if changed.at("user") != "you" || changed.at("settings") != "map[]" {
 			t.Errorf("it is %s", changed.text)
 		}
-		if got := r.brokerNamed("other").Password; string(got) != string(before) {
-			t.Error("the password isn't the one before")
+		before := r.brokerNamed("other")
+		if got, err := r.vault.Open(before.Password, platform.PasswordContext(before)); string(got) != "sesame" {
+			t.Errorf("the password is %q, %v, want the one before", got, err)
 		}
 		r.call("PUT", path, `{"url": "https://elsewhere.example", "user": "you"}`).want(400, "password_needed")
 		r.call("PUT", path, `{"url": "https://elsewhere.example", "user": "you", "password": "new"}`).want(200, "")
-		password, err := r.vault.Open(r.brokerNamed("other").Password, platform.PasswordContext("other"))
+		other := r.brokerNamed("other")
+		password, err := r.vault.Open(other.Password, platform.PasswordContext(other))
 		if string(password) != "new" || err != nil {
 			t.Errorf("the password is %q, %v", password, err)
 		}
@@ -287,7 +288,7 @@ func TestBrokers(t *testing.T) {
 			t.Errorf("it is %s", shown.text)
 		}
 		for _, it := range []got{made, changed, listed, shown} {
-			if strings.Contains(it.text, "sesame") || strings.Contains(it.text, string(before)) {
+			if strings.Contains(it.text, "sesame") || strings.Contains(it.text, string(before.Password)) {
 				t.Errorf("it has a password: %s", it.text)
 			}
 		}

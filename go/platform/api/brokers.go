@@ -115,13 +115,16 @@ func (a *asked) putBroker() (answer, error) {
 	var password []byte
 	if given.Password != "" {
 		password = []byte(given.Password)
-		if err := a.CheckKey(a.Context()); err != nil {
-			return answer{}, err
-		}
 	}
 	before, err := a.broker()
 	if err != nil {
 		return answer{}, err
+	}
+	isSealed := password != nil || before != nil && before.Password != nil && before.User != given.User
+	if isSealed {
+		if err := a.CheckKey(a.Context()); err != nil {
+			return answer{}, err
+		}
 	}
 	status, name := http.StatusOK, a.values["name"]
 	if before == nil {
@@ -134,7 +137,7 @@ func (a *asked) putBroker() (answer, error) {
 			return given.change(broker, wanted)
 		}, password)
 	}
-	if err == nil && password != nil { // the key may have been replaced meanwhile, and this password left out
+	if err == nil && isSealed { // the key may have been replaced meanwhile, and this password left out
 		err = a.CheckKey(a.Context())
 	}
 	if err != nil {

@@ -29,8 +29,10 @@ func TestKeyThatWasReplaced(t *testing.T) {
 			t.Error("the password was written")
 		}
 		r.call("GET", credentials, "").want(409, "conflict")
-		r.call("PUT", path, `{"url": "https://shelf.example", "user": "you"}`).want(200, "") // nothing is encrypted
-		asked, from = 0, 2                                                                   // it is replaced while the password is written
+		url, user := r.brokerNamed("shelf").URL, r.brokerNamed("shelf").User
+		r.call("PUT", path, `{"url": "`+url+`", "user": "`+user+`"}`).want(200, "")        // nothing is encrypted
+		r.call("PUT", path, `{"url": "`+url+`", "user": "another"}`).want(409, "conflict") // the password is
+		asked, from = 0, 2                                                                 // it is replaced while the password is written
 		r.call("PUT", path, body).want(409, "conflict")
 		asked = 0
 		r.call("PUT", "/v1/brokers/other", body).want(409, "conflict")

@@ -2,6 +2,7 @@ package client
 
 import (
 	"errors"
+	"fmt"
 	"os"
 	"sync"
 	"time"
@@ -12,9 +13,12 @@ import (
 
 // Passwords are those of brokers: sealed in the store, or in files that are read again when they change. Any number of
 // goroutines use them.
+//
+// A file with a key is never read: whoever writes its name into the store would have the key sent to a URL.
 type Passwords struct {
 	vault platform.Vault
 	warn  func(warning string)
+	keys  []string
 
 	mutex sync.Mutex
 	files map[string]*passwordFile
@@ -34,11 +38,12 @@ type passwordFile struct {
 
 // NewPasswords makes them. The vault may be nil; no sealed password can be opened then. warn is called, one call at a
 // time, with what is for the log: a file whose mode is beyond 0600, and one that can't be read any more. It may be nil.
-func NewPasswords(vault platform.Vault, warn func(warning string)) *Passwords {
+// keys are files with keys, which aren't read.
+func NewPasswords(vault platform.Vault, warn func(warning string), keys ...string) *Passwords {
 	if warn == nil {
 		warn = func(string) {}
 	}
-	return &Passwords{vault: vault, warn: warn, files: make(map[string]*passwordFile)}
+	return &Passwords{vault: vault, warn: warn, keys: keys, files: make(map[string]*passwordFile)}
 }
 
 // Of returns the password of a broker, in clear. A sealed one is opened under platform.PasswordContext. A file has it
@@ -55,8 +60,12 @@ func (p *Passwords) Of(broker platform.Broker) (string, error) {
 	case p.vault == nil:
 		return "", errors.New("it is sealed, and no key is given that opens it")
 	}
-	plain, err := p.vault.Open(broker.Password, platform.PasswordContext(broker.Name))
-	return string(plain), err
+	plain, err := p.vault.Open(broker.Password, platform.PasswordContext(broker))
+	if err != nil {
+		return "", fmt.Errorf("the one in the store isn't encrypted for this URL and this user: %w. Check both, and set "+
+			"the password again: osb-platform broker set %s --store-password", err, broker.Name)
+	}
+	return string(plain), nil
 }
 
 func (p *Passwords) ofFile(name string) (string, error) {
@@ -68,6 +77,10 @@ func (p *Passwords) ofFile(name string) (string, error) {
 		p.files[name] = known
 	}
 	about, err := os.Stat(name)
+	if err == nil && p.isKey(about) {
+		return "", fmt.Errorf("%s has the key of the store, which isn't sent. Name another file: osb-platform broker set "+
+			"NAME --password-file FILE", name)
+	}
 	if err == nil && known.isSettled && isSame(known.about, about) {
 		return known.password, nil
 	}
@@ -89,6 +102,16 @@ func (p *Passwords) ofFile(name string) (string, error) {
 		}
 	}
 	return known.password, nil
+}
+
+// isKey is whether a file has a key.
+func (p *Passwords) isKey(about os.FileInfo) bool {
+	for _, it := range p.keys {
+		if key, err := os.Stat(it); err == nil && os.SameFile(key, about) {
+			return true
+		}
+	}
+	return false
 }
 
 func isSame(one, other os.FileInfo) bool {

@@ -13,24 +13,39 @@ import (
 	"pippinterm/platform/vault"
 )
 
-// A sealed password is opened under the name of its broker, and under no other.
+// A sealed password is opened under the name, the URL and the user of its broker, and under no others.
 func TestSealedPassword(t *testing.T) {
 	safe, err := vault.New([]byte(strings.Repeat("k", vault.ShortestKey)))
 	if err != nil {
 		t.Fatal(err)
 	}
-	sealed, err := safe.Seal([]byte(secret), platform.PasswordContext("postgres"))
-	if err != nil {
+	broker := platform.Broker{Name: "postgres", URL: "https://one.example", User: "platform", PasswordFile: "nowhere"}
+	if broker.Password, err = safe.Seal([]byte(secret), platform.PasswordContext(broker)); err != nil {
 		t.Fatal(err)
 	}
 	passwords := NewPasswords(safe, nil)
-	broker := platform.Broker{Name: "postgres", User: "platform", Password: sealed, PasswordFile: "nowhere"}
 	if got, err := passwords.Of(broker); got != secret || err != nil {
 		t.Errorf("%q, %v", got, err)
 	}
-	broker.Name = "another"
-	if got, err := passwords.Of(broker); err == nil || got != "" {
-		t.Errorf("%q", got)
+	for what, change := range map[string]func(*platform.Broker){
+		"another name": func(b *platform.Broker) { b.Name = "another" },
+		"another URL":  func(b *platform.Broker) { b.URL = "https://two.example" },
+		"another user": func(b *platform.Broker) { b.User = "platfor" },
+		"the user in the URL": func(b *platform.Broker) {
+			b.URL, b.User = b.URL+" 8:platform", ""
+		},
+		"as version 0.3 did": func(b *platform.Broker) {
+			if b.Password, err = safe.Seal([]byte(secret), "broker postgres"); err != nil {
+				t.Fatal(err)
+			}
+		},
+	} {
+		it := broker
+		change(&it)
+		got, err := passwords.Of(it)
+		if err == nil || got != "" || !strings.Contains(err.Error(), "broker set "+it.Name+" --store-password") {
+			t.Errorf("%s: got %q, %v, want an error that says what to do", what, got, err)
+		}
 	}
 	if got, err := NewPasswords(nil, nil).Of(broker); err == nil || got != "" {
 		t.Errorf("%q", got)
@@ -157,6 +172,24 @@ func TestSettledPasswordFile(t *testing.T) {
 		got, err := passwords.Of(platform.Broker{Name: "postgres", PasswordFile: name})
 		if got != row.wanted || err != nil {
 			t.Errorf("%s: %q, %v", row.text, got, err)
+		}
+	}
+}
+
+// The file with the key is no password, under whatever name.
+func TestKeyIsNoPassword(t *testing.T) {
+	key, link := filepath.Join(t.TempDir(), "key"), filepath.Join(t.TempDir(), "link")
+	if err := os.WriteFile(key, []byte(strings.Repeat("k", vault.ShortestKey)), 0o600); err != nil {
+		t.Fatal(err)
+	}
+	if err := os.Link(key, link); err != nil {
+		t.Fatal(err)
+	}
+	passwords := NewPasswords(nil, nil, filepath.Join(t.TempDir(), "nowhere"), key)
+	for _, file := range []string{key, link, filepath.Join(filepath.Dir(key), ".", "key")} {
+		got, err := passwords.Of(platform.Broker{Name: "b", PasswordFile: file})
+		if got != "" || err == nil || !strings.Contains(err.Error(), "has the key of the store") {
+			t.Errorf("%s: got %q, %v, want an error", file, got, err)
 		}
 	}
 }

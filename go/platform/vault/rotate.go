@@ -34,19 +34,13 @@ var (
 // Fits returns nil if the vault can be used over a store, by what Store.Fingerprint has returned. While the key of the
 // store is being replaced, that is the fingerprints of the new key and of the old one.
 //
-// Errors: ErrStoreKey; ErrRotating.
+// Errors: ErrStoreKey; ErrRotating; ErrOldPasswords if the keys are right, and Renew has to be called first.
 func (v *Vault) Fits(written string) error {
-	fingerprints := strings.Fields(written)
-	isRotating := len(fingerprints) > 1
-	for at, it := range fingerprints {
-		switch {
-		case isRotating && (at == 0 && it != v.Fingerprint() || !v.Knows(it)):
-			return ErrRotating
-		case !v.Knows(it):
-			return ErrStoreKey
-		}
+	_, target, err := v.marks(written)
+	if err == nil && target != written {
+		err = ErrOldPasswords
 	}
-	return nil
+	return err
 }
 
 // Rotated is what a rotation has sealed again.
@@ -60,8 +54,8 @@ type Rotated struct{ Credentials, Passwords int }
 // A Rotate that has ended in the middle is finished by a further one with the same keys. Until then the vaults that fit
 // the store are those with both keys, of which the first seals.
 //
-// Errors: ErrSameKey, ErrStoreKey, ErrRotating and ErrWorkers, and then nothing has changed; ErrUnopened, and then
-// everything else is sealed again, and the store still waits for the end of the rotation; those of the Store.
+// Errors: ErrSameKey, ErrStoreKey, ErrRotating, ErrOldPasswords and ErrWorkers, and then nothing has changed;
+// ErrUnopened, and then everything else is sealed again, and the store still waits for the end of the rotation; those of the Store.
 func (v *Vault) Rotate(ctx context.Context, store platform.Store) (Rotated, error) {
 	mark, err := v.begin(ctx, store)
 	if err != nil {
@@ -161,7 +155,7 @@ func (r *rotation) passwords(ctx context.Context) error {
 		}
 		isChanged, failed := false, error(nil)
 		err := r.store.ChangeBroker(ctx, it.Name, func(broker platform.Broker) (*platform.Broker, error) {
-			broker.Password, isChanged, failed = r.again(broker.Password, platform.PasswordContext(broker.Name))
+			broker.Password, isChanged, failed = r.again(broker.Password, platform.PasswordContext(broker))
 			if failed != nil || !isChanged {
 				return nil, nil
 			}

@@ -95,7 +95,7 @@ func (r *rig) opens(t *testing.T, v *Vault) (opened int) {
 	brokers, err := r.Brokers(background)
 	check(t, err)
 	for _, it := range brokers {
-		plain, err := v.Open(it.Password, platform.PasswordContext(it.Name))
+		plain, err := v.Open(it.Password, platform.PasswordContext(it))
 		if it.Name == "shop" && err == nil && string(plain) == "hunter2" {
 			opened++
 		}

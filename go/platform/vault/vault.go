@@ -59,6 +59,7 @@ var _ platform.Vault = (*Vault)(nil)
 type key struct {
 	id          [idSize]byte
 	fingerprint string
+	former      string // the fingerprint that version 0.3 writes
 	aead        cipher.AEAD
 }
 
@@ -94,7 +95,8 @@ func newKey(secret []byte) (key, error) {
 	if err != nil {
 		return key{}, err
 	}
-	made := key{aead: aead, fingerprint: hex.EncodeToString(expand(extracted, "fingerprint")[:16])}
+	named := func(purpose string) string { return hex.EncodeToString(expand(extracted, purpose)[:16]) }
+	made := key{aead: aead, fingerprint: named("fingerprint 2"), former: named("fingerprint")}
 	copy(made.id[:], expand(extracted, "id"))
 	return made, nil
 }
@@ -104,23 +106,32 @@ func newKey(secret []byte) (key, error) {
 //
 // Errors: the system gives no random bytes.
 func (v *Vault) Seal(plain []byte, context string) ([]byte, error) {
-	first := v.keys[0]
+	return v.sealBy(v.keys[0], plain, context)
+}
+
+func (v *Vault) sealBy(by key, plain []byte, context string) ([]byte, error) {
 	sealed := make([]byte, headSize+nonceSize, leastSize+len(plain))
 	sealed[0] = version
-	copy(sealed[1:], first.id[:])
+	copy(sealed[1:], by.id[:])
 	nonce := sealed[headSize:]
 	if _, err := io.ReadFull(v.random, nonce); err != nil {
 		return nil, fmt.Errorf("random bytes: %w", err)
 	}
-	return first.aead.Seal(sealed, nonce, plain, additional(sealed[:headSize], context)), nil
+	return by.aead.Seal(sealed, nonce, plain, additional(sealed[:headSize], context)), nil
 }
 
 // Open returns the secret of its sealed form.
 //
 // Errors: ErrMalformed, ErrOtherKey, ErrChanged.
 func (v *Vault) Open(sealed []byte, context string) ([]byte, error) {
+	plain, _, err := v.open(sealed, context)
+	return plain, err
+}
+
+// open is Open, with the key that has opened it.
+func (v *Vault) open(sealed []byte, context string) (plain []byte, by key, err error) {
 	if len(sealed) < leastSize || sealed[0] != version {
-		return nil, ErrMalformed
+		return nil, key{}, ErrMalformed
 	}
 	nonce, rest := sealed[headSize:headSize+nonceSize], sealed[headSize+nonceSize:]
 	failed := ErrOtherKey
@@ -129,11 +140,11 @@ func (v *Vault) Open(sealed []byte, context string) ([]byte, error) {
 			continue
 		}
 		if plain, err := it.aead.Open(nil, nonce, rest, additional(sealed[:headSize], context)); err == nil {
-			return plain, nil
+			return plain, it, nil
 		}
 		failed = ErrChanged
 	}
-	return nil, failed
+	return nil, key{}, failed
 }
 
 // Rekey returns the secret of a sealed form sealed anew with the first key, or the form as it is and false if the first
@@ -152,7 +163,8 @@ func (v *Vault) Rekey(sealed []byte, context string) (again []byte, isChanged bo
 	return again, err == nil, err
 }
 
-// Fingerprint is the same for the same first key, and shows nothing of it. It is 32 hexadecimal digits.
+// Fingerprint is the same for the same first key, and shows nothing of it. It is 32 hexadecimal digits. It isn't the one
+// of version 0.3: by it a store says that its passwords are sealed under platform.PasswordContext (Renew).
 func (v *Vault) Fingerprint() string { return v.keys[0].fingerprint }
 
 // Knows returns whether one of the keys has this fingerprint. While a key is replaced, a store still has that of the

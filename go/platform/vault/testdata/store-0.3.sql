@@ -1,0 +1,34 @@
+-- A store that version 0.3.0 has written: the broker shop (me, password hunter2), the broker other (you, password other)
+-- and the broker filed (a file with the password). The key is the first one of vault_test.go.
+BEGIN TRANSACTION;
+CREATE TABLE osb_bindings (instance text NOT NULL, id text NOT NULL, service text NOT NULL, plan text NOT NULL, further text NOT NULL, record text, operation text, state text NOT NULL, since double precision NOT NULL, sent_until double precision, polled_since double precision, removal integer NOT NULL, due double precision, tries integer NOT NULL, worker text, leased_until double precision, broker text NOT NULL, instance_name text, service_name text, plan_name text, is_own integer NOT NULL, organization text NOT NULL, space text NOT NULL, identity text NOT NULL, try integer NOT NULL, most_tries integer NOT NULL, first text, has_last integer NOT NULL, last text, failure text, is_passing integer NOT NULL, after_ms integer NOT NULL, dashboard text, metadata text, because text, binding_name text, credentials blob, may_exist integer NOT NULL, PRIMARY KEY (instance, id));
+CREATE TABLE osb_broker_asked (one integer PRIMARY KEY CHECK (one = 1), url text NOT NULL);
+INSERT INTO "osb_broker_asked" VALUES(1,'of a later version of osb-platform, which this one must not run beside');
+CREATE TABLE osb_brokers (name text PRIMARY KEY, url text NOT NULL, user text NOT NULL, password blob, password_file text NOT NULL, settings text NOT NULL, catalogue text, catalogue_at double precision, reason text) WITHOUT ROWID;
+INSERT INTO "osb_brokers" VALUES('filed','http://127.0.0.1:1','platform',NULL,'/srv/password','{}',NULL,NULL,'{"at":"2026-11-28T19:09:33.76Z","kind":"catalogue","lost":"the catalogue of filed: nothing was sent: dial tcp 127.0.0.1:1: connect: connection refused"}');
+INSERT INTO "osb_brokers" VALUES('other','http://127.0.0.1:1/o','you',X'01DB1753F010DF6214965096F5F387041017837C726654FA46365F07113EC1E44153F301354F6F509B7E','','{}',NULL,NULL,'{"at":"2026-11-28T19:09:33.876Z","kind":"catalogue","lost":"the catalogue of other: nothing was sent: dial tcp 127.0.0.1:1: connect: connection refused"}');
+INSERT INTO "osb_brokers" VALUES('shop','http://127.0.0.1:1/v','me',X'01DB1753F010DF621473A18177886E87844C3AE21C3B924BF814E09F5B73C9D81F1604551CD896C509308595','','{}',NULL,NULL,'{"at":"2026-11-28T19:09:33.652Z","kind":"catalogue","lost":"the catalogue of shop: nothing was sent: dial tcp 127.0.0.1:1: connect: connection refused"}');
+CREATE TABLE osb_counts (broker text NOT NULL, is_binding integer NOT NULL, state text NOT NULL, count integer NOT NULL, PRIMARY KEY (broker, is_binding, state)) WITHOUT ROWID;
+CREATE TABLE osb_instances (id text PRIMARY KEY, service text NOT NULL, plan text NOT NULL, further text NOT NULL, record text, operation text, state text NOT NULL, since double precision NOT NULL, sent_until double precision, polled_since double precision, removal integer NOT NULL, due double precision, tries integer NOT NULL, worker text, leased_until double precision, broker text NOT NULL DEFAULT 'default', instance_name text, service_name text, plan_name text, is_own integer NOT NULL DEFAULT 0, organization text NOT NULL DEFAULT 'osb-platform', space text NOT NULL DEFAULT 'osb-platform', identity text NOT NULL DEFAULT '', try integer NOT NULL DEFAULT 1, most_tries integer NOT NULL DEFAULT 1, first text, has_last integer NOT NULL DEFAULT 0, last text, failure text, is_passing integer NOT NULL DEFAULT 0, after_ms integer NOT NULL DEFAULT 0, dashboard text, metadata text, because text);
+CREATE TABLE osb_lives (id text NOT NULL, number integer NOT NULL, state text NOT NULL, since double precision NOT NULL, PRIMARY KEY (id, number));
+CREATE TABLE osb_readiness (one integer PRIMARY KEY CHECK (one = 1), asked integer NOT NULL);
+CREATE TABLE osb_store (one integer PRIMARY KEY CHECK (one = 1), fingerprint text);
+INSERT INTO "osb_store" VALUES(1,'222467f16c1f06c92e12220847c420e6');
+CREATE INDEX osb_instances_by_state ON osb_instances (state, since, id);
+CREATE INDEX osb_leased_instances ON osb_instances (leased_until) WHERE worker IS NOT NULL;
+CREATE INDEX osb_instances_to_do ON osb_instances (broker, due, leased_until) WHERE due IS NOT NULL;
+CREATE INDEX osb_bindings_to_do ON osb_bindings (broker, due, leased_until) WHERE due IS NOT NULL;
+CREATE INDEX osb_instances_by_broker ON osb_instances (broker, state, since, id);
+CREATE INDEX osb_bindings_by_broker ON osb_bindings (broker, state, since, instance, id);
+CREATE INDEX osb_bindings_by_state ON osb_bindings (state, since, instance, id);
+CREATE INDEX osb_bindings_by_id ON osb_bindings (id);
+CREATE INDEX osb_leased_bindings ON osb_bindings (leased_until) WHERE worker IS NOT NULL;
+CREATE INDEX osb_instances_tried_again ON osb_instances (first) WHERE first IS NOT NULL;
+CREATE INDEX osb_bindings_tried_again ON osb_bindings (first) WHERE first IS NOT NULL;
+CREATE INDEX osb_bindings_that_may_exist ON osb_bindings (instance) WHERE may_exist;
+CREATE TRIGGER osb_instances_counted AFTER INSERT ON osb_instances BEGIN INSERT INTO osb_counts VALUES (NEW.broker, 0, NEW.state, 1) ON CONFLICT (broker, is_binding, state) DO UPDATE SET count = count + 1; END;
+CREATE TRIGGER osb_bindings_counted AFTER INSERT ON osb_bindings BEGIN INSERT INTO osb_counts VALUES (NEW.broker, 1, NEW.state, 1) ON CONFLICT (broker, is_binding, state) DO UPDATE SET count = count + 1; END;
+CREATE TRIGGER osb_instances_recounted AFTER UPDATE OF state ON osb_instances WHEN OLD.state <> NEW.state BEGIN UPDATE osb_counts SET count = count - 1 WHERE broker = OLD.broker AND is_binding = 0 AND state = OLD.state; INSERT INTO osb_counts VALUES (NEW.broker, 0, NEW.state, 1) ON CONFLICT (broker, is_binding, state) DO UPDATE SET count = count + 1; END;
+CREATE TRIGGER osb_bindings_recounted AFTER UPDATE OF state ON osb_bindings WHEN OLD.state <> NEW.state BEGIN UPDATE osb_counts SET count = count - 1 WHERE broker = OLD.broker AND is_binding = 1 AND state = OLD.state; INSERT INTO osb_counts VALUES (NEW.broker, 1, NEW.state, 1) ON CONFLICT (broker, is_binding, state) DO UPDATE SET count = count + 1; END;
+COMMIT;
+PRAGMA user_version = 3;
