@@ -304,6 +304,7 @@ func (h *Handler) admit(x *exchange) (reply, bool) {
 			h.wait(h.Limiter.Failed(x.Address))
 		}
 		x.header.Set("WWW-Authenticate", `Basic realm="service broker", charset="UTF-8"`)
+		x.header.Set("Connection", "close") // nobody without a password keeps a connection
 		sentence := wrongLogin
 		if len(authorization) == 0 {
 			sentence = noLogin

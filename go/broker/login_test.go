@@ -132,6 +132,26 @@ func TestWhatALoginIsTold(t *testing.T) {
 	}
 }
 
+// The connection of a wrong login is closed, and that of the right one is kept, also if its request is rejected.
+func TestAWrongLoginKeepsNoConnection(t *testing.T) {
+	s := newSite(t, setting{})
+	for name, it := range map[string]struct {
+		change func(*http.Request)
+		status int
+		want   string
+	}{
+		"no login":          {func(r *http.Request) { r.Header.Del("Authorization") }, 401, "close"},
+		"a wrong login":     {wrongLogin, 401, "close"},
+		"the right one":     {func(*http.Request) {}, 200, ""},
+		"a foreign version": {header("X-Broker-API-Version", "3.0"), 412, ""},
+	} {
+		given, _ := s.ask("GET", "/v2/catalog", "", it.change)
+		if got := given.Header.Get("Connection"); given.StatusCode != it.status || got != it.want {
+			t.Errorf("%s: got %d, Connection %q, want %d, %q", name, given.StatusCode, got, it.status, it.want)
+		}
+	}
+}
+
 // An unread body fails the test if it is read.
 type unread struct{ t *testing.T }
 

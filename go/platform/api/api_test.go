@@ -387,6 +387,17 @@ func TestTokens(t *testing.T) {
 	r.do(request).want(200, "")
 }
 
+// The connection of whoever may not ask is closed.
+func TestARejectedTokenKeepsNoConnection(t *testing.T) {
+	r := newRig(t, newFake())
+	for token, want := range map[string]string{"": "close", "wrong": "close", writing: "close", reading: ""} {
+		got := r.callAs(token, "GET", "/v1/counts", "")
+		if connection := got.header.Get("Connection"); connection != want {
+			t.Errorf("%d: got Connection %q, want %q", got.status, connection, want)
+		}
+	}
+}
+
 func TestRoutes(t *testing.T) {
 	r := newRig(t, newFake())
 	for _, it := range []string{

@@ -213,8 +213,11 @@ func (h *handler) write(w http.ResponseWriter, r *http.Request, given answer, ki
 	if given.location != "" {
 		header.Set("Location", given.location)
 	}
-	if given.status == http.StatusServiceUnavailable {
+	switch given.status {
+	case http.StatusServiceUnavailable:
 		header.Set("Retry-After", "5")
+	case http.StatusUnauthorized, http.StatusForbidden:
+		header.Set("Connection", "close") // nobody without a token keeps a connection
 	}
 	if text != nil {
 		header.Set("Content-Type", kind)

@@ -136,6 +136,9 @@ func (h *handler) ServeHTTP(w http.ResponseWriter, r *http.Request) {
 	} {
 		header.Set(name, value)
 	}
+	if status == http.StatusUnauthorized || status == http.StatusMisdirectedRequest {
+		header.Set("Connection", "close") // nobody without a password, or by a foreign name, keeps a connection
+	}
 	w.WriteHeader(status)
 	if r.Method != http.MethodHead {
 		_, _ = w.Write(text) // whoever has asked has gone

@@ -315,6 +315,27 @@ func (c *counting) Failed(address string) time.Duration {
 	return 0
 }
 
+// The connection of whoever has no password, or asks by a foreign name, is closed.
+func TestARejectedRequestKeepsNoConnection(t *testing.T) {
+	h := pageOf(t, shelf(), Options{Users: map[string][]string{"me": {"old"}}})
+	for name, it := range map[string]struct {
+		host, password, want string
+		status               int
+	}{
+		"the right one":    {"127.0.0.1:8090", "old", "", 200},
+		"a wrong password": {"127.0.0.1:8090", "new", "close", 401},
+		"a foreign name":   {"evil.example", "old", "close", 421},
+	} {
+		r := request("GET", "/")
+		r.Host = it.host
+		r.SetBasicAuth("me", it.password)
+		answered := answerTo(h, r)
+		if got := answered.Header().Get("Connection"); answered.Code != it.status || got != it.want {
+			t.Errorf("%s: got %d, Connection %q, want %d, %q", name, answered.Code, got, it.status, it.want)
+		}
+	}
+}
+
 // An hour has each failed login wait for an hour.
 type hour struct{}
 
