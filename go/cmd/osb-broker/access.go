@@ -18,6 +18,7 @@ type access struct {
 	settings     *settings
 	log          *logs.Logger
 	users        *broker.Users
+	short        []string             // the users whose passwords could be guessed at the start
 	certificates *server.Certificates // nil without TLS
 }
 
@@ -28,6 +29,7 @@ func accessOf(s *settings, log *logs.Logger) (*access, error) {
 	if err != nil {
 		return nil, program.Unusable(err)
 	}
+	a.short = secrets.Short(passwords)
 	if a.users, err = broker.NewUsers(passwords); err != nil {
 		return nil, program.Unusable(err)
 	}
@@ -66,7 +68,11 @@ func (a *access) reloadUsers() error {
 	if err != nil {
 		return err
 	}
-	return a.users.Replace(passwords)
+	if err := a.users.Replace(passwords); err != nil {
+		return err
+	}
+	a.warn(secrets.Short(passwords))
+	return nil
 }
 
 // report logs what came of reading again.
@@ -78,15 +84,18 @@ func (a *access) report(what string, err error) {
 	a.log.Info(what + "_reloaded").Send()
 }
 
-// passwords reads the passwords of each user, and logs a warning if others can read their file, and one of each user
-// whose password can be guessed.
+// warn logs a warning of each of these users, whose passwords can be guessed.
+func (a *access) warn(short []string) {
+	for _, user := range short {
+		a.log.Warning("short_password").Str("user", user).Int("fewer_bytes_than", secrets.ShortestPassword).Send()
+	}
+}
+
+// passwords reads the passwords of each user, and logs a warning if others can read their file.
 func (a *access) passwords() (map[string][]string, error) {
 	all, warning, err := passwordsOf(a.settings)
 	if warning != "" {
 		a.log.Warning("secret").Str("warning", warning).Send()
-	}
-	for _, user := range secrets.Short(all) {
-		a.log.Warning("short_password").Str("user", user).Int("fewer_bytes_than", secrets.ShortestPassword).Send()
 	}
 	return all, err
 }

@@ -224,6 +224,7 @@ func (r *running) sites(ctx context.Context) ([]server.Site, error) {
 	if err != nil {
 		return nil, program.Unusable(fmt.Errorf("--listen %s: %w", s.listen, err))
 	}
+	r.access.warn(r.access.short)
 	if certificates == nil && !isLoopback(r.main.Addr()) {
 		r.log.Warning("no_tls").Str("listen", s.listen).Send()
 	}

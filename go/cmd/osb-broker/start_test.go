@@ -34,7 +34,7 @@ func TestAddressInUse(t *testing.T) {
 	}
 	defer used.Close()
 	address := used.Addr().String()
-	says := ": can't listen: listen tcp " + address + ": bind: address already in use. "
+	says := ": can't listen: listen tcp4 " + address + ": bind: address already in use. "
 	unusable(t, "--listen "+address+says+"Stop", "serve", "--state", t.TempDir(), "--listen", address)
 	unusable(t, "--listen "+address+says+"A program has this address alone: stop it", "serve", "--state", t.TempDir(),
 		"--listen", address, "--share-port")
