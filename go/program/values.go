@@ -3,6 +3,7 @@ package program
 import (
 	"fmt"
 	"net"
+	"net/netip"
 	"strconv"
 	"strings"
 	"time"
@@ -40,6 +41,11 @@ func Address(to *string, standard string) pflag.Value {
 	*to = standard
 	return (*address)(to)
 }
+
+// Networks returns the value of a flag that may be given several times: each time it is an IP address, or a network such
+// as 10.1.0.0/16, which is added to *to. If the text is anything else, or the network of all addresses, Set returns an
+// error and leaves *to unchanged.
+func Networks(to *[]netip.Prefix) pflag.Value { return (*networks)(to) }
 
 // Place returns the value of a flag that is the path of a file or a folder, or the URL of a PostgreSQL server. It sets
 // *to to standard immediately, and to the text when the flag is read. Set returns the error of CheckPlace, and leaves
@@ -144,6 +150,33 @@ func (a *address) Set(text string) error {
 }
 
 func (a *address) Type() string { return "host:port" }
+
+type networks []netip.Prefix
+
+func (n *networks) String() string {
+	var texts []string
+	for _, it := range *n {
+		texts = append(texts, it.String())
+	}
+	return strings.Join(texts, ",")
+}
+
+func (n *networks) Set(text string) error {
+	network, err := netip.ParsePrefix(text)
+	if address, failed := netip.ParseAddr(text); failed == nil && address.Zone() == "" {
+		network, err = netip.PrefixFrom(address, address.BitLen()), nil
+	}
+	switch {
+	case err != nil || network.Addr().Is4In6():
+		return fmt.Errorf("want an address or a network, such as 10.1.2.3 or 10.1.0.0/16")
+	case network.Bits() == 0:
+		return fmt.Errorf("want a smaller network: with %s, each client could name any address as its own", text)
+	}
+	*n = append(*n, network.Masked())
+	return nil
+}
+
+func (n *networks) Type() string { return "network" }
 
 func isPort(text string) bool {
 	if strings.Trim(text, "0123456789") != "" {

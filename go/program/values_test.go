@@ -1,6 +1,7 @@
 package program
 
 import (
+	"net/netip"
 	"testing"
 	"time"
 
@@ -65,6 +66,30 @@ func TestAddress(t *testing.T) {
 		if got != want {
 			t.Errorf("%q: %q, want %q", text, got, want)
 		}
+	}
+}
+
+func TestNetworks(t *testing.T) {
+	var got []netip.Prefix
+	value := Networks(&got)
+	for text, isNetwork := range map[string]bool{
+		"10.1.2.3": true, "10.1.2.3/16": true, "2001:db8::1": true, "2001:db8::/32": true, "0.0.0.0/1": true,
+		"0.0.0.0/0": false, "::/0": false, "10.1.2": false, "10.1.0.0/33": false, "a.example": false, "": false,
+		"fe80::1%eth0": false, "::ffff:10.0.0.0/104": false, "10.1.2.3:80": false, "10.0.0.1,10.0.0.2": false,
+	} {
+		got = nil
+		if err := value.Set(text); (err == nil) != isNetwork || len(got) > 0 != isNetwork {
+			t.Errorf("%q: got %v, %v", text, got, err)
+		}
+	}
+	got = nil
+	for _, it := range []string{"10.1.2.3/16", "192.0.2.1"} {
+		if err := value.Set(it); err != nil {
+			t.Fatal(err)
+		}
+	}
+	if want := "10.1.0.0/16,192.0.2.1/32"; value.String() != want {
+		t.Errorf("got %s, want %s", value, want)
 	}
 }
 

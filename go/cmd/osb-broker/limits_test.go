@@ -96,7 +96,7 @@ func TestHealthWhileAllConnectionsAreTaken(t *testing.T) {
 	const connections = 3
 	address := freeAddress(t)
 	s := start(t, []string{password}, "--state", t.TempDir(), "--connections", fmt.Sprint(connections),
-		"--health-listen", address)
+		"--connections-per-address", fmt.Sprint(connections), "--health-listen", address)
 	for count := 0; count < connections; count++ { // each has sent a request, so it isn't closed as a silent one
 		conn := s.dial()
 		if _, err := fmt.Fprintf(conn, "GET /v2/catalog HTTP/1.1%s\r\n", headers()); err != nil {

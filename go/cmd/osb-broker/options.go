@@ -1,6 +1,7 @@
 package main
 
 import (
+	"net/netip"
 	"os"
 	"path/filepath"
 	"strings"
@@ -26,6 +27,8 @@ type settings struct {
 	waitForPoll                   time.Duration
 	idsReturnAfter                int // in seconds, or 0
 	threads, workers, connections int
+	perAddress                    int // connections, or 0 for a quarter of them
+	trustedProxies                []netip.Prefix
 	longestBody, perInstance      int
 	requestTime, sweepTime        time.Duration
 	stopTime, commandTime         time.Duration
@@ -133,6 +136,11 @@ func (s *settings) addLimits(flags *pflag.FlagSet) {
 	flags.Var(program.Count(&s.threads, 64, 1, most), "threads", "requests that are carried out at once")
 	flags.Var(program.Count(&s.workers, 4, 1, most), "workers", "operations and pending work at once, besides requests")
 	flags.Var(program.Count(&s.connections, 800, 1, most), "connections", "connections of clients at once")
+	flags.Var(program.Count(&s.perAddress, 0, 1, most), "connections-per-address",
+		"`number` of connections of each client's address at once (default: a quarter of --connections)")
+	flags.Var(program.Networks(&s.trustedProxies), "trusted-proxy",
+		"the `network` of a proxy that names its clients, by the PROXY protocol or by X-Forwarded-For: an address, or "+
+			"such as 10.1.0.0/16. May be given several times")
 	flags.Var(program.Count(&s.longestBody, 1<<20, 1, most), "longest-body", "the greatest length of a body, in bytes")
 	flags.Var(program.Seconds(&s.requestTime, 30*time.Second), "request-seconds", "in which a request has to arrive")
 	flags.Var(program.Seconds(&s.sweepTime, 5*time.Second), "sweep-seconds", "between two looks for unfinished work")

@@ -219,7 +219,8 @@ func (r *running) sites(ctx context.Context) ([]server.Site, error) {
 	s, certificates := r.settings, r.access.certificates
 	var err error
 	r.main, err = server.Listen(ctx, s.listen, server.Options{
-		Connections: s.connections, Share: s.sharePort, Certificates: certificates, Observer: r.observer,
+		Connections: s.connections, PerAddress: s.perAddress, TrustedProxies: s.trustedProxies, Share: s.sharePort,
+		Certificates: certificates, Observer: r.observer,
 	})
 	if err != nil {
 		return nil, program.Unusable(fmt.Errorf("--listen %s: %w", s.listen, err))

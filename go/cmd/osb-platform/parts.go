@@ -9,6 +9,7 @@ import (
 	"fmt"
 	"net"
 	"net/http"
+	"net/netip"
 	"time"
 
 	"pippinterm/platform"
@@ -41,6 +42,8 @@ const slowest = 10 * time.Second
 type part struct {
 	option, address string // the option that names the address, which is empty if the part isn't wanted
 	connections     int
+	perAddress      int // of them, or 0 for a quarter
+	trusted         []netip.Prefix
 	silence         time.Duration        // how long a new connection may send nothing, or 0 for the usual
 	certificates    *server.Certificates // or nil for HTTP
 	make            func() (http.Handler, error)
@@ -65,11 +68,11 @@ func (r *running) parts(work context.Context, whenStopping func(func())) []part 
 	return []part{
 		{
 			option: "--page", address: s.page, connections: pageConnections, silence: pageSilence, make: pagePart,
-			url: &r.pageURL,
+			url: &r.pageURL, perAddress: s.perAddress, trusted: s.trustedProxies,
 		},
 		{
 			option: "--api", address: s.api, connections: apiConnections, certificates: r.apiTLS, make: r.api,
-			url: &r.apiURL,
+			url: &r.apiURL, perAddress: s.perAddress, trusted: s.trustedProxies,
 		},
 		{
 			option: "--health-listen", address: s.healthListen, connections: healthConnections, make: healthPart,
@@ -233,8 +236,8 @@ func (r *running) site(work context.Context, of part) (server.Site, error) {
 		return server.Site{}, err
 	}
 	listener, err := server.Listen(work, of.address, server.Options{
-		Connections: of.connections, Silent: of.silence, Write: slowest, Certificates: of.certificates,
-		Observer: serverObserver{to: r.observer},
+		Connections: of.connections, PerAddress: of.perAddress, TrustedProxies: of.trusted, Silent: of.silence,
+		Write: slowest, Certificates: of.certificates, Observer: serverObserver{to: r.observer},
 	})
 	if err != nil {
 		return server.Site{}, err

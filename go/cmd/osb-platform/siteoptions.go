@@ -2,6 +2,7 @@ package main
 
 import (
 	"errors"
+	"net/netip"
 
 	"github.com/spf13/pflag"
 
@@ -16,6 +17,8 @@ type siteSettings struct {
 	pageHosts       []string
 	api, apiTokens  string
 	apiTLS          server.CertificateFiles
+	perAddress      int // connections, or 0 for a quarter of those of the page or the API
+	trustedProxies  []netip.Prefix
 }
 
 func (s *siteSettings) add(flags *pflag.FlagSet) {
@@ -31,6 +34,12 @@ func (s *siteSettings) add(flags *pflag.FlagSet) {
 	flags.StringVar(&s.apiTLS.Certificate, "api-tls-certificate", "",
 		"a `file` with the certificates of the API, which is HTTPS then")
 	flags.StringVar(&s.apiTLS.Key, "api-tls-key", "", "the `file` with the key of --api-tls-certificate")
+	flags.Var(program.Count(&s.perAddress, 0, 1, apiConnections), "connections-per-address",
+		"`number` of connections of each client's address at once, to the API and to the page (default: 64 and 25, a "+
+			"quarter of all)")
+	flags.Var(program.Networks(&s.trustedProxies), "trusted-proxy",
+		"the `network` of a proxy before the API or the page that names its clients, by the PROXY protocol or by "+
+			"X-Forwarded-For: an address, or such as 10.1.0.0/16. May be given several times")
 }
 
 // check returns an error for options that don't go together.
@@ -42,6 +51,8 @@ func (s *siteSettings) check() error {
 		return program.Unusable(errors.New("--api-tokens and --api-tls-.. go with --api HOST:PORT"))
 	case s.api != "" && s.apiTokens == "":
 		return program.Unusable(errors.New("--api wants a file with tokens: --api-tokens FILE"))
+	case s.page == "" && s.api == "" && (s.perAddress > 0 || len(s.trustedProxies) > 0):
+		return program.Unusable(errors.New("--connections-per-address and --trusted-proxy go with --page or --api"))
 	}
 	return nil
 }

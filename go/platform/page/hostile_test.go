@@ -200,7 +200,7 @@ func TestSilentConnections(t *testing.T) {
 	const connections = 3
 	ctx, cancel := context.WithCancel(background)
 	listener, err := server.Listen(ctx, "127.0.0.1:0", server.Options{
-		Connections: connections, Silent: 200 * time.Millisecond,
+		Connections: connections, PerAddress: connections, Silent: 200 * time.Millisecond,
 	})
 	must(t, err)
 	site := server.Site{Listener: listener, Handler: pageOf(t, shelf(), Options{})}

@@ -6,6 +6,7 @@ import (
 	"io"
 	"net"
 	"net/http"
+	"net/netip"
 	"sync"
 	"sync/atomic"
 	"time"
@@ -22,6 +23,7 @@ type conn struct {
 	net.Conn // gives plain text
 	listener *Listener
 	secure   *tls.Conn // nil without TLS
+	proxied  *proxied  // nil unless it comes from a trusted proxy
 	opened   time.Time
 	closing  sync.Once
 
@@ -37,14 +39,57 @@ type conn struct {
 	isServing  atomic.Bool   // true from begin until net/http waits for the next request
 	isRejected atomic.Bool   // 408 was sent, and nothing may follow
 
-	mutex    sync.Mutex
-	isSilent bool
-	deadline time.Time // the read deadline that net/http has set
+	client atomic.Pointer[net.TCPAddr] // whom a PROXY header has named, or nil
+
+	mutex     sync.Mutex
+	isSilent  bool
+	isClosed  bool
+	isCounted bool         // as a connection of address
+	address   netip.Prefix // of the client
+	deadline  time.Time    // the read deadline that net/http has set
 }
 
 func newConn(listener *Listener, raw net.Conn) *conn {
-	plain, secure := listener.plain(raw)
-	return &conn{Conn: plain, listener: listener, secure: secure, opened: time.Now(), isSilent: true}
+	c := &conn{listener: listener, opened: time.Now(), isSilent: true}
+	if listener.trusts(ipOf(raw.RemoteAddr())) {
+		c.proxied = &proxied{Conn: raw, named: c.named}
+		raw = c.proxied
+	}
+	c.Conn, c.secure = listener.plain(raw)
+	return c
+}
+
+// named takes the client that a PROXY header names. The connection counts as one of that client from then on, unless it
+// is a trusted proxy too.
+//
+// Errors: io.EOF, for which net/http closes the connection without an answer, if the client has all connections that it
+// may have.
+func (c *conn) named(client *net.TCPAddr) error {
+	c.client.Store(client)
+	if c.listener.trusts(ipOf(client)) || c.count() {
+		return nil
+	}
+	return io.EOF
+}
+
+// count counts the connection as one of its client, and returns whether the client may have it.
+func (c *conn) count() bool {
+	address := neighboursOf(ipOf(c.RemoteAddr()))
+	c.mutex.Lock()
+	defer c.mutex.Unlock()
+	if c.isClosed || !c.listener.take(address) {
+		return false
+	}
+	c.isCounted, c.address = true, address
+	return true
+}
+
+// RemoteAddr returns the address of the client. net/http asks for it too early to know what a PROXY header names.
+func (c *conn) RemoteAddr() net.Addr {
+	if client := c.client.Load(); client != nil {
+		return client
+	}
+	return c.Conn.RemoteAddr()
 }
 
 // begin notes that the handler gets the next request, and returns whether the head of that request is bad.
@@ -217,7 +262,18 @@ func (c *conn) Close() error {
 	err := c.Conn.Close()
 	c.closing.Do(func() {
 		c.listener.remove(c)
+		c.uncount()
 		c.listener.free()
 	})
 	return err
+}
+
+// uncount takes back what count has counted.
+func (c *conn) uncount() {
+	c.mutex.Lock()
+	defer c.mutex.Unlock()
+	c.isClosed = true
+	if c.isCounted {
+		c.listener.addresses.give(c.address)
+	}
 }

@@ -14,7 +14,8 @@ const (
 	longestMethod = 20
 )
 
-// A front is the handler that net/http gets. It rejects requests with a bad head.
+// A front is the handler that net/http gets. It rejects requests with a bad head, and refuses those of a client that
+// has too many through a trusted proxy.
 type front struct {
 	next     http.Handler
 	observer broker.Observer
@@ -32,9 +33,17 @@ func (f front) ServeHTTP(w http.ResponseWriter, r *http.Request) {
 	if f.running.begin() {
 		defer f.running.end()
 	}
+	client := c.nameClient(r)
 	if isBad {
 		f.reject(w, r)
 		return
+	}
+	if client.IsValid() {
+		if address := neighboursOf(client); c.listener.take(address) {
+			defer c.listener.addresses.give(address)
+		} else {
+			f.next = http.HandlerFunc(f.refuse)
+		}
 	}
 	if len(r.TransferEncoding) > 0 {
 		w.Header().Set("Connection", "close") // the heads after it aren't followed
@@ -47,17 +56,29 @@ func (f front) ServeHTTP(w http.ResponseWriter, r *http.Request) {
 	f.serveWithBody(w, r, c)
 }
 
-// reject answers a request with a bad head. The answer isn't JSON, so a platform doesn't take it for a decision of the
-// broker about an instance.
+// reject answers a request with a bad head.
 func (f front) reject(w http.ResponseWriter, r *http.Request) {
-	began := time.Now()
 	w.Header().Set("Connection", "close")
-	http.Error(w, "The head of the request can be read in more than one way.", http.StatusBadRequest)
+	f.answer(w, r, http.StatusBadRequest, "The head of the request can be read in more than one way.")
+}
+
+// refuse answers a request of a client that has as many requests as it may have at once. Nothing of it was done.
+func (f front) refuse(w http.ResponseWriter, r *http.Request) {
+	w.Header().Set("Retry-After", "5")
+	f.answer(w, r, http.StatusServiceUnavailable, "Too many requests of this address at once. Nothing was done.")
+}
+
+// answer answers a request that the handler doesn't get. The answer isn't JSON, so a platform doesn't take it for a
+// decision of the broker about an instance.
+func (f front) answer(w http.ResponseWriter, r *http.Request, status int, text string) {
+	began := time.Now()
+	http.Error(w, text, status)
 	f.observer.Answered(broker.Exchange{
 		Route:    otherRoute,
 		Method:   first(r.Method, longestMethod),
 		Target:   broker.LoggedTarget(r.RequestURI),
-		Status:   http.StatusBadRequest,
+		Status:   status,
+		Reason:   text,
 		Duration: time.Since(began),
 		Address:  hostOf(r.RemoteAddr),
 	})

@@ -26,6 +26,15 @@ type Options struct {
 	// Connections is how many connections may be open. It is 800 by default. Further connections wait in the queue of
 	// the kernel until one is closed; none is refused.
 	Connections int
+	// PerAddress is how many connections each address may have open: one of IPv4, or all of a /64 of IPv6. It is a
+	// quarter of Connections by default, and at least 1. Further ones are closed without an answer.
+	PerAddress int
+	// TrustedProxies are the networks of proxies that name their clients, by the PROXY protocol (version 1 or 2) or by
+	// X-Forwarded-For. PerAddress then counts the connections of the client that a PROXY header names, and the requests
+	// of each client that X-Forwarded-For names. A further request is answered with 503. A handler gets the client as
+	// r.RemoteAddr, with port 0 from X-Forwarded-For. From any other address a PROXY header is a bad request, and
+	// X-Forwarded-For says nothing.
+	TrustedProxies []netip.Prefix
 	// Silent is how long a new connection may send nothing of a request. It is 5 seconds by default, and includes the
 	// handshake of TLS. Then the connection is closed without an answer.
 	Silent time.Duration
@@ -37,13 +46,17 @@ type Options struct {
 	// Certificates makes the Listener serve HTTPS, with TLS 1.2 or later, instead of HTTP.
 	Certificates *Certificates
 	// Observer gets an Exchange with the route other for each request that is rejected before the handler gets it. It
-	// gets the failures tls_handshake_failed, and http_server for what net/http logs. It may be nil.
+	// gets the failures tls_handshake_failed, address_at_limit once an address has all connections that it may have, and
+	// http_server for what net/http logs. It may be nil.
 	Observer broker.Observer
 }
 
 func (o Options) withDefaults() Options {
 	if o.Connections == 0 {
 		o.Connections = 800
+	}
+	if o.PerAddress == 0 {
+		o.PerAddress = (o.Connections + 3) / 4
 	}
 	if o.Silent == 0 {
 		o.Silent = 5 * time.Second
@@ -60,9 +73,10 @@ func (o Options) withDefaults() Options {
 // A Listener accepts connections for a Server. Any number of goroutines may use it.
 type Listener struct {
 	net.Listener
-	options Options
-	slots   chan struct{} // has a value for each open connection
-	closed  chan struct{} // is closed by Close
+	options   Options
+	addresses *addresses
+	slots     chan struct{} // has a value for each open connection
+	closed    chan struct{} // is closed by Close
 
 	mutex    sync.Mutex
 	isClosed bool
@@ -92,11 +106,12 @@ func Listen(ctx context.Context, address string, options Options) (*Listener, er
 		return nil, fmt.Errorf("can't listen: %w", err)
 	}
 	return &Listener{
-		Listener: listener,
-		options:  options,
-		slots:    make(chan struct{}, options.Connections),
-		closed:   make(chan struct{}),
-		silent:   make(map[*conn]struct{}),
+		Listener:  listener,
+		options:   options,
+		addresses: newAddresses(options.PerAddress),
+		slots:     make(chan struct{}, options.Connections),
+		closed:    make(chan struct{}),
+		silent:    make(map[*conn]struct{}),
 	}, nil
 }
 
@@ -135,7 +150,8 @@ func (l *Listener) URL() string {
 // Connections returns how many connections are open. While Accept waits for one, that counts too.
 func (l *Listener) Connections() int { return len(l.slots) }
 
-// Accept waits until a further connection is allowed, and then for that connection.
+// Accept waits until a further connection is allowed, and then for that connection. It closes those of addresses that
+// have all connections that they may have.
 //
 // Errors: net.ErrClosed after Close, and those of accept(2), such as EMFILE.
 func (l *Listener) Accept() (net.Conn, error) {
@@ -144,17 +160,30 @@ func (l *Listener) Accept() (net.Conn, error) {
 	case <-l.closed:
 		return nil, net.ErrClosed
 	}
-	raw, err := l.Listener.Accept()
+	accepted, err := l.accept()
 	if err != nil {
 		l.free()
 		return nil, err
 	}
-	accepted := newConn(l, raw)
 	if !l.add(accepted) {
 		_ = accepted.Close() // nothing was sent on it
 		return nil, net.ErrClosed
 	}
 	return accepted, nil
+}
+
+func (l *Listener) accept() (*conn, error) {
+	for {
+		raw, err := l.Listener.Accept()
+		if err != nil {
+			return nil, err
+		}
+		accepted := newConn(l, raw)
+		if accepted.proxied != nil || accepted.count() {
+			return accepted, nil
+		}
+		_ = raw.Close() // nothing was sent on it
+	}
 }
 
 // Close stops listening, and closes the connections on which nothing of a request has come.

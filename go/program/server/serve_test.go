@@ -31,7 +31,7 @@ func (p pause) ServeHTTP(w http.ResponseWriter, r *http.Request) {
 }
 
 func TestConnectionsBeyondTheLimitWait(t *testing.T) {
-	listener := start(t, Options{Connections: 2}, Server{}, echo)
+	listener := start(t, Options{Connections: 2, PerAddress: 2}, Server{}, echo)
 	var clients []client
 	for number := 0; number < 2; number++ {
 		clients = append(clients, dial(t, listener))
@@ -57,7 +57,7 @@ func TestConnectionsBeyondTheLimitWait(t *testing.T) {
 }
 
 func TestAClosedConnectionFreesItsPlaceOnce(t *testing.T) {
-	listener := start(t, Options{Connections: 3}, Server{}, echo)
+	listener := start(t, Options{Connections: 3, PerAddress: 3}, Server{}, echo)
 	for number := 0; number < 20; number++ {
 		client := dial(t, listener)
 		client.send(whole)

@@ -1,0 +1,199 @@
+package main
+
+import (
+	"context"
+	"encoding/json"
+	"net"
+	"net/http"
+	"os"
+	"os/exec"
+	"path/filepath"
+	"reflect"
+	"regexp"
+	"strings"
+	"testing"
+	"time"
+)
+
+// An haproxy is HAProxy with the configuration of deploy/haproxy before one broker. It speaks HTTP on both sides.
+type haproxy struct {
+	t   *testing.T
+	url string
+}
+
+// behind starts HAProxy. change changes the configuration.
+func behind(t *testing.T, s *served, change func(string) string) haproxy {
+	t.Helper()
+	program, err := exec.LookPath("haproxy")
+	if err != nil {
+		program, err = exec.LookPath("/usr/sbin/haproxy")
+	}
+	if err != nil {
+		t.Skip("haproxy isn't installed (Debian: apt-get install haproxy)")
+	}
+	text, err := os.ReadFile("../../../deploy/haproxy/haproxy.cfg")
+	if err != nil {
+		t.Fatal(err)
+	}
+	address := freeAddress(t)
+	config := string(text)
+	for pattern, with := range map[string]string{
+		`bind :443 ssl .*`: "bind " + address, ` ssl verify .*`: "",
+		`(?m)^    server (two|three) .*$`: "", `192\.0\.2\.1:8443`: strings.TrimPrefix(s.url, "http://"),
+	} {
+		before := config
+		if config = regexp.MustCompile(pattern).ReplaceAllString(config, with); config == before {
+			t.Fatalf("the configuration has no %s: %s", pattern, before)
+		}
+	}
+	file := filepath.Join(t.TempDir(), "haproxy.cfg")
+	if err := os.WriteFile(file, []byte(change(config)), 0o600); err != nil {
+		t.Fatal(err)
+	}
+	command := exec.Command(program, "-db", "-f", file)
+	command.Stderr = os.Stderr
+	if err := command.Start(); err != nil {
+		t.Fatal(err)
+	}
+	t.Cleanup(func() {
+		_ = command.Process.Kill()
+		_ = command.Wait()
+	})
+	h := haproxy{t, "http://" + address}
+	for late := time.Now().Add(time.Minute); h.status("127.0.0.1", password, nil) != 200; {
+		if time.Now().After(late) {
+			t.Fatal("haproxy finds no broker in a minute")
+		}
+		time.Sleep(20 * time.Millisecond)
+	}
+	return h
+}
+
+// status asks for the catalogue from an address of this machine, and returns the status, or 0 without an answer.
+func (h haproxy) status(from, login string, header http.Header) int {
+	h.t.Helper()
+	request, err := http.NewRequest("GET", h.url+"/v2/catalog", nil)
+	if err != nil {
+		h.t.Fatal(err)
+	}
+	for name, values := range header {
+		request.Header[name] = values
+	}
+	request.SetBasicAuth("platform", strings.TrimPrefix(login, "OSB_BROKER_PASSWORD="))
+	request.Header.Set("X-Broker-API-Version", "2.17")
+	dialer := net.Dialer{LocalAddr: &net.TCPAddr{IP: net.ParseIP(from)}}
+	client := http.Client{Timeout: 20 * time.Second, Transport: &http.Transport{
+		DisableKeepAlives: true,
+		DialContext: func(ctx context.Context, network, address string) (net.Conn, error) {
+			return dialer.DialContext(ctx, network, address)
+		},
+	}}
+	given, err := client.Do(request)
+	if err != nil {
+		return 0
+	}
+	_ = given.Body.Close()
+	return given.StatusCode
+}
+
+// rejected waits for the addresses of so many failed logins in the log.
+func (s *served) rejected(count int) (addresses []string) {
+	s.t.Helper()
+	for len(addresses) < count {
+		if event := s.event("request"); event["status"] == float64(401) {
+			addresses = append(addresses, event["address"].(string))
+		}
+	}
+	return addresses
+}
+
+// Behind HAProxy with the configuration of the guide, the broker knows its clients by their own addresses, whatever
+// they say of themselves: so who guesses passwords delays nobody else. The same with X-Forwarded-For.
+func TestBehindHAProxy(t *testing.T) {
+	for name, change := range map[string]func(string) string{
+		"the PROXY protocol": func(config string) string { return config },
+		"version 1":          func(config string) string { return strings.ReplaceAll(config, "send-proxy-v2", "send-proxy") },
+		"X-Forwarded-For": func(config string) string {
+			return strings.ReplaceAll(config, "send-proxy-v2", "") + "\n    option forwardfor\n"
+		},
+	} {
+		t.Run(name, func(t *testing.T) {
+			s := start(t, []string{password}, "--state", t.TempDir(), "--trusted-proxy", "127.0.0.1")
+			h := behind(t, s, change)
+			forged := http.Header{"X-Forwarded-For": {"192.0.2.9"}}
+			var want []string
+			for _, from := range []string{"127.0.0.2", "127.0.0.3"} {
+				if got := h.status(from, "wrong", forged); got != 401 {
+					t.Errorf("got %d, want 401", got)
+				}
+				want = append(want, from)
+			}
+			if got := s.rejected(2); !reflect.DeepEqual(got, want) {
+				t.Errorf("got the addresses %v, want %v", got, want)
+			}
+			if got := h.status("127.0.0.2", password, forged); got != 200 {
+				t.Errorf("got %d, want 200", got)
+			}
+			s.stop()
+		})
+	}
+}
+
+// From a proxy that isn't trusted, a PROXY header is a bad request, and X-Forwarded-For says nothing.
+func TestBehindAProxyThatIsNotTrusted(t *testing.T) {
+	s := start(t, []string{password}, "--state", t.TempDir(), "--trusted-proxy", "192.0.2.0/24")
+	h := behind(t, s, func(config string) string { return strings.ReplaceAll(config, "send-proxy-v2", "") })
+	if got := h.status("127.0.0.2", "wrong", http.Header{"X-Forwarded-For": {"127.0.0.2"}}); got != 401 {
+		t.Errorf("got %d, want 401", got)
+	}
+	if got := s.rejected(1); got[0] != "127.0.0.1" {
+		t.Errorf("got the address %s, want that of the proxy", got[0])
+	}
+	connection, err := net.Dial("tcp", strings.TrimPrefix(s.url, "http://"))
+	if err != nil {
+		t.Fatal(err)
+	}
+	defer connection.Close()
+	const sent = "PROXY TCP4 127.0.0.2 127.0.0.1 1 2\r\nGET /v2/catalog HTTP/1.1\r\n\r\n"
+	if _, err := connection.Write([]byte(sent)); err != nil {
+		t.Fatal(err)
+	}
+	answer := make([]byte, 12)
+	if _, err := connection.Read(answer); err != nil || string(answer) != "HTTP/1.1 400" {
+		t.Errorf("got %q, %v, want 400", answer, err)
+	}
+	s.stop()
+}
+
+// One address that keeps connections takes a quarter, and others are answered.
+func TestConnectionsOfOneAddress(t *testing.T) {
+	const connections = 8
+	s := start(t, []string{password}, "--state", t.TempDir(), "--connections", "8")
+	address := strings.TrimPrefix(s.url, "http://")
+	open := 0
+	for count := 0; count < connections; count++ {
+		connection, err := net.Dial("tcp", address)
+		if err != nil {
+			t.Fatal(err)
+		}
+		defer connection.Close()
+		if err := connection.SetDeadline(time.Now().Add(time.Minute)); err != nil {
+			t.Fatal(err)
+		}
+		_, _ = connection.Write([]byte("GET /healthz HTTP/1.1\r\nHost: a\r\n\r\n")) // it may be closed already
+		if got, _ := connection.Read(make([]byte, 1)); got == 1 {
+			open++
+		}
+	}
+	if open != connections/4 {
+		t.Errorf("got %d connections of one address, want %d", open, connections/4)
+	}
+	if got := (haproxy{t, s.url}).status("127.0.0.2", password, nil); got != 200 {
+		t.Errorf("another address got %d, want 200", got)
+	}
+	event, _ := json.Marshal(s.event("address_at_limit"))
+	if !strings.Contains(string(event), "127.0.0.1/32 has 2 connections") {
+		t.Errorf("the log has %s", event)
+	}
+	s.stop()
+}
