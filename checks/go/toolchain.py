@@ -70,6 +70,7 @@ NEEDS = {
     "github.com/spf13/cobra": "golang-github-spf13-cobra-dev",
     "github.com/rs/zerolog": "golang-github-rs-zerolog-dev",
     "github.com/prometheus/client_golang": "golang-github-prometheus-client-golang-dev",
+    "github.com/pires/go-proxyproto": "golang-github-pires-go-proxyproto-dev",
 }
 """The packages of others, and the Debian packages that have them."""
 
