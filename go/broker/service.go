@@ -34,6 +34,10 @@ type Rules struct {
 	// LocksAtOnce is how many requests may take a lock at once, or 0 for any number. If it is less than the number of
 	// requests that are carried out at once, a silent server of the locks doesn't hold up requests that need no lock.
 	LocksAtOnce int
+	// LongestPause is how long a key whose work fails again and again rests at most before a Sweeper goes on with it, or
+	// 0 for DefaultLongestPause. The first rest is as long as the time between two sweeps, and each further one is twice
+	// as long.
+	LongestPause time.Duration
 	// IDsReturnAfter is how old a tombstone has to be to stand in the way of a creation no longer, or 0 if it stands in
 	// the way for good. If it isn't 0, it is ShortestReturn or more, and longer than any request of the old life is
 	// under way (docs/broker-guide.md).

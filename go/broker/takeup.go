@@ -2,6 +2,7 @@ package broker
 
 import (
 	"context"
+	"errors"
 	"fmt"
 	"net/http"
 	"time"
@@ -18,46 +19,84 @@ const longWork = 30 * time.Minute
 var ErrStillTaken = fmt.Errorf("another worker has the lock, and the work began more than %v ago. "+
 	"See whether its process hangs", longWork)
 
+// A went is how going on with a key went.
+type went int
+
+const (
+	wentNowhere went = iota // the backend wasn't needed, or nobody could ask it
+	wentWell                // the backend did what was asked for, or rejected it
+	wentBadly               // the backend failed or hung
+)
+
+// wentOf is how work went that has ended with this error.
+func wentOf(err error) went {
+	if errors.Is(err, ErrNobodyKnows) {
+		return wentBadly
+	}
+	return wentNowhere
+}
+
 // TakeUp goes on with a key: it does pending work that a dead worker has left, goes on with the operation that runs, and
 // gives up a creation that has waited too long for its first Poll. If somebody else is at the key, it does nothing.
 //
 // Errors: those of the store, the locks and the backend; ErrStillTaken. What isn't done stays as it is, to be taken up
 // again.
 func (s *Service) TakeUp(ctx context.Context, key Key) error {
+	_, err := s.takeUp(ctx, key)
+	return err
+}
+
+// takeUp is TakeUp, and returns how it went, too.
+func (s *Service) takeUp(ctx context.Context, key Key) (went, error) {
 	lock, err := s.tryLock(ctx, key)
 	if err != nil {
-		return err
+		return wentNowhere, err
 	}
 	if lock == nil {
-		return s.stillTaken(ctx, key)
+		return wentNowhere, s.stillTaken(ctx, key)
 	}
 	defer lock.Unlock()
 	held, err := s.read(ctx, key)
 	if err != nil {
-		return err
+		return wentNowhere, err
 	}
+	done := wentNowhere
 	if _, isPending := held.Holding.Work(); isPending {
-		answered, err := s.do(ctx, lock, key, pending{entry: held.Entry}, !s.locks.CanBeLost())
-		if err != nil {
-			return err
-		}
-		if answered.Status != http.StatusAccepted {
-			s.observer.Finished(key, answered.Status < http.StatusMultipleChoices)
+		if done, err = s.endPending(ctx, lock, key, held); err != nil {
+			return done, err
 		}
 		if held, err = s.read(ctx, key); err != nil {
-			return err
+			return done, err
 		}
 	}
 	row, isHeld := held.Holding.Row()
 	switch {
 	case !isHeld:
-		return nil
+		return done, nil
 	case row.Phase == osb.PhaseMaking || row.Phase == osb.PhaseDeleting:
 		return s.operate(ctx, lock, key, held)
 	case row.Phase == osb.PhaseWaiting && time.Since(held.Since) >= s.rules.WaitForPoll:
-		return s.giveUpWaiting(ctx, key)
+		return done, s.giveUpWaiting(ctx, key)
 	}
-	return nil
+	return done, nil
+}
+
+// endPending does the pending work of a key under its lock.
+func (s *Service) endPending(ctx context.Context, lock Lock, key Key, held Held) (went, error) {
+	answered, err := s.do(ctx, lock, key, pending{entry: held.Entry}, !s.locks.CanBeLost())
+	if err != nil {
+		return wentOf(err), err
+	}
+	isDone := answered.Status < http.StatusMultipleChoices
+	switch {
+	case answered.Status == http.StatusAccepted: // an operation has begun
+		return wentNowhere, nil
+	case isDone || answered.Rejected != nil:
+		s.observer.Finished(key, isDone)
+		return wentWell, nil
+	}
+	s.observer.Finished(key, false)
+	return wentBadly, nil
 }
 
 // stillTaken returns ErrStillTaken if somebody else has been at the key for long.
@@ -70,24 +109,36 @@ func (s *Service) stillTaken(ctx context.Context, key Key) error {
 }
 
 // operate goes on with the operation that runs, and ends it.
-func (s *Service) operate(ctx context.Context, lock Lock, key Key, held Held) error {
+func (s *Service) operate(ctx context.Context, lock Lock, key Key, held Held) (went, error) {
 	fence, err := s.fence(ctx, key)
 	if err != nil {
-		return err
+		return wentNowhere, err
 	}
 	if held, err = s.sure(ctx, key, held); err != nil {
-		return err
+		return wentNowhere, err
 	}
 	row, _ := held.Holding.Row()
 	request, err := requestOf(key, row, held.Request)
 	if err != nil {
-		return err
+		return wentNowhere, err
 	}
 	done, err := s.worker.operate(lock.Context(ctx), row.Phase, request)
 	if err != nil {
-		return err
+		return wentOf(err), err
 	}
-	err = s.change(ctx, key, fence, func(held Held) (*Entry, error) {
+	if err := s.finish(ctx, key, fence, row, done); err != nil {
+		return wentNowhere, err
+	}
+	s.observer.Finished(key, done.isDone())
+	if !done.isDone() && done.rejected == nil {
+		return wentBadly, nil
+	}
+	return wentWell, nil
+}
+
+// finish ends the operation of a row.
+func (s *Service) finish(ctx context.Context, key Key, fence int64, row osb.BrokerRow, done result) error {
+	err := s.change(ctx, key, fence, func(held Held) (*Entry, error) {
 		if now, isHeld := held.Holding.Row(); !isHeld || now != row {
 			return nil, ErrLostWork
 		}
@@ -101,12 +152,10 @@ func (s *Service) operate(ctx context.Context, lock Lock, key Key, held Held) er
 		entry.ended(key, done)
 		return &entry, nil
 	})
-	if err != nil {
-		return err
+	if err == nil {
+		crash.At("finish-written")
 	}
-	crash.At("finish-written")
-	s.observer.Finished(key, done.isDone())
-	return nil
+	return err
 }
 
 // sure is what is held of an operation that runs. If the lock can be lost, that is read once more after the fence is

@@ -31,6 +31,7 @@ type settings struct {
 	trustedProxies                []netip.Prefix
 	longestBody, perInstance      int
 	requestTime, sweepTime        time.Duration
+	longestPause                  time.Duration
 	stopTime, commandTime         time.Duration
 	customers                     string
 	journal                       string
@@ -134,7 +135,8 @@ func (s *settings) addRules(flags *pflag.FlagSet) {
 
 func (s *settings) addLimits(flags *pflag.FlagSet) {
 	flags.Var(program.Count(&s.threads, 64, 1, most), "threads", "requests that are carried out at once")
-	flags.Var(program.Count(&s.workers, 4, 1, most), "workers", "operations and pending work at once, besides requests")
+	flags.Var(program.Count(&s.workers, 4, 1, most), "workers",
+		"operations and pending work at once, besides requests; up to twice as many if some are slow or have failed before")
 	flags.Var(program.Count(&s.connections, 800, 1, most), "connections", "connections of clients at once")
 	flags.Var(program.Count(&s.perAddress, 0, 1, most), "connections-per-address",
 		"`number` of connections of each client's address at once (default: a quarter of --connections)")
@@ -144,6 +146,8 @@ func (s *settings) addLimits(flags *pflag.FlagSet) {
 	flags.Var(program.Count(&s.longestBody, 1<<20, 1, most), "longest-body", "the greatest length of a body, in bytes")
 	flags.Var(program.Seconds(&s.requestTime, 30*time.Second), "request-seconds", "in which a request has to arrive")
 	flags.Var(program.Seconds(&s.sweepTime, 5*time.Second), "sweep-seconds", "between two looks for unfinished work")
+	flags.Var(program.Seconds(&s.longestPause, broker.DefaultLongestPause), "longest-pause",
+		"in seconds, between two tries of work that fails again and again")
 	flags.Var(program.Seconds(&s.stopTime, 30*time.Second), "stop-seconds", "for running work to end after SIGTERM")
 	flags.Var(program.Seconds(&s.commandTime, 5*time.Minute), "command-seconds", "for one run of --backend command:..")
 	flags.Var(program.Count(&s.perInstance, 20, 1, most), "connections-per-instance",

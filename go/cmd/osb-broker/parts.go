@@ -135,7 +135,7 @@ func (p *parts) openDatabases(ctx context.Context, s *settings, log *logs.Logger
 	if err != nil {
 		return err
 	}
-	options := postgres.Options{Key: key, ConnectionsPerInstance: s.perInstance, Sessions: s.threads + s.workers}
+	options := postgres.Options{Key: key, ConnectionsPerInstance: s.perInstance, Sessions: s.atOnce()}
 	if options.Host, options.Port, err = customersOf(s.customers, s.backend); err != nil {
 		return program.Unusable(fmt.Errorf("--customer-address: %w", err))
 	}
@@ -180,7 +180,7 @@ func (p *parts) openStore(ctx context.Context, s *settings, observer broker.Obse
 		if err := withoutPassword(s.store); err != nil {
 			return err
 		}
-		store, err := pgstore.Open(ctx, s.store, atMost(s.threads+s.workers, 8), observer)
+		store, err := pgstore.Open(ctx, s.store, atMost(s.atOnce(), 8), observer)
 		if err != nil {
 			return away("the store can't be used", err)
 		}

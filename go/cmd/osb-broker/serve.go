@@ -132,7 +132,7 @@ func (r *running) openService(ctx context.Context, catalogue *broker.Catalogue) 
 
 func (s *settings) rules() broker.Rules {
 	return broker.Rules{
-		FirstPoll: s.firstPoll, WaitForPoll: s.waitForPoll, LocksAtOnce: s.locksAtOnce(),
+		FirstPoll: s.firstPoll, WaitForPoll: s.waitForPoll, LocksAtOnce: s.locksAtOnce(), LongestPause: s.longestPause,
 		IDsReturnAfter: time.Duration(s.idsReturnAfter) * time.Second,
 	}
 }
@@ -259,8 +259,11 @@ func (s *settings) files() uint64 {
 	if _, isCommand := s.command(); isCommand {
 		each = filesOfRun
 	}
-	return uint64(s.connections) + (uint64(s.threads)+uint64(s.workers))*each + otherFiles
+	return uint64(s.connections) + uint64(s.atOnce())*each + otherFiles
 }
+
+// atOnce is how many calls of the backend may be under way at once.
+func (s *settings) atOnce() int { return s.threads + broker.MostRuns(s.workers) }
 
 // locksAtOnce is how many of the threads may wait for a lock at once. They are fewer than those that may do work, so that
 // a silent server of the locks leaves some, which answer at once.

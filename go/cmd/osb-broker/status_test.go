@@ -50,10 +50,10 @@ func TestStatusOfFiles(t *testing.T) {
 // lock that the program has too.
 func TestFilesThatAreNeeded(t *testing.T) {
 	for backend, want := range map[string]uint64{
-		"":                      1000 + 30 + 7 + 100,
-		"/srv/folders":          1000 + 30 + 7 + 100,
-		"postgresql://db/admin": 1000 + 30 + 7 + 100,
-		"command:/srv/program":  1000 + 30*5 + 7*5 + 100,
+		"":                      1000 + 30 + 14 + 100,
+		"/srv/folders":          1000 + 30 + 14 + 100,
+		"postgresql://db/admin": 1000 + 30 + 14 + 100,
+		"command:/srv/program":  1000 + 30*5 + 14*5 + 100,
 	} {
 		s := &settings{backend: backend, connections: 1000, threads: 30, workers: 7}
 		if got := s.files(); got != want {
@@ -61,7 +61,7 @@ func TestFilesThatAreNeeded(t *testing.T) {
 		}
 	}
 	greatest := &settings{backend: "command:p", connections: most, threads: most, workers: most}
-	if got := greatest.files(); got != 11*most+100 {
+	if got := greatest.files(); got != 16*most+100 {
 		t.Errorf("the greatest numbers need %d files", got)
 	}
 }
