@@ -182,6 +182,7 @@ func TestServe(t *testing.T) {
 
 // Arguments that can't be parsed end it with status 2 and one line, and what an operator has to change with 78.
 func TestUnusable(t *testing.T) {
+	const password = "OSB_BROKER_PASSWORD=a secret that is long enough"
 	empty := t.TempDir()
 	file := func(name, text string) string {
 		path := filepath.Join(empty, name)
