@@ -24,7 +24,8 @@ nothing else, is a line of no journal.
 What a line names is that of the story, unless one of these words follows: `plan=sync|async`, `service=other`,
 `attributes=DIGIT` (the digest that consists of this digit; `attributes=-` of an arrival is none), `accepts=no`,
 `state=STATE` (of a change at the platform; else it is that of the record). Of a change at the broker,
-`work-plan=sync|async` and `work-id=other` are of the pending work alone. `P command - state=ordered` is a new order.
+`work-plan=sync|async` and `work-id=other` are of the pending work alone. `committed=NUMBER` of an arrival is the last
+change that was committed then. `P command - state=ordered` is a new order.
 """
 
 from __future__ import annotations
@@ -40,7 +41,7 @@ BINDING = "00000000-0000-0000-0000-00000000000b"
 SERVICE = "00000000-0000-0000-0000-0000000000a0"
 OTHER = "00000000-0000-0000-0000-0000000000ff"
 PLANS = {"sync": "00000000-0000-0000-0000-0000000000b1", "async": "00000000-0000-0000-0000-0000000000b2"}
-NAMED = "plan", "service", "attributes", "accepts", "work-plan", "work-id", "state", "visit"
+NAMED = "plan", "service", "attributes", "accepts", "work-plan", "work-id", "state", "visit", "committed"
 """What a line may name in another way than its story does."""
 METHODS = {"claim": "record", "command": "record", "abandon": "record", "credentials": "known"}
 """The methods of Journal for the verbs that have another name."""
@@ -91,7 +92,9 @@ def record_text(form: str, plan: str, named: Mapping[str, str] = EMPTY) -> str:
     return compact({"attempt": int(attempt), "out": out[0] if out else None, **ids, "state": state, "version": 1})
 
 
-def started(first_poll: bool = False, binding: str = "sync", retrievable: bool = True) -> dict[str, Any]:
+def started(
+    first_poll: bool = False, binding: str = "sync", retrievable: bool = True, locks_can_be_lost: bool = True
+) -> dict[str, Any]:
     """The members of the line `started` of a broker that sells a synchronous and an asynchronous plan."""
     plans = [
         {
@@ -105,7 +108,8 @@ def started(first_poll: bool = False, binding: str = "sync", retrievable: bool =
         }
         for mode, plan in PLANS.items()
     ]
-    return {"version": "test", "first_poll": first_poll, "wait_for_poll": 600, "ids_return_after": 0, "plans": plans}
+    rules = {"first_poll": first_poll, "wait_for_poll": 600, "ids_return_after": 0}
+    return {"version": "test", **rules, "locks_can_be_lost": locks_can_be_lost, "plans": plans}
 
 
 @dataclass
@@ -209,6 +213,7 @@ class Journal:
         visit, request, kind = rest
         self.requests[who, visit] = request
         asks = {"kind": kind, "accepts": "accepts" not in self.named, **ids_of(self.plan, self.named)}
+        asks |= {"committed": int(self.named["committed"])} if "committed" in self.named else {}
         attributes = self.named.get("attributes", "0")
         if kind == "provision" and attributes != "-":
             asks["attributes"] = attributes * 64

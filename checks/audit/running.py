@@ -49,6 +49,10 @@ class Platform:
         """Orders an instance. Returns the exit status."""
         return self._run("create", "--service", "folder", "--plan", "at-once", *words).returncode
 
+    def remove(self, instance: str, *words: str) -> int:
+        """Has an instance deleted. Returns the exit status."""
+        return self._run("remove", instance, *words).returncode
+
     @contextmanager
     def working(self) -> Iterator[None]:
         """A worker runs."""

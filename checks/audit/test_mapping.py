@@ -79,6 +79,7 @@ class Rule(NamedTuple):
     stop: str | None = None
     binding: str = "sync"
     retrievable: bool = True
+    locks_can_be_lost: bool = True
 
 
 # A broker is paused in a call, and has lost its lock when it goes on: B2 has done the work. What the call says is old.
@@ -316,6 +317,35 @@ RULES = {
         f"{BEGUN}; timeout I; expire I; send I; work I part; work I whole; arrive I 2; finish I ok; arrive I 3",
         "async",
     ),
+    "a change that is still to be committed, and that a request hasn't seen": Rule(
+        MAKING + "B create; B look whole; B change 0 ready; B arrive 2 r2 poll committed=2; "
+        "B answer 2 200 in-progress saw=making",
+        f"{BEGUN}; work I part; work I whole; arrive I 2; finish I ok",
+        "async",
+    ),
+    "a change that nobody knows whether it is committed, and that a request hasn't seen": Rule(
+        MAKING + "B create; B look whole; B change 0 ready !doubtful; B arrive 2 r2 poll committed=3; "
+        "B answer 2 200 in-progress saw=making; B arrive 3 r2 poll committed=3; B answer 3 200 succeeded saw=ready",
+        f"{BEGUN}; work I part; work I whole; arrive I 2; finish I ok; arrive I 2",
+        "async",
+    ),
+    "a change of another process that a request hasn't seen": Rule(
+        MAKING + "B create; B look whole; B change 0 ready; B2 arrive 2 r2 poll committed=9; "
+        "B2 answer 2 200 in-progress saw=making",
+        f"{BEGUN}; work I part; work I whole; arrive I 2; finish I ok",
+        "async",
+    ),
+    "a worker after another one that was killed, with locks that can't be lost": Rule(
+        PENDING + "B begin create visit=1; B2 look absent; B2 create; B2 look whole; B2 change 0 ready",
+        "create I; arrive I 1; work I part; work I absent; work I part; work I whole; crash I broker; end I done",
+        locks_can_be_lost=False,
+    ),
+    "workers one after the other, with locks that can't be lost": Rule(
+        PENDING + "B look absent visit=1; B begin create visit=1; B end create failed visit=1; B look absent visit=1; "
+        "B answer 1 500 other-error; B2 look absent; B2 create; B look whole; B2 look whole; B2 change 0 ready",
+        "create I; arrive I 1; work I part; work I absent; end I unknown; work I part; work I whole; end I done",
+        locks_can_be_lost=False,
+    ),
     "a change while a request waits": Rule(
         MAKING + "B arrive 2 r2 poll; B create; B look whole; B change 0 ready; B answer 2 200 succeeded saw=ready",
         f"{BEGUN}; work I part; work I whole; finish I ok; arrive I 2",
@@ -439,7 +469,7 @@ RULES = {
 @pytest.mark.parametrize("name", RULES)
 def test_rule(name: str) -> None:
     rule = RULES[name]
-    of_broker = started(rule.first_poll, rule.binding, rule.retrievable)
+    of_broker = started(rule.first_poll, rule.binding, rule.retrievable, rule.locks_can_be_lost)
     found = story_of(Journal(rule.plan, of_broker=of_broker).tell(rule.story))
     assert events_of(found) == (rule.events.split("; ") if rule.events else [])
     assert (found.stop, found.disagreements) == (None, [])

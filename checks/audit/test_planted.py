@@ -5,14 +5,16 @@ platform has one instance created. The audit has to name the first line of the j
 from __future__ import annotations
 
 import json
+import shlex
 import subprocess
 from pathlib import Path
 from typing import Any, NamedTuple
 
 import pytest
-from audit.conftest import TOP, Audit
+from audit.conftest import TOP, Audit, Ran
 from audit.running import ENVIRONMENT, Platform, serving
 from building import SHIPPED, building
+from osb_audit.calls import TOGETHER
 from ports import free_address
 
 pytestmark = pytest.mark.slow
@@ -130,6 +132,48 @@ EAGER = Slip(
 """A platform that sends before it commits. If the commit then fails, nobody knows of the request."""
 
 
+READ = "func (s store) Read(ctx context.Context, key broker.Key) (broker.Held, error) {\n"
+STALE = Slip(
+    READ + "\theld, err := s.Store.Read(ctx, key)\n",
+    """
+    var (
+        staleTurn sync.Mutex
+        stale     = map[broker.Key]broker.Held{}
+    )
+
+    """
+    + READ
+    + """
+        held, err := s.Store.Read(ctx, key)
+        if err == nil && visitOf(ctx) != 0 {
+            staleTurn.Lock()
+            before, isKnown := stale[key]
+            stale[key] = held
+            staleTurn.Unlock()
+            if isKnown {
+                held = before
+            }
+        }
+    """,
+    {"event": "answered"},
+    "",
+    "the request was decided on a row that there never was while it was carried out",
+    "",
+    "",
+)
+"""Each Poll is answered by what the one before it should have been answered by."""
+UNLOCKED = Slip(
+    "\tisLocked, err := try(file, bytes)\n\tif err != nil || !isLocked {\n",
+    "\tif _, err = try(file, bytes); err != nil {\n",
+    {"event": "work", "stage": "begun"},
+    "",
+    TOGETHER,
+    "",
+    "",
+)
+"""Whoever asks for a lock has it."""
+
+
 def built(slip: Slip, folder: Path, program: str = "osb-broker", file: str = SOURCE) -> Path:
     """The program with this slip in a file of its source."""
     source = (TOP / "go" / file).read_text()
@@ -181,6 +225,55 @@ def test_planted(audit: Audit, broker: Path, platform: Path, tmp_path: Path, nam
     assert line["side"] == "broker" and {it: line[it] for it in slip.line} == slip.line, line
     event = found["event"].replace(found["instance"], "I")
     assert (event, found["why"], found["model"], found["journal"]) == slip[3:], found
+
+
+def assert_found(ran: Ran, slip: Slip) -> None:
+    """The audit has found the slip, and nothing else."""
+    assert (ran.status, len(ran.report["differences"]), ran.err) == (1, 1, ""), ran
+    found = ran.report["differences"][0]
+    line = json.loads(Path(found["file"]).read_text().splitlines()[found["line"] - 1])
+    assert {it: line[it] for it in slip.line} == slip.line, line
+    assert (found["event"], found["why"]) == (slip.event, slip.why), found
+
+
+@pytest.mark.long(15)
+def test_planted_stale_answers(audit: Audit, platform: Path, tmp_path: Path) -> None:
+    """The first Poll of a deletion is answered as the last one of the creation."""
+    at = free_address()
+    with serving(built(STALE, tmp_path, file="broker/journaled/store.go"), tmp_path, at):
+        it = Platform(platform, tmp_path, at)
+        it.once()  # it asks for the catalogue
+        with it.working():
+            assert it.create("--plan", "by-worker", "--id", "one", "--wait=60") == 0
+            assert it.remove("one", "--wait=60") == 0
+    assert_found(audit(tmp_path / "journals"), STALE)
+
+
+SLOW = """#!/bin/sh
+[ "$1" != create ] || sleep 3
+exec {} "$@"
+"""
+
+
+@pytest.mark.long(15)
+@pytest.mark.parametrize("is_planted", [True, False])
+def test_planted_without_locks(audit: Audit, broker: Path, platform: Path, tmp_path: Path, is_planted: bool) -> None:
+    """A sweep goes on with work that a request is at."""
+    at, sells = free_address(), tmp_path / "sells"
+    sells.write_text(SLOW.format(shlex.quote(str(TOP / "examples" / "broker" / "databases"))))
+    sells.chmod(0o755)
+    sold = "--backend", f"command:{sells}", "--catalog", str(TOP / "examples" / "broker" / "own-catalogue.json")
+    program = built(UNLOCKED, tmp_path, file="broker/filelock/locks.go") if is_planted else broker
+    with serving(program, tmp_path, at, *sold, "--sweep-seconds", "0.1"):
+        it = Platform(platform, tmp_path, at)
+        it.once()  # it asks for the catalogue
+        assert it.create("--service", "database", "--plan", "now") == 0
+        it.once()
+    ran = audit(tmp_path / "journals")
+    if is_planted:
+        assert_found(ran, UNLOCKED)
+    else:
+        assert (ran.status, ran.report["instances"], ran.report["unjudged"], ran.err) == (0, 1, [], ""), ran
 
 
 @pytest.mark.long(10)

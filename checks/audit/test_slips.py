@@ -19,7 +19,9 @@ from audit.journals import (
     SERVICE,
     Journal,
     held_text,
+    started,
 )
+from osb_audit.calls import TOGETHER
 
 pytestmark = pytest.mark.slow
 
@@ -59,6 +61,9 @@ REMOVING_FAILS = (
          B change 2 ready+deprovision; B look whole visit=2; B2 look whole; B2 begin delete
          B2 end delete failed; B2 look whole; B2 change 0 ready from ready+deprovision; """
 )
+ASKED7 = ASKED.replace("B arrive", "B7 arrive")
+"""B7 and B8 have locks that can't be lost."""
+PROCESS = "000000000000420"
 SLIPS = {
     "an answer before the commit": Slip(
         ASKED + "B change 1 pending-provision; B create; B answer 1 201; B change 1 ready",
@@ -308,6 +313,43 @@ SLIPS = {
         held_text("ready", "async", INSTANCE),
         held_text("making", "async", INSTANCE),
         "async",
+    ),
+    "a Poll of what was held before a change that was committed": Slip(
+        ENDED + "B arrive 2 r2 poll committed=3; B answer 2 200 in-progress saw=making",
+        ("broker", 12),
+        STALE,
+        held_text("ready", "async", INSTANCE),
+        held_text("making", "async", INSTANCE),
+        "async",
+    ),
+    "a Poll of what was held before a change that was committed, while another is still to be": Slip(
+        ENDED
+        + """P lose r2; P take 2 polling/2; P claim cleaning/3/deprovision; P send r3 deprovision 3
+             B arrive 3 r3 deprovision; B change 3 ready+deprovision; B arrive 2 r2 poll committed=3
+             B answer 2 200 in-progress saw=making""",
+        ("broker", 14),
+        STALE,
+        "",
+        held_text("making", "async", INSTANCE),
+        "async",
+    ),
+    "two workers of one process at once": Slip(
+        ASKED7
+        + """B7 change 1 pending-provision; B7 begin create visit=1; B7 begin look; B7 end look part
+             B7 end create done visit=1; B7 look whole visit=1; B7 change 1 ready; B7 answer 1 201""",
+        ("broker", 5),
+        TOGETHER,
+        f"create of {PROCESS}7 goes on",
+        f"look of {PROCESS}7 begins",
+    ),
+    "two workers of two processes at once": Slip(
+        ASKED7
+        + """B7 change 1 pending-provision; B7 begin look visit=1; B8 begin look; B7 end look absent visit=1
+             B7 create visit=1; B8 end look absent; B7 look whole visit=1; B7 change 1 ready; B7 answer 1 201""",
+        ("broker", 2),
+        TOGETHER,
+        f"look of {PROCESS}7 goes on",
+        f"look of {PROCESS}8 begins",
     ),
     "other credentials in the row": differing(
         CREATED
@@ -654,7 +696,8 @@ def report(replay: Path, library: Path, tmp_path_factory: pytest.TempPathFactory
         folder = top / INSTANCES[name]
         folder.mkdir()
         begun = 1_700_000_000_000_000 + int(INSTANCES[name][-3:], 16) * 1_000_000_000
-        journal = Journal(SLIPS[name].plan if name in SLIPS else "sync", INSTANCES[name], time=begun)
+        of_broker = started(locks_can_be_lost="B7" not in story)
+        journal = Journal(SLIPS[name].plan if name in SLIPS else "sync", INSTANCES[name], of_broker, begun)
         journal.tell(story).files(folder)
     ran = audited("--json", "--jobs", "1", *map(str, sorted(top.iterdir())))
     assert (ran.status, ran.err) == (1, ""), ran

@@ -75,7 +75,7 @@ func (s *shop) openJournal(below string, catalogue *broker.Catalogue, rules brok
 	if below == "" {
 		return nil, nil
 	}
-	started, err := journaled.Started(program.Version(), catalogue.Document(), rules)
+	started, err := journaled.Started(program.Version(), catalogue.Document(), rules, s.backend.Locks().CanBeLost())
 	if err != nil {
 		return nil, err
 	}

@@ -13,12 +13,15 @@ from typing import Iterator, NamedTuple, Optional
 from osb_audit.events import RESOURCE
 from osb_audit.lines import Line
 from osb_audit.lives import Life, VisitName
-from osb_audit.walk import Known
+from osb_audit.walk import Known, differs
 
 Worker = tuple[str, Optional[VisitName], str]
 """Who works: a process, the visit that it works for, if there is one, and the life."""
 _ENDS = {"create": "whole", "delete": "absent"}
 """The calls that change the resource, and what they leave."""
+
+
+TOGETHER = "two workers are at work at once, and the locks of the broker can't be lost"
 
 
 class Seen(NamedTuple):
@@ -97,6 +100,20 @@ class Calls:
         """Of the resource of each life."""
         self.number = 0
         """Of the line that is gone through."""
+        self.ends: dict[int, int] = {}
+        """The time at which each call ends that has begun with a line, by what names the line."""
+        if not known.settings.locks_can_be_lost:
+            self._find_ends()
+
+    def _find_ends(self) -> None:
+        begun: dict[tuple[Worker, str], Line] = {}
+        for line in self.known.lines:
+            if (line.side, line.event) == ("broker", "work"):
+                call = worker_of(line), line.of["call"]
+                if line.of["stage"] == "begun":
+                    begun[call] = line
+                elif call in begun:
+                    self.ends[id(begun.pop(call))] = line.time
 
     def step(self, line: Line) -> None:
         """Goes through a line `work`."""
@@ -115,6 +132,7 @@ class Calls:
         if call.name not in _ENDS:
             call.since, call.perhaps = [now], list(self._perhaps(life))
         worker = worker_of(line)
+        self._check_alone(line, worker)
         self.open[worker, call.name] = call
         run = self.runs.get(worker) or _Run()
         if not is_idle:
@@ -126,6 +144,17 @@ class Calls:
             if not is_idle:
                 life.known = life.credentials if call.name == "delete" and life.resource == "whole" else 0
                 self._become(line, life, Seen("part"))
+
+    def _check_alone(self, line: Line, worker: Worker) -> None:
+        """No call begins while one of another worker goes on. The line with which that one ends shows that its process
+        wasn't killed meanwhile, and so had the lock.
+        """
+        for (other, name), call in self.open.items():
+            end = self.ends.get(id(call.begun), 0)
+            if other != worker and other[2] == worker[2] and call.begun.time < line.time < end:
+                raise differs(
+                    line, TOGETHER, f"{name} of {other[0]} goes on", f"{line.of['call']} of {worker[0]} begins"
+                )
 
     def _perhaps(self, life: Life) -> Iterator[Seen]:
         """What the resource may be besides: a call that goes on may have changed nothing yet, or all."""

@@ -128,6 +128,7 @@ MEMBERS: Mapping[tuple[str, str], Mapping[str, _Value]] = {
         "kind": _KIND,
         "accepts": _TRUTH,
         "attributes": _TEXT,
+        "committed": _NUMBER,
     },
     ("broker", "changed"): {**_OF_LIFE, **_CHANGED, "visit": _NUMBER, "life": _NUMBER, "life_before": _NUMBER},
     ("broker", "undone"): _UNDONE,
@@ -169,7 +170,7 @@ NEEDED = {
 """The members without which nothing can be said of an event."""
 OF_LOST = {"count": _NUMBER}
 """The members of the line `lost`."""
-OF_STARTED = {"first_poll": _TRUTH, "plans": _Value(list, None, "a list")}
+OF_STARTED = {"first_poll": _TRUTH, "locks_can_be_lost": _TRUTH, "plans": _Value(list, None, "a list")}
 """Those of the line `started` of a broker, as far as an audit needs them."""
 OF_SOLD = {
     "service_number": _GUID,

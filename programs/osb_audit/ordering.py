@@ -34,7 +34,7 @@ def ordered(lines: Iterable[Line], doubts: Doubts, without: Collection[Change] =
     uncommitted = _uncommitted(left, undone, doubts, without)
     counted = [it for it in left if it not in uncommitted]
     unsure = (it for it in _last(counted) if it.change not in undone and doubts.get(it.change, True) is None)
-    return Counted(_postponed(_chained(counted)), [it for it in unsure if it.of["before"] != it.of["after"]])
+    return Counted(_postponed(_chained(counted), undone), [it for it in unsure if it.of["before"] != it.of["after"]])
 
 
 def _last(lines: Sequence[Line]) -> Iterator[Line]:
@@ -177,7 +177,7 @@ def _fitting(lines: Iterable[Line], line: Line, text: str, done: set[Line]) -> L
     return None
 
 
-def _postponed(lines: list[Line]) -> list[Line]:
+def _postponed(lines: list[Line], undone: frozenset[Change]) -> list[Line]:
     """The same lines, with changes behind the arrival of a request that was decided on what was held before them.
 
     The line of a change is written before its commit. A request that arrives in between doesn't see the change. One
@@ -197,6 +197,8 @@ def _postponed(lines: list[Line]) -> list[Line]:
             begun = arrived[line.visit]
             for row, saw in _seen(line):
                 for late in _unseen(lines, changes.get(row, []), arrived, begun, at, saw):
+                    if lines[late].change not in undone and _is_committed(lines[late], lines[begun]):
+                        break  # the request has seen what was there before
                     moves[late] = max(moves.get(late, 0), begun)
     return list(_moved(lines, moves)) if moves else lines
 
@@ -229,6 +231,12 @@ def _unseen(
         if lines[at].of["before"] == saw:
             return changes[first:behind]
     return ()
+
+
+def _is_committed(change: Line, arrival: Line) -> bool:
+    """Whether a request has arrived after a change of the same process was committed, as its line says."""
+    number: int = arrival.of.get("committed", 0)
+    return change.process == arrival.process and change.of["change"] <= number
 
 
 def _is_over(lines: Sequence[Line], arrived: Mapping[tuple[str, int], int], at: int, end: int) -> bool:

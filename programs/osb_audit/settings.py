@@ -20,6 +20,8 @@ class Settings(NamedTuple):
 
     first_poll: bool
     plans: Mapping[Plan, Sold]
+    locks_can_be_lost: bool = True
+    """Whether a lock may end while its worker goes on, as far as the journal says."""
 
     def sold(self, plan: Plan | None) -> Sold:
         """How the plan is sold, if it is."""
@@ -37,4 +39,5 @@ def settings_in(text: bytes) -> Settings:
         check(it, OF_SOLD, "a plan in started of a broker")
         sold = Sold(it.get("mode", "none"), it.get("binding", "none"), it.get("retrievable", False))
         plans[it["service_number"], it["plan_number"]] = sold
-    return Settings(members.get("first_poll") or False, plans)
+    lost = members.get("locks_can_be_lost")
+    return Settings(members.get("first_poll") or False, plans, True if lost is None else lost)

@@ -198,6 +198,7 @@ def settings_of(lines: Sequence[Line], known: Mapping[str, Settings]) -> Setting
     if missing:
         return "the journal of a broker has no line `started`"
     found = [known[it] for it in sorted(processes)] or list(known.values())[:1]
-    if any(it != found[0] for it in found):
+    if any((it.first_poll, it.plans) != (found[0].first_poll, found[0].plans) for it in found):
         return "the broker was restarted with other plans or another rule of the first Poll"
-    return found[0] if found else "no journal of a broker was given"
+    lost = any(it.locks_can_be_lost for it in found)
+    return found[0]._replace(locks_can_be_lost=lost) if found else "no journal of a broker was given"

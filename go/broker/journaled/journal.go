@@ -19,10 +19,11 @@ import (
 
 // A Journal is the journal of one process. Any number of goroutines use it.
 type Journal struct {
-	to              *journal.Writer
-	isDoubtful      func(error) bool
-	visits, changes atomic.Int64
-	texts           texts
+	to         *journal.Writer
+	isDoubtful func(error) bool
+	visits     atomic.Int64
+	changes    changes
+	texts      texts
 }
 
 // New returns a journal that writes to a writer. isDoubtful is whether a Change of the store that fails with an error may
@@ -90,6 +91,7 @@ type arrived struct {
 	Service    string `json:"service,omitempty"`
 	Plan       string `json:"plan,omitempty"`
 	Attributes string `json:"attributes,omitempty"` // of a creation: the digest that the holding's text has
+	Committed  int64  `json:"committed,omitempty"`  // no change up to this one is still to be committed
 }
 
 // Arrived writes down a request.
@@ -102,7 +104,7 @@ func (j *Journal) Arrived(
 	it := &visit{number: j.visits.Add(1), request: requestID, key: asked.Key}
 	line := arrived{
 		Visit: it.number, Request: requestID, life: lifeOf(asked.Key), Kind: asked.Asked.Kind.String(),
-		Accepts: asked.Asked.AcceptsIncomplete,
+		Accepts: asked.Asked.AcceptsIncomplete, Committed: j.changes.ended(),
 	}
 	line.InstanceID = other(asked.Names.Instance, line.Instance)
 	line.BindingID = other(asked.Names.Binding, line.Binding)

@@ -380,12 +380,15 @@ func TestOptional(t *testing.T) {
 func TestStarted(t *testing.T) {
 	made, err := Started("1.2", []byte(catalogue), broker.Rules{
 		FirstPoll: true, WaitForPoll: 90 * time.Second, IDsReturnAfter: time.Hour,
-	})
+	}, true)
 	check(t, err)
 	text, err := json.Marshal(made)
 	check(t, err)
 	var got line
 	check(t, json.Unmarshal(text, &got))
+	if !got.LocksCanBeLost {
+		t.Errorf("%s", text)
+	}
 	if got.Version != "1.2" || !got.FirstPoll || got.WaitForPoll != 90 || got.IDsReturnAfter != 3600 || len(got.Plans) != 4 {
 		t.Fatalf("%s", text)
 	}
@@ -402,7 +405,7 @@ func TestStarted(t *testing.T) {
 			t.Errorf("%v; want %v", plan, it)
 		}
 	}
-	if _, err := Started("1.2", []byte(`[]`), broker.Rules{}); err == nil {
+	if _, err := Started("1.2", []byte(`[]`), broker.Rules{}, false); err == nil {
 		t.Error("a catalogue that can't be read")
 	}
 }
@@ -449,6 +452,40 @@ func TestUnbindFailed(t *testing.T) {
 	if answered.Saw != ready {
 		t.Errorf("%q was seen, and not %q", answered.Saw, ready)
 	}
+}
+
+// An arrival has the number of a change, so that it and all before it have ended, however they ended.
+func TestCommitted(t *testing.T) {
+	s := newSite(t)
+	to := New(s.writer, func(error) bool { return false })
+	arrives := func(want int64) {
+		t.Helper()
+		to.Arrived(context.Background(), s.request("POLL", one, ""), "r", broker.Asked{})
+		if got := s.last().Committed; got != want {
+			t.Errorf("got %d, want %d", got, want)
+		}
+	}
+	change := func(store broker.Store, life int64) error {
+		return store.Change(context.Background(), broker.Key{}, 0,
+			func(broker.Held) (*broker.Entry, error) { return &broker.Entry{Life: life}, nil })
+	}
+	store, another := to.Store(s.store), to.Store(&memory{rows: map[broker.Key]broker.Entry{}})
+	arrives(0)
+	check(t, change(store, 1))
+	check(t, change(store, 2))
+	arrives(2)
+	s.store.stepped = func(*broker.Entry) {
+		arrives(2) // the third isn't committed yet
+		check(t, change(another, 4))
+		arrives(2) // the fourth is
+	}
+	check(t, change(store, 3))
+	arrives(4)
+	s.store.stepped, s.store.fails = nil, errFull
+	if err := change(store, 5); !errors.Is(err, errFull) {
+		t.Error(err)
+	}
+	arrives(5)
 }
 
 // A change that leaves the holding as it is has no line: the answer says what was seen.

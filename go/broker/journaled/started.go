@@ -14,6 +14,7 @@ type started struct {
 	FirstPoll      bool    `json:"first_poll"`
 	WaitForPoll    float64 `json:"wait_for_poll"`    // in seconds
 	IDsReturnAfter float64 `json:"ids_return_after"` // in seconds, or 0 for never
+	LocksCanBeLost bool    `json:"locks_can_be_lost"`
 	Plans          []plan  `json:"plans"`
 }
 
@@ -29,17 +30,17 @@ type plan struct {
 }
 
 // Started returns the members of the line started of a broker: of this version, with the document of its catalogue and
-// its rules.
+// its rules, and whether a lock may end while its worker goes on (broker.Locks).
 //
 // Errors: the document can't be read.
-func Started(version string, document []byte, rules broker.Rules) (any, error) {
+func Started(version string, document []byte, rules broker.Rules, locksCanBeLost bool) (any, error) {
 	plans, err := plansOf(document)
 	if err != nil {
 		return nil, fmt.Errorf("the plans of the catalogue: %w", err)
 	}
 	return started{
 		Version: version, FirstPoll: rules.FirstPoll, WaitForPoll: rules.WaitForPoll.Seconds(),
-		IDsReturnAfter: rules.IDsReturnAfter.Seconds(), Plans: plans,
+		IDsReturnAfter: rules.IDsReturnAfter.Seconds(), LocksCanBeLost: locksCanBeLost, Plans: plans,
 	}, nil
 }
 

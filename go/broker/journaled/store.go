@@ -32,6 +32,7 @@ func (s store) Change(ctx context.Context, key broker.Key, fence int64, step bro
 	undo := func(isDoubtful bool) {
 		if number != 0 {
 			s.journal.to.Write("undone", undone{Change: number, life: lifeOf(key), IsDoubtful: isDoubtful})
+			s.journal.changes.end(number)
 		}
 		number = 0
 	}
@@ -47,6 +48,7 @@ func (s store) Change(ctx context.Context, key broker.Key, fence int64, step bro
 	if err != nil {
 		undo(s.journal.isDoubtful(err))
 	}
+	s.journal.changes.end(number)
 	return err
 }
 
@@ -79,7 +81,7 @@ func (j *Journal) changed(ctx context.Context, key broker.Key, before, after bro
 	visit := visitIn(ctx)
 	visit.isChange = visit.isChange || key == visit.key
 	line := changed{
-		Change: j.changes.Add(1), Visit: visit.number, life: lifeOf(key), Life: after.Life,
+		Change: j.changes.begin(), Visit: visit.number, life: lifeOf(key), Life: after.Life,
 		Credentials: journal.Digest(after.Binding),
 	}
 	var err error
@@ -95,6 +97,45 @@ func (j *Journal) changed(ctx context.Context, key broker.Key, before, after bro
 	}
 	j.to.Write("changed", line)
 	return line.Change
+}
+
+// changes number the changes of a process, and keep those that may still be committed.
+type changes struct {
+	turn sync.Mutex
+	last int64
+	open map[int64]struct{}
+}
+
+// begin returns the number of another change.
+func (c *changes) begin() int64 {
+	c.turn.Lock()
+	defer c.turn.Unlock()
+	if c.open == nil {
+		c.open = map[int64]struct{}{}
+	}
+	c.last++
+	c.open[c.last] = struct{}{}
+	return c.last
+}
+
+// end notes that a change was committed, or that its transaction has failed.
+func (c *changes) end(number int64) {
+	c.turn.Lock()
+	defer c.turn.Unlock()
+	delete(c.open, number)
+}
+
+// ended returns the number of a change, so that it and all before it have ended.
+func (c *changes) ended() int64 {
+	c.turn.Lock()
+	defer c.turn.Unlock()
+	first := c.last + 1
+	for number := range c.open {
+		if number < first {
+			first = number
+		}
+	}
+	return first - 1
 }
 
 // texts are the texts of holdings that were written lately. The holding before a change is most often the one after the

@@ -162,6 +162,7 @@ type line struct {
 	Request, Kind, Service, Plan string
 	Accepts, Doubtful            bool
 	Attributes                   string
+	Committed                    int64
 	Before, After                string
 	Call, Stage, Found, Result   string
 	Status                       int
@@ -172,6 +173,7 @@ type line struct {
 	FirstPoll                    bool    `json:"first_poll"`
 	WaitForPoll                  float64 `json:"wait_for_poll"`
 	IDsReturnAfter               float64 `json:"ids_return_after"`
+	LocksCanBeLost               bool    `json:"locks_can_be_lost"`
 	Plans                        []map[string]any
 }
 

@@ -26,7 +26,7 @@ func (r *running) journaled(catalogue *broker.Catalogue) (serviceParts, error) {
 	if s.journal == "" {
 		return with, nil
 	}
-	started, err := journaled.Started(program.Version(), catalogue.Document(), s.rules())
+	started, err := journaled.Started(program.Version(), catalogue.Document(), s.rules(), r.parts.locks.CanBeLost())
 	if err != nil {
 		return with, err
 	}
