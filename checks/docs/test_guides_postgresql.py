@@ -6,7 +6,7 @@ import os
 import re
 import subprocess
 from pathlib import Path
-from typing import Callable, Iterator
+from typing import Any, Callable, Iterator
 
 import pytest
 from docs.guides import BROKER, CREATE, PLATFORM, healthy, moved, statuses
@@ -14,6 +14,7 @@ from docs.pages import block, covers
 from docs.workdir import Workdir, needs
 from osb import Id
 from ports import free_port
+from waiting import until
 
 pytestmark = [pytest.mark.slow, pytest.mark.postgres, pytest.mark.usefixtures("broker")]
 
@@ -33,7 +34,7 @@ class Machine:
 
     def __init__(self, port: int, given: dict[str, str]) -> None:
         self.port = port
-        self._user, self._rules = given["PGUSER"], Path(given["RULES"])
+        self.user, self._rules = given["PGUSER"], Path(given["RULES"])
         self._environment = {**given, "PATH": os.environ["PATH"], "PGHOST": "127.0.0.1"}
 
     def run(self, statements: str) -> list[str]:
@@ -48,10 +49,44 @@ class Machine:
         assert ran.returncode == 0, ran.stderr
         return ran.stdout.splitlines()
 
+    def shell(self, commands: str, folder: Path) -> str:
+        """Run commands of a shell as a superuser who may connect everywhere, and return what they print."""
+        ran = subprocess.run(
+            ["bash", "-c", f"set -eu\n{commands}"],
+            cwd=folder,
+            env=self._environment,
+            stdin=subprocess.DEVNULL,
+            stdout=subprocess.PIPE,
+            stderr=subprocess.STDOUT,
+            text=True,
+        )
+        assert ran.returncode == 0, ran.stdout
+        return ran.stdout
+
+    def session(self, **settings: str) -> Any:
+        """A session, of the superuser if no other user is given. Each statement is committed."""
+        import psycopg2  # if PostgreSQL is used, it is installed
+
+        given = {"dbname": "postgres", "user": self.user, "password": self._environment["PGPASSWORD"], **settings}
+        session = psycopg2.connect(host="127.0.0.1", port=self.port, **given)
+        session.autocommit = True
+        return session
+
+    def is_full(self) -> bool:
+        """Whether the superuser is kept out, because all locks are taken."""
+        import psycopg2
+
+        try:
+            self.session().close()
+        except psycopg2.OperationalError as error:
+            assert "out of shared memory" in str(error)
+            return True
+        return False
+
     def admit(self, rules: str) -> None:
         """Let in those whom these lines of pg_hba.conf let in, without TLS and from here, and the superuser."""
         here = re.sub(r"\S+/\d+", "127.0.0.1/32", rules.replace("hostssl", "host"))
-        self._rules.write_text(f"host all {self._user} 127.0.0.1/32 scram-sha-256\n{here}", encoding="utf-8")
+        self._rules.write_text(f"host all {self.user} 127.0.0.1/32 scram-sha-256\n{here}", encoding="utf-8")
         assert self.run("SELECT error FROM pg_hba_file_rules WHERE error IS NOT NULL;") == []
         self.run("SELECT pg_reload_conf();")
 
@@ -96,10 +131,14 @@ def _address(port: int) -> Callable[[re.Match[str]], str]:
     return lambda it: f"{it[1]}127.0.0.1:{port}" + it[2].replace(":5432", "")
 
 
-# Uses the database as its owner, and leaves something there that belongs to the role of the binding.
+# Uses the database as its owner, and leaves something there that belongs to the role of the binding. It tries to take a
+# lock.
 USE = """\
 psql -XAtc 'SELECT current_database()' -c 'SET ROLE NONE' -c 'CREATE SCHEMA own' "$uri"
+if psql -XAtc 'SELECT pg_advisory_lock(1)' "$uri"; then exit 1; fi
 """
+
+TEMPLATE = "CREATE DATABASE template_osb "
 
 
 @covers(
@@ -107,6 +146,8 @@ psql -XAtc 'SELECT current_database()' -c 'SET ROLE NONE' -c 'CREATE SCHEMA own'
     "CREATE ROLE broker ",
     "CREATE ROLE seller ",
     "GRANT SET ON PARAMETER ",
+    TEMPLATE,
+    "ALTER SYSTEM ",
     "hostssl  brokers ",
     "hostssl  all ",
     "umask 077\n",
@@ -120,7 +161,7 @@ def test_broker(texts: list[str], workdir: Workdir, port: int, machines: dict[st
     killed, and the others go on. Nothing is left once the instances are deleted. All is done in the order of the page,
     with the roles, databases and passwords of the page.
     """
-    of_db, of_shop, right, broker_rule, shop_rules, secrets, serve, several, others, rekey = (
+    of_db, of_shop, right, template, locks, broker_rule, shop_rules, secrets, serve, several, others, rekey = (
         moved(placed(it, machines), port) for it in texts
     )
     db, shop = machines["db"], machines["shop"]
@@ -129,6 +170,8 @@ def test_broker(texts: list[str], workdir: Workdir, port: int, machines: dict[st
     limits = int(shop.run("SHOW server_version_num;")[0]) >= 150000
     if limits:
         shop.run(right)
+    shop.run(template)
+    shop.run(locks)
     db.admit(broker_rule)
     shop.admit(shop_rules)
     create, delete = moved(block(BROKER, CREATE), port).split("ls build/broker/instances\n")
@@ -149,6 +192,54 @@ def test_broker(texts: list[str], workdir: Workdir, port: int, machines: dict[st
     assert [it for it in shop.run(names) if it.startswith("osb_")] == []
     assert "password authentication failed" in workdir.errors()
     assert "PUBLIC" not in workdir.errors() and limits == ("temp_file_limit" not in workdir.errors())
+    assert "permission denied for function pg_advisory_lock" in workdir.errors()
+    assert "template" not in workdir.errors()  # the broker has nothing to say against it
+    assert shop.run("SELECT setting FROM pg_file_settings WHERE name = 'max_locks_per_transaction';") == ["1024"]
+
+
+@covers(BROKER, TEMPLATE, "export PGOPTIONS=")
+def test_databases_that_exist(texts: list[str], tmp_path: Path) -> None:
+    """The functions are taken away in each database that was sold, whatever its owner has set."""
+    needs("pg_virtualenv")
+    template, take = texts
+    names = ["osb_" + "1" * 32, "osb_" + "2" * 32]
+    with started() as shop:
+        shop.run("CREATE ROLE seller; CREATE DATABASE sold OWNER seller;")
+        for name in names:
+            shop.run(f"CREATE ROLE {name}; CREATE DATABASE {name} OWNER {name} TEMPLATE template0;")
+        for value in (f"role = '{names[0]}'", "search_path = 'none'", "local_preload_libraries = 'none'"):
+            shop.run(f"ALTER DATABASE {names[0]} SET {value};")
+        for value in (f"session_authorization = '{names[1]}'", "default_transaction_read_only = on"):
+            shop.run(f"ALTER DATABASE {names[1]} SET {value};")
+        (tmp_path / "revoke.sql").write_text(template[template.index("REVOKE EXECUTE") :], encoding="utf-8")
+        assert shop.shell(take.replace("=postgres ", f"={shop.user} "), tmp_path) == ""
+        for name in names:
+            options = "-c local_preload_libraries= -c search_path=pg_catalog"
+            with shop.session(dbname=name, options=options).cursor() as cursor:
+                cursor.execute("SELECT has_function_privilege('public', 'pg_try_advisory_lock(bigint)', 'EXECUTE')")
+                assert cursor.fetchone() == (False,)
+
+
+@covers(BROKER, "SELECT pid, usename, state, count(*) AS locks ", "pkill -P ")
+def test_locks(texts: list[str], tmp_path: Path) -> None:
+    """A customer that has taken all locks keeps even the superuser out. The query had found it before that, and the
+    command ends its session.
+    """
+    needs("pg_virtualenv", "pkill")
+    query, end = texts
+    name = "osb_" + "1" * 32
+    take = "SELECT count(pg_advisory_lock(n)) FROM generate_series(1, {}) AS n"
+    with started() as shop:
+        shop.run(f"CREATE ROLE {name} LOGIN PASSWORD 'own'; CREATE DATABASE {name} OWNER {name};")
+        (folder,) = shop.run("SHOW data_directory;")
+        customer = shop.session(dbname=name, user=name, password="own").cursor()
+        customer.execute(take.format(11_000))
+        assert [it.split("|")[1:3] for it in shop.run(query)] == [[name, "idle"]]
+        with pytest.raises(Exception, match="out of shared memory"):
+            customer.execute(take.format(1_000_000))
+        assert shop.is_full()
+        shop.shell(end.replace("DATA", folder), tmp_path)
+        until(lambda: not shop.is_full())
 
 
 @covers(

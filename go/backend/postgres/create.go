@@ -35,8 +35,8 @@ func (d *Databases) Create(ctx context.Context, request broker.Request) error {
 		return err
 	}
 	crash.At("work-half")
-	err = exec(ctx, conn, "CREATE DATABASE "+name+" OWNER "+name+" TEMPLATE template0 ALLOW_CONNECTIONS false "+
-		"CONNECTION LIMIT "+strconv.Itoa(d.options.ConnectionsPerInstance))
+	err = exec(ctx, conn, "CREATE DATABASE "+name+" OWNER "+name+" TEMPLATE "+quote(d.template)+
+		" ALLOW_CONNECTIONS false CONNECTION LIMIT "+strconv.Itoa(d.options.ConnectionsPerInstance))
 	if err != nil {
 		return err
 	}

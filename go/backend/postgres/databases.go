@@ -39,6 +39,8 @@ type Databases struct {
 	url     string
 	options Options
 	server  server
+	// template is the name of the database that those that are sold are copied from.
+	template string
 }
 
 // Open returns the backend that sells databases of the server of a URL. The database that the URL names is the brokers'
@@ -72,6 +74,11 @@ func (d *Databases) prepare(ctx context.Context) (err error) {
 	if d.server, err = readServer(ctx, d.db); err != nil {
 		return err
 	}
+	copied, err := readTemplate(ctx, d.db, d.options.Template)
+	if err != nil {
+		return err
+	}
+	d.template = copied.name
 	if err := migrate(ctx, d.db); err != nil {
 		return err
 	}

@@ -131,12 +131,13 @@ func TestOptions(t *testing.T) {
 
 // What is warned of. Findings H1b and M5 are among it.
 func TestWarningsOf(t *testing.T) {
-	good := server{version: 160000, limitsTempFiles: true, hasFsync: true}
+	good := server{version: 160000, locks: fewestLocks, limitsTempFiles: true, hasFsync: true}
 	for _, it := range []struct {
 		has    string
 		change func(*server)
 	}{
 		{"max_prepared_transactions is 10", func(s *server) { s.prepared = 10 }},
+		{"max_locks_per_transaction is 64: ", func(s *server) { s.locks = 64 }},
 		{"Every role may connect", func(s *server) { s.isOpen = true }},
 		{"is a superuser", func(s *server) { s.isSuperuser = true }},
 		{"operating system account", func(s *server) { s.version = 150018 }},

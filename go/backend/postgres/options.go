@@ -28,6 +28,9 @@ type Options struct {
 	// IdleInTransaction is how long a transaction of a customer may be idle, 10 minutes by default, and no limit if
 	// negative. A customer can change it.
 	IdleInTransaction time.Duration
+	// Template is the database that those that are sold are copied from. The default is DefaultTemplate, or template0 if
+	// there is no such database.
+	Template string
 	// Host and Port are where customers reach the server, by default the host and the port of the URL.
 	Host string
 	Port int
@@ -36,6 +39,9 @@ type Options struct {
 const (
 	// ShortestKey is how many bytes a key has at least.
 	ShortestKey = 32
+	// DefaultTemplate is the name of the template that docs/broker-guide.md creates: in its copies no customer can take
+	// advisory locks.
+	DefaultTemplate = "template_osb"
 
 	defaultConnections   = 20
 	defaultTempFileLimit = 1 << 30

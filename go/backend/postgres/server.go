@@ -12,6 +12,7 @@ import (
 type server struct {
 	version           int // as server_version_num has it
 	prepared          int // max_prepared_transactions
+	locks             int // max_locks_per_transaction
 	role              string
 	database          string
 	isSuperuser       bool
@@ -23,9 +24,10 @@ type server struct {
 }
 
 const selectServer = `
-SELECT current_setting('server_version_num')::int, current_setting('max_prepared_transactions')::int, rolname,
-    current_database(), rolsuper, has_database_privilege('public', current_database(), 'CONNECT'),
-    current_setting('fsync')::boolean, rolcreatedb OR rolsuper, rolcreaterole OR rolsuper
+SELECT current_setting('server_version_num')::int, current_setting('max_prepared_transactions')::int,
+    current_setting('max_locks_per_transaction')::int, rolname, current_database(), rolsuper,
+    has_database_privilege('public', current_database(), 'CONNECT'), current_setting('fsync')::boolean,
+    rolcreatedb OR rolsuper, rolcreaterole OR rolsuper
 FROM pg_roles WHERE rolname = current_user
 `
 
@@ -33,8 +35,8 @@ FROM pg_roles WHERE rolname = current_user
 //
 // Errors: that the server is too old, or that the role may not create databases or roles; the server's.
 func readServer(ctx context.Context, db *sql.DB) (s server, err error) {
-	err = db.QueryRowContext(ctx, selectServer).Scan(&s.version, &s.prepared, &s.role, &s.database, &s.isSuperuser,
-		&s.isOpen, &s.hasFsync, &s.mayCreateDatabase, &s.mayCreateRole)
+	err = db.QueryRowContext(ctx, selectServer).Scan(&s.version, &s.prepared, &s.locks, &s.role, &s.database,
+		&s.isSuperuser, &s.isOpen, &s.hasFsync, &s.mayCreateDatabase, &s.mayCreateRole)
 	if err != nil {
 		return s, err
 	}
@@ -59,8 +61,13 @@ func (d *Databases) Warnings(ctx context.Context) ([]string, error) {
 	if err != nil {
 		return nil, err
 	}
-	return now.warnings(d.options), nil
+	found, err := d.templateWarnings(ctx)
+	return append(now.warnings(d.options), found...), err
 }
+
+// fewestLocks is the least max_locks_per_transaction that isn't warned of. With it, a transaction has to change over
+// 100,000 tables to take all locks of a server with 100 connections.
+const fewestLocks = 1024
 
 func (s server) warnings(options Options) (found []string) {
 	add := func(is bool, format string, arguments ...any) {
@@ -70,6 +77,8 @@ func (s server) warnings(options Options) (found []string) {
 	}
 	add(s.prepared > 0, "max_prepared_transactions is %d: a customer's prepared transaction keeps its database from "+
 		"being deleted. Set it to 0.", s.prepared)
+	add(s.locks < fewestLocks, "max_locks_per_transaction is %d: a customer can take all locks of the server in one "+
+		"transaction. Set it to %d or more.", s.locks, fewestLocks)
 	add(s.isOpen, "Every role may connect to the database %s, where it can take the brokers' locks. Run: "+
 		"REVOKE ALL ON DATABASE %s FROM PUBLIC", s.database, quote(s.database))
 	add(s.isSuperuser, "The role %s is a superuser. CREATEDB and CREATEROLE are enough.", s.role)

@@ -34,7 +34,7 @@ func TestWarnings(t *testing.T) {
 	wantWarning(t, d, "SET ON PARAMETER temp_file_limit", true)
 	pgtest.Exec(t, r.admin, "GRANT SET ON PARAMETER temp_file_limit TO "+r.role)
 	wantWarning(t, d, "SET ON PARAMETER temp_file_limit", false)
-	wantWarning(t, d, "superuser", false)
+	wantWarning(t, d, "is a superuser", false)
 	prepared := r.column("SELECT current_setting('max_prepared_transactions')")[0]
 	wantWarning(t, d, "max_prepared_transactions", prepared != "0")
 	fsync := r.column("SELECT current_setting('fsync')")[0]

@@ -33,7 +33,7 @@ type settings struct {
 	requestTime, sweepTime        time.Duration
 	longestPause                  time.Duration
 	stopTime, commandTime         time.Duration
-	customers                     string
+	customers, template           string
 	journal                       string
 	journalSize                   int // in MiB
 }
@@ -107,6 +107,8 @@ func (s *settings) addPlaces(flags *pflag.FlagSet) {
 		"what to sell: a `folder` for folders, postgresql://.. for databases, or command:PROGRAM")
 	flags.StringVar(&s.customers, "customer-address", "",
 		"the `host:port` at which applications reach the databases, if it isn't that of --backend")
+	flags.StringVar(&s.template, "template", "",
+		"for --backend postgresql://..: the `database` to copy. Default: template_osb if it exists, or else template0")
 	program.JournalFlags(flags, &s.journal, &s.journalSize)
 }
 

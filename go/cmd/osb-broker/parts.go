@@ -135,7 +135,9 @@ func (p *parts) openDatabases(ctx context.Context, s *settings, log *logs.Logger
 	if err != nil {
 		return err
 	}
-	options := postgres.Options{Key: key, ConnectionsPerInstance: s.perInstance, Sessions: s.atOnce()}
+	options := postgres.Options{
+		Key: key, ConnectionsPerInstance: s.perInstance, Sessions: s.atOnce(), Template: s.template,
+	}
 	if options.Host, options.Port, err = customersOf(s.customers, s.backend); err != nil {
 		return program.Unusable(fmt.Errorf("--customer-address: %w", err))
 	}

@@ -60,7 +60,7 @@ type tried struct {
 
 // sharedOptions are the options of serve that configure backends, and how long the end may take.
 var sharedOptions = []string{"backend", "catalog", "customer-address", "backend-key-file", "command-seconds",
-	"connections-per-instance", "stop-seconds"}
+	"connections-per-instance", "template", "stop-seconds"}
 
 func tryCommand(o *outcome) *cobra.Command {
 	t := &tried{settings: &settings{}}
