@@ -154,6 +154,17 @@ def test_rejected(replay: Path, arguments: list[str], reason: str, usage: str) -
     assert run(replay, *arguments, given=SCHEDULE) == rejected(f"{reason}\n\nUsage: {usage}")
 
 
+def test_long_words(replay: Path) -> None:
+    """A word of 100,000 letters, and 10,000 words."""
+    word, many = "a" * 100_000, ["--settle"] * 10_000
+    wanted = rejected(f"unrecognized subcommand '{word}'\n\nUsage: {ALL}")
+    assert run(replay, word, given=SCHEDULE) == wanted
+    wanted = rejected(f"unexpected argument '{word}' found\n\nUsage: {REPLAY}")
+    assert run(replay, "replay", word, given=SCHEDULE) == wanted
+    wanted = rejected(f"the argument '--settle' cannot be used multiple times\n\nUsage: {REPLAY}")
+    assert run(replay, "replay", *many, given=SCHEDULE) == wanted
+
+
 @pytest.mark.parametrize(
     "instance",
     [

@@ -1,15 +1,126 @@
-"""Texts that are longer than any buffer of the package and of the library: each is read and written whole."""
+"""Values that are longer than any buffer of the package and of the library, or far more than usual.
+
+Each call that may report that memory ran out takes such a value. What the call returns is compared with what Python's
+readers and writers make of it. A call that gives up raises MEMORY.
+"""
 from __future__ import annotations
 
+import base64
+import hashlib
 import json
+from typing import Any
+from urllib.parse import parse_qs, quote, unquote
 
 import pytest
-from osb import Answer, Body, BrokerRow, Holding, Kind, OsbError, Phase, Record, State, Status
-from osb.wire import asked_operation, read_answer, read_operation, read_request, write_body, write_target
-from osb_tests.support import ASYNC, ONE, SERVICE, SYNC, request
+from osb import (
+    Answer,
+    Body,
+    BrokerRow,
+    Endpoints,
+    Holding,
+    Id,
+    Kind,
+    OsbError,
+    Phase,
+    Plan,
+    Record,
+    Request,
+    State,
+    Status,
+)
+from osb.binding_wire import (
+    BindingNames,
+    binding_modes,
+    bindings_retrievable,
+    check_binding,
+    read_binding,
+    read_binding_request,
+    read_fetched,
+    receive_binding_request,
+    requires_app,
+    write_binding_body,
+    write_binding_target,
+    write_fetch_target,
+)
+from osb.wire import (
+    Details,
+    Names,
+    asked_operation,
+    attributes_digest,
+    basic_auth,
+    catalogue_plans,
+    check_catalogue,
+    maintenance_conflict,
+    member_text,
+    originating_identity,
+    parameters_digest,
+    plan_version,
+    read_answer,
+    read_details,
+    read_operation,
+    read_request,
+    receive_request,
+    served_catalogue,
+    write_answer,
+    write_body,
+    write_named_body,
+    write_named_target,
+    write_target,
+)
+from osb_tests.support import ASYNC, ONE, SERVICE, SYNC, TWO, authorization, request, status_of
 
 OPERATION = "a" * 10_000
-BLANKS = " " * 4096
+LONG = "\u00e9" * 1_000_000  # 2 MB
+BLANKS = " " * 2_000_000
+MEMBERS: dict[str, Any] = {f"member {number:04}": number for number in range(1_000)}
+FURTHER = {"parameters": {"long": LONG}, **MEMBERS}
+LARGEST = Id(2**64 - 1, 2**64 - 1)
+LARGEST_GUID = "ffffffff-ffff-ffff-ffff-ffffffffffff"
+LONGEST_ID = "/" * 255
+LONG_NAMES = Names(LONGEST_ID, LONGEST_ID, LONGEST_ID)
+LONG_BINDING = BindingNames(LONGEST_ID, LONGEST_ID, LONGEST_ID, LONGEST_ID)
+
+
+def compact(value: Any) -> bytes:
+    """JSON as the library writes it: no spaces, and members in the order of their names."""
+    return json.dumps(value, separators=(",", ":"), ensure_ascii=False, sort_keys=True).encode()
+
+
+def long_request(kind: Kind) -> Request:
+    """A request whose ids have as long texts as there are."""
+    longest = Id.of_text(LONGEST_ID)
+    return Request(kind, True, longest, longest, longest)
+
+
+def guid(number: int) -> str:
+    return f"00000000-0000-0000-0000-{number:012}"
+
+
+# Two thousand plans of one service, of 2 MB.
+PLANS = [
+    {
+        "id": guid(number),
+        "name": f"plan {number}",
+        "description": "d" * 1_000,
+        "x-osb-asynchronous": number % 2 == 1,
+        "maintenance_info": {"version": f"1.0.{number}"},
+    }
+    for number in range(1, 2_001)
+]
+CATALOGUE = compact(
+    {
+        "services": [
+            {
+                "id": str(SERVICE),
+                "name": "service",
+                "description": "a service",
+                "bindable": True,
+                "bindings_retrievable": True,
+                "plans": PLANS,
+            }
+        ]
+    }
+)
 
 
 @pytest.mark.parametrize("filler", [b" ", b"\n"])
@@ -33,8 +144,31 @@ def test_an_operation_of_10000_characters_goes_into_a_target_and_back() -> None:
 def test_blanks_around_a_text_of_one_instance_change_nothing() -> None:
     record = Record(SERVICE, SYNC, 7, State.READY, None)
     assert Record.from_text(BLANKS + record.to_text() + BLANKS) == record
+    assert Record.from_binding_text(BLANKS + record.to_binding_text() + BLANKS) == record
     holding = Holding(BrokerRow(SERVICE, ASYNC, Phase.READY), None, False)
     assert Holding.from_text(BLANKS + holding.to_text() + BLANKS) == holding
+    assert Holding.from_binding_text(BLANKS + holding.to_binding_text() + BLANKS) == holding
+
+
+def test_the_largest_numbers_are_written() -> None:
+    record = Record(LARGEST, LARGEST, 2**64 - 1, State.CLEANING_POLLING, Kind.POLL)
+    wanted = {"attempt": 2**64 - 1, "out": "poll", "plan": LARGEST_GUID, "service": LARGEST_GUID}
+    assert (
+        record.to_text()
+        == record.to_binding_text()
+        == compact(wanted | {"state": "cleaning-polling", "version": 1}).decode()
+    )
+    work = Request(Kind.DEPROVISION, True, LARGEST, LARGEST, LARGEST)
+    holding = Holding(BrokerRow(LARGEST, LARGEST, Phase.DELETE_FAILED), work, False, b"\xff" * 32)
+    named = {"plan": LARGEST_GUID, "service": LARGEST_GUID}
+    held = {
+        "attributes": "ff" * 32,
+        "row": named | {"phase": "delete-failed"},
+        "tombstone": False,
+        "work": named | {"accepts_incomplete": True, "id": LARGEST_GUID, "kind": "deprovision"},
+    }
+    assert holding.to_text() == compact(held | {"version": 2}).decode()
+    assert holding.to_binding_text() == compact(held | {"version": 1}).decode()
 
 
 def test_17_further_members_of_a_body_are_written() -> None:
@@ -57,3 +191,145 @@ def test_further_members_that_nest_too_deep_are_refused(depth: int) -> None:
     body = write_body(request(Kind.PROVISION), "organization", "space", further)
     asked = read_request("PUT", f"/v2/service_instances/{ONE}".encode(), body, len(body))
     assert (asked.kind, asked.service) == (Kind.PROVISION, SERVICE)
+
+
+# ---- answers
+
+
+def test_long_details_of_an_answer_are_read() -> None:
+    named = {"description": LONG, "error": LONG, "dashboard_url": LONG, "operation": OPERATION}
+    metadata = {"labels": {"long": LONG}}
+    body = compact({**named, "metadata": metadata, **MEMBERS})
+    wanted = Details(LONG, LONG, LONG, OPERATION, compact(metadata).decode())
+    assert read_details(body) == wanted
+    assert member_text(body, "description") == json.dumps(LONG, ensure_ascii=False)
+
+
+def test_a_long_description_is_written_as_far_as_it_goes() -> None:
+    written = json.loads(write_answer(Answer(500, Body.OTHER_ERROR), None, LONG))
+    assert written["description"] == LONG[:1_000]
+    assert json.loads(write_answer(Answer(202, Body.EMPTY), OPERATION)) == {"operation": OPERATION}
+
+
+def test_a_long_object_of_a_binding_is_passed_on() -> None:
+    object = compact({"credentials": {"long": LONG}, **MEMBERS})
+    check_binding(object)
+    assert read_binding(Kind.PROVISION, 201, object) == object
+    assert read_fetched(200, object) == object
+
+
+# ---- requests that are written
+
+
+def test_long_texts_go_into_a_target() -> None:
+    prefix, escaped = "/" + "b" * 1_000_000, quote(LONGEST_ID, safe="")
+    asked = long_request(Kind.POLL)
+    target = write_named_target(asked, LONG_NAMES, LONG, prefix)
+    path, _, query = target.partition("?")
+    assert path == f"{prefix}/v2/service_instances/{escaped}/last_operation"
+    ids = {"service_id": [LONGEST_ID], "plan_id": [LONGEST_ID], "accepts_incomplete": ["true"]}
+    assert parse_qs(query) == ids | {"operation": [LONG]}
+    assert asked_operation(target.encode()) == LONG
+    target = write_binding_target(asked, asked.id, LONG_BINDING, LONG, prefix)
+    path, _, query = target.partition("?")
+    assert path == f"{prefix}/v2/service_instances/{escaped}/service_bindings/{escaped}/last_operation"
+    assert parse_qs(query) == ids | {"operation": [LONG]}
+    target = write_fetch_target(asked, asked.id, LONG_BINDING, prefix)
+    path, _, query = target.partition("?")
+    assert path == f"{prefix}/v2/service_instances/{escaped}/service_bindings/{escaped}"
+    assert parse_qs(query) == {"service_id": [LONGEST_ID], "plan_id": [LONGEST_ID]}
+    assert unquote(write_target(request(Kind.POLL), LONG)).endswith(f"&operation={LONG}")
+
+
+def test_long_members_go_into_a_body() -> None:
+    further = compact(FURTHER).decode()
+    guids = {"service_id": str(SERVICE), "plan_id": str(SYNC)}
+    of_space = {"organization_guid": LONG, "space_guid": LONG}
+    assert write_body(request(Kind.PROVISION), LONG, LONG, further) == compact(FURTHER | guids | of_space)
+    ids = {"service_id": LONGEST_ID, "plan_id": LONGEST_ID}
+    written = write_named_body(Kind.PROVISION, LONG_NAMES, LONG, LONG, further)
+    assert written == compact(FURTHER | ids | of_space)
+    assert write_binding_body(Kind.PROVISION, LONG_BINDING, further) == compact(FURTHER | ids)
+
+
+# ---- requests that are read
+
+
+def test_a_long_provision_is_read() -> None:
+    of_space = {"organization_guid": LONG, "space_guid": LONG}
+    parts = {"context": {"long": LONG}, "parameters": {"long": LONG}, "maintenance_info": {"version": LONG}}
+    body = compact({**MEMBERS, **parts, **of_space, "service_id": LONGEST_ID, "plan_id": LONGEST_ID})
+    target = f"/v2/service_instances/{quote(LONGEST_ID, safe='')}?other={quote(LONG)}".encode()
+    received = receive_request("PUT", target, body, len(body))
+    assert read_request("PUT", target, body, len(body)) == received.asked
+    assert (received.asked.kind, received.asked.service) == (Kind.PROVISION, Id.of_text(LONGEST_ID))
+    assert (received.instance, received.service, received.plan) == (LONGEST_ID, LONGEST_ID, LONGEST_ID)
+    assert received.parts.context == received.parts.parameters == compact({"long": LONG}).decode()
+    assert status_of(lambda: maintenance_conflict(LONG, body)) is None
+    assert status_of(lambda: maintenance_conflict(LONG[1:], body)) == Status.REFUSED_MAINTENANCE
+
+
+def test_a_long_bind_is_read() -> None:
+    parts = {"context": {"long": LONG}, "parameters": {"long": LONG}, "bind_resource": {"app_guid": LONG}}
+    body = compact({**MEMBERS, **parts, "service_id": LONGEST_ID, "plan_id": LONGEST_ID})
+    escaped = quote(LONGEST_ID, safe="")
+    target = f"/v2/service_instances/{escaped}/service_bindings/{escaped}?other={quote(LONG)}".encode()
+    received = receive_binding_request("PUT", target, body, len(body))
+    assert read_binding_request("PUT", target, body, len(body)) == received.asked
+    assert (received.instance, received.binding) == (LONGEST_ID, LONGEST_ID)
+    assert (received.service, received.plan) == (LONGEST_ID, LONGEST_ID)
+    assert received.parts.context == received.parts.parameters == compact({"long": LONG}).decode()
+    assert received.parts.bind_resource == compact({"app_guid": LONG}).decode()
+    assert status_of(lambda: requires_app(True, body)) is None
+
+
+@pytest.mark.parametrize("method, kind", [("GET", Kind.POLL), ("DELETE", Kind.DEPROVISION)])
+def test_a_query_of_many_parameters_is_read(method: str, kind: Kind) -> None:
+    """Each parameter that isn't named in the standard is passed over: 10,000 of them, and one of 2 MB."""
+    more = "".join(f"other{number}=1&" for number in range(10_000)) + f"long={quote(LONG)}&"
+    query = f"?{more}service_id={SERVICE}&plan_id={SYNC}&accepts_incomplete=true&operation={quote(LONG)}"
+    last = "/last_operation" if kind == Kind.POLL else ""
+    target = f"/v2/service_instances/{ONE}{last}{query}".encode()
+    asked = read_request(method, target, b"", 0)
+    assert (asked.kind, asked.service, asked.plan) == (kind, SERVICE, SYNC)
+    assert asked_operation(target) == LONG
+    received = receive_request(method, target, b"", 0)
+    assert (received.service, received.plan) == (str(SERVICE), str(SYNC))
+    target = f"/v2/service_instances/{ONE}/service_bindings/{TWO}{last}{query}".encode()
+    binding = receive_binding_request(method, target, b"", 0)
+    assert (binding.instance, binding.binding) == (str(ONE), str(TWO))
+    assert (binding.service, binding.plan) == (str(SERVICE), str(SYNC))
+
+
+# ---- digests and headers
+
+
+def test_digests_of_long_parameters() -> None:
+    parameters = {"long": LONG, "list": list(range(100_000)), **MEMBERS}
+    digest = hashlib.sha256(compact(parameters)).digest()
+    assert parameters_digest(json.dumps(parameters).encode()) == digest
+    assert attributes_digest(json.dumps({**MEMBERS, "parameters": parameters}).encode()) == digest
+
+
+def test_long_headers() -> None:
+    assert basic_auth(authorization(LONG, LONG), LONG, LONG)
+    assert not basic_auth(authorization(LONG, LONG + "a"), LONG, LONG)
+    object = compact({"user": LONG, **MEMBERS})
+    identity = originating_identity("p" * 1_000_000 + " " + base64.b64encode(object).decode())
+    assert identity is not None
+    assert (identity.platform, identity.object) == ("p" * 1_000_000, object.decode())
+
+
+# ---- catalogues
+
+
+def test_a_catalogue_of_2000_plans() -> None:
+    ids = [Id.of(str(plan["id"])) for plan in PLANS]
+    is_asynchronous = [bool(plan["x-osb-asynchronous"]) for plan in PLANS]
+    assert catalogue_plans(CATALOGUE) == [Plan(SERVICE, *it) for it in zip(ids, is_asynchronous)]
+    check_catalogue(CATALOGUE, Endpoints(bindings=True, fetching_bindings=True))
+    assert plan_version(CATALOGUE, SERVICE, ids[-1]) == "1.0.2000"
+    document = json.loads(CATALOGUE)
+    assert json.loads(served_catalogue(CATALOGUE)) == document | {"x-osb-tombstones": True}
+    assert binding_modes(CATALOGUE) == [Plan(SERVICE, plan, False) for plan in ids]
+    assert bindings_retrievable(CATALOGUE, SERVICE)
