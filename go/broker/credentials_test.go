@@ -8,6 +8,7 @@ import (
 	"testing"
 
 	"pippinterm/broker"
+	"pippinterm/osb"
 )
 
 // A mute backend can't report the credentials of what exists. Its creation of a binding may fail and leave all of it.
@@ -156,5 +157,52 @@ func TestCredentialsAfterADeletionThatFailed(t *testing.T) {
 	given := it.ask("PUT", instances+"i/service_bindings/b", bodyOf(now, ""))
 	if got := credentialsOf(given.body); given.status != 201 || got != "after" {
 		t.Errorf("got %d with the credentials %q, want 201 with \"after\"", given.status, got)
+	}
+}
+
+// A reporting store looks at each entry of a binding that is written.
+type reporting struct {
+	broker.Store
+	written func(broker.Entry)
+}
+
+func (r *reporting) Change(ctx context.Context, key broker.Key, fence int64, step broker.Step) error {
+	return r.Store.Change(ctx, key, fence, func(held broker.Held) (*broker.Entry, error) {
+		next, err := step(held)
+		if err == nil && next != nil && key.IsBinding {
+			r.written(*next)
+		}
+		return next, err
+	})
+}
+
+// No transaction writes a binding that is ready without its credentials: a crash after it would lose them.
+func TestCredentialsAreWrittenWithTheRow(t *testing.T) {
+	number, err := osb.IDOfText("b")
+	must(err)
+	key := broker.BindingKey(keyOf("i").Instance, number)
+	for _, plan := range []string{now, bindLater} {
+		ready := 0
+		l := newLone(t)
+		backend := newShelf(calm)
+		store := &reporting{Store: l.store, written: func(entry broker.Entry) {
+			if row, isHeld := entry.Holding.Row(); isHeld && row.Phase == osb.PhaseReady {
+				ready++
+				if got, want := credentialsOf(entry.Binding), backend.credentials(key); got != want {
+					t.Errorf("plan %s: got the credentials %q, want %q", plan, got, want)
+				}
+			}
+		}}
+		l.Service = broker.NewService(catalogueFor(t, catalogue), store, backend, newMemoryLocks(), broker.Rules{},
+			l.observed)
+		l.handler = handlerFor(t, l.Service)
+		l.expect(t, 201, "PUT", instances+"i", bodyOf(plan, ""))
+		bound := instances + "i/service_bindings/b?accepts_incomplete=true"
+		if given := l.ask("PUT", bound, bodyOf(plan, "")); given.status == 202 {
+			must(l.TakeUp(context.Background(), key))
+		}
+		if ready != 1 {
+			t.Errorf("plan %s: got %d entries that are ready, want 1", plan, ready)
+		}
 	}
 }

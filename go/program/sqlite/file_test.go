@@ -536,3 +536,23 @@ func TestUnknownCommit(t *testing.T) {
 		t.Errorf("after it: %v", err)
 	}
 }
+
+// A commit is on the disk when it returns, on each connection that writes or reads: SQLite's level FULL, which has the
+// number 2.
+func TestCommitsAreSynced(t *testing.T) {
+	file := open(t, filepath.Join(t.TempDir(), "file"), options())
+	look := func(n *notes) error {
+		return n.Each("PRAGMA synchronous", nil, func(row []driver.Value) error {
+			if got, want := row[0], int64(2); got != want {
+				t.Errorf("got synchronous = %v, want %d", got, want)
+			}
+			return nil
+		})
+	}
+	if err := file.Write(background, look); err != nil {
+		t.Error(err)
+	}
+	if err := file.Read(background, look); err != nil {
+		t.Error(err)
+	}
+}
