@@ -105,6 +105,13 @@ class Packages:
         told = self._run("test", *how, *options, *these, GOFLAGS=_flags(tags, race), **environment)
         assert environment.get("OSB_TEST_POSTGRESQL") == "" or SKIPPED.findall(told) == []
 
+    def mutants(self, folder: Path, edits: list[Path]) -> str:
+        """Runs the mutants in these files, with PostgreSQL servers of their own, and returns what is printed."""
+        program = str(folder / "mutants")
+        with building():
+            self._run("build", "-o", program, "./mutants", GOFLAGS=_flags("", False))
+        return self._run(program, "check", "-workers", "2", "-folder", str(folder), *map(str, edits))
+
     def _compile(self, *these: str, flags: str, race: bool = False) -> None:
         with building(race):
             self._run("list", "-export", "-test", *these, GOFLAGS=flags)

@@ -3,6 +3,7 @@ package main
 import (
 	"bytes"
 	"context"
+	"errors"
 	"fmt"
 	"go/ast"
 	"io"
@@ -31,7 +32,7 @@ type edit struct {
 type edited struct{ pkg, test string }
 
 // crashTags are those of a build with crash points, which has more tests.
-const crashTags = "libsqlite3,crashpoints"
+const crashTags = tags + ",crashpoints"
 
 // readEdit reads the file of an edit.
 func readEdit(path string) (edit, error) {
@@ -125,6 +126,7 @@ func checkEdits(ctx context.Context, out io.Writer, folder string, many int, pat
 			return fmt.Errorf("%s doesn't compile: %w", edits[id-1].edit.name, why)
 		}
 	}
+	fmt.Fprintf(out, "%d mutants are built at once\n", len(mutants))
 	binaries, err := build(ctx, filepath.Join(folder, "committed"), crashTags, packages, mutants)
 	if err != nil {
 		return err
@@ -153,11 +155,15 @@ func readEdits(ctx context.Context, paths []string) (found []committed, packages
 	if packages, err = load(ctx, crashTags, these...); err != nil {
 		return nil, nil, err
 	}
+	var wrongs []string // all, because a change of the code may be in the way of many
 	for i := range found {
 		if found[i].mutant, err = found[i].edit.mutant(packages); err != nil {
-			return nil, nil, err
+			wrongs = append(wrongs, err.Error())
 		}
 		found[i].mutant.ID = i + 1
+	}
+	if len(wrongs) > 0 {
+		return nil, nil, errors.New(strings.Join(wrongs, "\n"))
 	}
 	return found, packages, nil
 }

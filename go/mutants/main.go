@@ -100,8 +100,8 @@ type drawing struct {
 	count, many int
 }
 
-// tags are those of a build without crash points.
-const tags = "libsqlite3"
+// tags are those of the programs, so that most packages are in Go's cache.
+const tags = "libsqlite3,netgo,osusergo,sqlite_omit_load_extension"
 
 func (d *drawing) run(ctx context.Context, patterns []string) error {
 	if len(patterns) == 0 {
@@ -115,7 +115,7 @@ func (d *drawing) run(ctx context.Context, patterns []string) error {
 	if err != nil {
 		return err
 	}
-	fmt.Fprintf(d.out, "%d mutants are drawn with the seed %d. All are built at once\n", len(mutants), d.seed)
+	fmt.Fprintf(d.out, "%d mutants are drawn with the seed %d, and built at once\n", len(mutants), d.seed)
 	place := filepath.Join(d.folder, digest(packages, mutants))
 	built := filepath.Join(place, "built")
 	binaries, err := build(ctx, built, tags, packages, mutants)

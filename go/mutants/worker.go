@@ -60,6 +60,9 @@ func (w *worker) do(ctx context.Context, r run) (o outcome, err error) {
 		return o, err
 	}
 	defer os.RemoveAll(temporary)
+	if err := os.Chmod(temporary, 0o755); err != nil { // some tests are another user for a while
+		return o, err
+	}
 	process, err := w.process(ctx, r, temporary)
 	if err != nil {
 		return o, err

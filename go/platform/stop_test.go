@@ -151,6 +151,11 @@ func TestClaimNotWritten(t *testing.T) {
 	if !isBroken.Load() || p.failed("store_failed") != 1 || p.failed("lease_lost") != 0 {
 		t.Errorf("broken %v, and %v failed", isBroken.Load(), p.failures)
 	}
+	p.set(func() {
+		if got := len(p.sent); got != 1 {
+			t.Errorf("got %d requests, want 1: the one whose claim wasn't written isn't sent", got)
+		}
+	})
 }
 
 // A request whose time is over isn't sent: another worker may have its row by then.
@@ -160,5 +165,29 @@ func TestNothingIsSentAfterItsTime(t *testing.T) {
 	late := &sending{out: Outgoing{Until: time.Now()}}
 	if in := p.engine.send(background, late, "provision"); !errors.Is(in.Lost, errLate) || len(p.sent) != 0 {
 		t.Errorf("got %v and %d requests, want %v and none", in.Lost, len(p.sent), errLate)
+	}
+}
+
+// Nothing is sent before the claim that records it is committed.
+func TestNothingIsSentBeforeItsClaim(t *testing.T) {
+	p := newPlant(t, Options{})
+	check(t, p.engine.RunOnce(background))
+	key := p.create(NewInstance{Tries: 1})
+	var requests, early atomic.Int64
+	usual := p.exchange
+	p.exchange = func(ctx context.Context, out Outgoing) Incoming {
+		requests.Add(1)
+		return usual(ctx, out)
+	}
+	var isDecided atomic.Bool
+	p.store.between = func(point string, _ Key) {
+		if point == "claim-decided" && isDecided.CompareAndSwap(false, true) {
+			early.Store(requests.Load())
+		}
+	}
+	p.started(background)
+	p.untilState(key, Ready)
+	if got := early.Load(); !isDecided.Load() || got != 0 {
+		t.Errorf("got %d requests before the first claim was committed, want none", got)
 	}
 }
