@@ -185,7 +185,7 @@ func TestARoleThatOwnsALot(t *testing.T) {
 	it, other := created(t, d), created(t, d)
 	bind, one := bound(t, d, it.request.Key)
 	name, others := postgres.NameOf(it.request.Key), postgres.NameOf(other.request.Key)
-	count := createMany(t, r, r.login(one.Username, one.Password, one.Database))
+	count := createMany(t, r, r.login(one.Username, one.Password, one.Database), manyViews)
 	if err := d.DeleteBinding(bind.ctx, bind.request); err != nil {
 		t.Errorf("DeleteBinding: %v", err)
 	}
@@ -196,7 +196,7 @@ func TestARoleThatOwnsALot(t *testing.T) {
 	}
 	_ = in.admin.Close() // the broker can't end a superuser's session
 	pgtest.Exec(t, r.customer(other.request.Key), "GRANT ALL ON DATABASE "+others+" TO "+name)
-	createMany(t, r, r.login(name, postgres.PasswordOf(secret, it.request.Key), others))
+	createMany(t, r, r.login(name, postgres.PasswordOf(secret, it.request.Key), others), manyViews)
 	if err := d.Delete(it.ctx, it.request); err != nil {
 		t.Errorf("Delete: %v", err)
 	}
@@ -204,8 +204,11 @@ func TestARoleThatOwnsALot(t *testing.T) {
 	wantThere(t, d, other, broker.Whole)
 }
 
-// createMany creates more views than one transaction can lock, as the role that has logged in, and returns how many.
-func createMany(t *testing.T, r *rig, db *sql.DB) string {
+const manyViews = "CREATE VIEW s.v%d AS SELECT 1"
+
+// createMany runs statements for more objects than one transaction can lock, as the role that has logged in, and returns
+// how many. %d is the number of the object.
+func createMany(t *testing.T, r *rig, db *sql.DB, statements ...string) string {
 	t.Helper()
 	most, err := strconv.Atoi(r.column("SELECT (current_setting('max_locks_per_transaction')::integer * " +
 		"current_setting('max_connections')::integer)::text")[0])
@@ -213,10 +216,15 @@ func createMany(t *testing.T, r *rig, db *sql.DB) string {
 		t.Fatal(err)
 	}
 	conn := hold(t, db, "SET ROLE NONE", "CREATE SCHEMA s")
+	loop := ""
+	for _, it := range statements {
+		loop += "EXECUTE format('" + strings.ReplaceAll(it, "%d", "%1$s") + "', n); "
+	}
 	count := 0
 	for ; count < 3*most; count += 1000 { // the server has some spare room
-		if _, err := conn.ExecContext(context.Background(), fmt.Sprintf("DO $$ BEGIN FOR n IN %d..%d LOOP "+
-			"EXECUTE 'CREATE VIEW s.v' || n || ' AS SELECT 1'; END LOOP; END $$", count, count+999)); err != nil {
+		_, err := conn.ExecContext(context.Background(),
+			fmt.Sprintf("DO $$ BEGIN FOR n IN %d..%d LOOP %sEND LOOP; END $$", count, count+999, loop))
+		if err != nil {
 			t.Fatal(err)
 		}
 	}

@@ -172,6 +172,28 @@ func TestACustomerThatShutsItsDatabase(t *testing.T) {
 	r.wantNothing(of.request.Key)
 }
 
+// Policies for a role on more tables than one transaction can lock keep nothing either.
+func TestPoliciesOnManyTables(t *testing.T) {
+	if testing.Short() {
+		t.Skip("it takes many seconds")
+	}
+	r := newRig(t)
+	d := r.open()
+	of, other, third := created(t, d), created(t, d), created(t, d)
+	name, thirds := postgres.NameOf(of.request.Key), postgres.NameOf(third.request.Key)
+	count := createMany(t, r, r.customer(other.request.Key), "CREATE TABLE s.t%d ()",
+		"CREATE POLICY one ON s.t%d TO "+name, "CREATE POLICY two ON s.t%d TO "+name+", "+thirds)
+	if err := d.Delete(of.ctx, of.request); err != nil {
+		t.Errorf("Delete: %v", err)
+	}
+	r.wantNothing(of.request.Key)
+	in := &rig{t: t, admin: pgtest.DB(t, pgtest.In(t, pgtest.URL(t), postgres.NameOf(other.request.Key)))}
+	got := in.column("SELECT DISTINCT concat_ws(' ', policyname, roles, count(*)) FROM pg_policies GROUP BY policyname, roles")
+	if want := "two {" + thirds + "} " + count; len(got) != 1 || got[0] != want {
+		t.Errorf("the policies are %v, want %s", got, want)
+	}
+}
+
 // Roles of which the broker's role isn't a member any more keep nothing. On PostgreSQL 14 a role that has logged in can
 // bring that about.
 func TestRolesThatAreLeft(t *testing.T) {

@@ -130,12 +130,18 @@ FROM (SELECT oid, relkind FROM pg_class AS c WHERE relowner = $1::text::regrole 
     relkind IN ('v', 'm', 'f', 'r', 'p') OR relkind = 'S' AND NOT EXISTS (SELECT FROM pg_depend
         WHERE classid = 'pg_class'::regclass AND objid = c.oid AND deptype IN ('a', 'i')))
     ORDER BY relkind DESC LIMIT 500) AS r`
+	selectPolicies = `
+SELECT string_agg(CASE WHEN others IS NULL THEN format('DROP POLICY IF EXISTS %I ON %s', polname, polrelid::regclass)
+    ELSE format('ALTER POLICY %I ON %s TO %s', polname, polrelid::regclass, others) END, ';')
+FROM (SELECT polname, polrelid, (SELECT string_agg(quote_ident(rolname), ', ') FROM pg_roles
+        WHERE oid = ANY (polroles) AND oid <> $1::text::regrole) AS others
+    FROM pg_policy WHERE $1::text::regrole = ANY (polroles) AND $2::text IS NOT NULL LIMIT 500) AS p`
 )
 
-// disownByParts takes away the relations that a role owns, a few at a time. They become the heir's. Without an heir
-// they are dropped.
+// disownByParts takes away the relations that a role owns, and its part in policies, a few at a time. The relations
+// become the heir's. Without an heir they are dropped.
 func disownByParts(ctx context.Context, db *sql.DB, role, heir string) error {
-	for _, query := range []string{selectSchemas, selectRelations} {
+	for _, query := range []string{selectSchemas, selectRelations, selectPolicies} {
 		for {
 			var statements sql.NullString
 			if err := db.QueryRowContext(ctx, query, quote(role), heir).Scan(&statements); err != nil {
