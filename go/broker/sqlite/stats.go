@@ -3,7 +3,7 @@ package sqlite
 import (
 	"context"
 	"database/sql/driver"
-	"errors"
+	"fmt"
 	"sync"
 	"time"
 
@@ -19,39 +19,58 @@ type counted struct {
 }
 
 // Stats counts what is kept. Tombstones are counted at most once a minute, since that reads all rows.
-func (s *Store) Stats(ctx context.Context) (stats broker.Stats, err error) {
-	err = s.file.Read(ctx, func(c *connection) error {
-		stats = broker.Stats{} // the call may be repeated
-		return c.unfinished(func(key broker.Key) error {
-			held, err := c.held(key)
-			if errors.As(err, &unreadable{}) { // it isn't counted
-				return nil
-			}
-			if err == nil {
-				add(&stats, held.Entry)
-			}
-			return err
-		})
-	})
+func (s *Store) Stats(ctx context.Context) (broker.Stats, error) {
+	stats, err := s.UnfinishedStats(ctx)
 	if err == nil {
 		stats.Tombstones, err = s.countTombstones(ctx)
 	}
 	return stats, err
 }
 
-// add counts an unfinished entry.
-func add(stats *broker.Stats, entry broker.Entry) {
-	row, isHeld := entry.Holding.Row()
-	switch _, isPending := entry.Holding.Work(); {
-	case isPending:
-		stats.Pending++
-	case isHeld && row.Phase == osb.PhaseWaiting:
-		stats.Waiting++
-	default:
-		stats.Operating++
+// UnfinishedStats returns Stats without Tombstones. It reads only the rows that are unfinished.
+func (s *Store) UnfinishedStats(ctx context.Context) (stats broker.Stats, err error) {
+	err = s.file.Read(ctx, func(c *connection) (err error) {
+		stats, err = c.countUnfinished()
+		return err
+	})
+	return stats, err
+}
+
+// The unfinished rows of a table, by whether work is pending and by the phase. A text that isn't JSON isn't counted.
+const unfinishedBy = `SELECT json_extract(holding, '$.work') IS NOT NULL, json_extract(holding, '$.row.phase'),
+    count(*), min(since) FROM %s WHERE unfinished AND json_valid(holding) GROUP BY 1, 2`
+
+// countUnfinished counts the unfinished rows.
+func (c *connection) countUnfinished() (stats broker.Stats, err error) {
+	for _, table := range []string{"holdings", "bindings"} {
+		err := c.each(fmt.Sprintf(unfinishedBy, table), func(row []driver.Value) error {
+			isPending, _ := row[0].(int64)
+			phase, _ := row[1].(string)
+			add(&stats, isPending != 0, phase, row[2], row[3])
+			return nil
+		})
+		if err != nil {
+			return broker.Stats{}, err
+		}
 	}
-	if !entry.Since.IsZero() && (stats.Oldest.IsZero() || entry.Since.Before(stats.Oldest)) {
-		stats.Oldest = entry.Since
+	return stats, nil
+}
+
+// add adds a number of unfinished rows, of which the oldest began at a time in milliseconds.
+func add(stats *broker.Stats, isPending bool, phase string, number, oldest driver.Value) {
+	count, _ := number.(int64)
+	switch {
+	case isPending:
+		stats.Pending += int(count)
+	case phase == "waiting":
+		stats.Waiting += int(count)
+	default:
+		stats.Operating += int(count)
+	}
+	if at, isKnown := oldest.(int64); isKnown {
+		if since := time.UnixMilli(at).UTC(); stats.Oldest.IsZero() || since.Before(stats.Oldest) {
+			stats.Oldest = since
+		}
 	}
 }
 

@@ -142,3 +142,34 @@ func TestStoreGoesAway(t *testing.T) {
 	s.expect(410, "GET", one+"/last_operation", "")
 	s.stop()
 }
+
+// /metrics is answered though the store hangs, as the server does after SIGSTOP. Its sessions notice that much later.
+func TestMetricsWhileTheStoreHangs(t *testing.T) {
+	address, environment := postgresql(t)
+	schema := "osb_metrics_hangs"
+	db := pgtest.DB(t, pgtest.URL(t))
+	pgtest.Exec(t, db, "DROP SCHEMA IF EXISTS "+schema+" CASCADE", "CREATE SCHEMA "+schema)
+	t.Cleanup(func() { pgtest.Exec(t, db, "DROP SCHEMA "+schema+" CASCADE") })
+	proxy, address := pgtest.NewProxy(t, pgtest.With(t, address, "search_path", schema))
+	s := start(t, environment, "--state", t.TempDir(), "--store", address)
+	s.expect(200, "GET", "/v2/catalog", "")
+	metrics := func(up string) time.Duration {
+		t.Helper()
+		begun := time.Now()
+		status, text := s.ask("GET", "/metrics", "")
+		if status != 200 || !strings.Contains(text, "\nosb_broker_store_up "+up+"\n") ||
+			!strings.Contains(text, "\nosb_broker_requests_total{route=\"catalog\",status=\"200\"} 1\n") {
+			t.Errorf("want store_up %s: %d %.3000s", up, status, text)
+		}
+		return time.Since(begun)
+	}
+	metrics("1")
+	time.Sleep(time.Second) // for which counts are used
+	proxy.Hang(true)
+	for n := 0; n < 3; n++ {
+		if took := metrics("0"); took > 15*time.Second { // 2 seconds, and what a machine under load adds
+			t.Errorf("it took %v", took)
+		}
+	}
+	proxy.Hang(false)
+}

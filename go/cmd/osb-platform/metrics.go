@@ -2,6 +2,7 @@ package main
 
 import (
 	"context"
+	"errors"
 	"net/http"
 	"strconv"
 	"sync"
@@ -12,6 +13,7 @@ import (
 	"github.com/prometheus/client_golang/prometheus/promhttp"
 
 	"pippinterm/platform"
+	"pippinterm/program/latest"
 )
 
 const prefix = "osb_platform_"
@@ -76,9 +78,10 @@ func newMetrics(dropped, lost func() uint64) *metrics {
 	return m
 }
 
-// addStore adds what a store counts. The store isn't asked after ctx is done.
+// addStore adds what a store counts. The store isn't asked after ctx is done, and a scrape waits for it for 2 seconds at
+// most.
 func (m *metrics) addStore(ctx context.Context, store platform.Store) {
-	m.registry.MustRegister(newStoreCollector(ctx, store))
+	m.registry.MustRegister(newStoreCollector(ctx, store, time.Now))
 }
 
 func (m *metrics) handler() http.Handler {
@@ -169,82 +172,108 @@ func (n *names) name(name string) string {
 }
 
 const (
-	keptFor  = 5 * time.Second // how long counts of a store are used
-	mostTime = 5 * time.Second // how long the store may take to count
+	keptFor     = 5 * time.Second  // how long counts of a store are used
+	mostTime    = 5 * time.Second  // how long the store may take to say when the oldest row is due
+	mostToCount = 30 * time.Second // how long the store may take to count
+	mostWait    = 2 * time.Second  // how long a scrape waits for the store
 )
 
-// A storeCollector has the counts of a store. If the store fails, only store_up is sent, and oldest_due_seconds by what
-// was read last.
+// A storeCollector has the counts of a store. If the store fails, or doesn't answer in time, only store_up is sent, and
+// oldest_due_seconds by what was read last. While only the counting takes long, the last counts are sent.
 //
 //	osb_platform_records{broker,kind,state}   instances and bindings in each state
 //	osb_platform_unsettled                    those that are unsettled
 //	osb_platform_oldest_unsettled_seconds     for how long the oldest of them is, or 0
 //	osb_platform_oldest_due_seconds           for how long the oldest row is due that isn't carried out, or 0
-//	osb_platform_store_up                     1, or 0 if the store fails
+//	osb_platform_store_up                     1, or 0 if the store fails or doesn't answer within 2 seconds
 type storeCollector struct {
-	ctx   context.Context // Collect has none
-	store platform.Store
-	now   func() time.Time
+	due      *latest.Value[dueTime]
+	counts   *latest.Value[counts]
+	now      func() time.Time
+	mostWait time.Duration
 
-	up, records, unsettled, oldest, due *prometheus.Desc
-
-	mutex  sync.Mutex // is held while the store is asked
-	at     time.Time  // when the store was asked last
-	readAt time.Time  // when it has answered last; zero before
-	counts counts     // what it has answered last
-	err    error      // of the last time that it was asked
+	up, records, unsettled, oldest, oldestDue *prometheus.Desc
 }
 
-// Counts are what a store was asked for.
-type counts struct {
-	rows []platform.Count
-	due  time.Time // since when the oldest row is due, or will be; zero if none is
-	now  time.Time // the store's time
+// A dueTime is since when the oldest row is due, or when it will be; due is zero if none is.
+type dueTime struct {
+	due, now time.Time // of the store
+	readAt   time.Time // of this process
 }
 
-// late is for how long the oldest row is due once so much time has passed.
-func (c counts) late(passed time.Duration) time.Duration {
-	if late := c.now.Add(passed).Sub(c.due); !c.due.IsZero() && late > 0 {
+// late is for how long the oldest row is due.
+func (d dueTime) late(now time.Time) time.Duration {
+	if late := d.now.Add(now.Sub(d.readAt)).Sub(d.due); !d.due.IsZero() && late > 0 {
 		return late
 	}
 	return 0
 }
 
-func newStoreCollector(ctx context.Context, store platform.Store) *storeCollector {
+// Counts are the rows of a store, counted at a time.
+type counts struct {
+	rows []platform.Count
+	now  time.Time // of the store, or zero before
+}
+
+func newStoreCollector(ctx context.Context, store platform.Store, now func() time.Time) *storeCollector {
 	describe := func(name, help string, labels ...string) *prometheus.Desc {
 		return prometheus.NewDesc(prefix+name, help, labels, nil)
 	}
+	askDue := func(ctx context.Context) (found dueTime, err error) {
+		found.due, found.now, err = store.OldestDue(ctx)
+		found.readAt = now()
+		return found, err
+	}
+	count := func(ctx context.Context) (found counts, err error) {
+		if _, found.now, err = store.OldestDue(ctx); err == nil {
+			found.rows, err = store.Counts(ctx)
+		}
+		return found, err
+	}
 	return &storeCollector{
-		ctx: ctx, store: store, now: time.Now,
+		due:       latest.New(ctx, askDue, latest.Options{Kept: keptFor, Longest: mostTime, Now: now}),
+		counts:    latest.New(ctx, count, latest.Options{Kept: keptFor, Longest: mostToCount, Now: now}),
+		now:       now,
+		mostWait:  mostWait,
 		up:        describe("store_up", "Whether the store could count."),
 		records:   describe("records", "Instances and bindings in each state.", "broker", "kind", "state"),
 		unsettled: describe("unsettled", "Instances and bindings that are unsettled."),
 		oldest:    describe("oldest_unsettled_seconds", "For how long the oldest of them is, or 0."),
-		due:       describe("oldest_due_seconds", "For how long the oldest row is due that isn't carried out, or 0."),
+		oldestDue: describe("oldest_due_seconds", "For how long the oldest row is due that isn't carried out, or 0."),
 	}
 }
 
 // Describe sends the descriptions.
 func (c *storeCollector) Describe(to chan<- *prometheus.Desc) {
-	for _, it := range []*prometheus.Desc{c.up, c.records, c.unsettled, c.oldest, c.due} {
+	for _, it := range []*prometheus.Desc{c.up, c.records, c.unsettled, c.oldest, c.oldestDue} {
 		to <- it
 	}
 }
 
-// Collect sends the counts.
+// Collect sends the counts. It waits for the store no longer than mostWait.
 func (c *storeCollector) Collect(to chan<- prometheus.Metric) {
-	found, passed, err := c.ask()
+	end := time.Now().Add(c.mostWait)
 	send := func(desc *prometheus.Desc, value float64, labels ...string) {
 		to <- prometheus.MustNewConstMetric(desc, prometheus.GaugeValue, value, labels...)
 	}
-	if !found.now.IsZero() {
-		send(c.due, found.late(passed).Seconds())
+	due, err := c.due.Get(c.mostWait)
+	if !due.now.IsZero() {
+		send(c.oldestDue, due.late(c.now()).Seconds())
 	}
 	if err != nil {
 		send(c.up, 0)
 		return
 	}
+	found, err := c.counts.Get(time.Until(end))
+	isCounting := errors.Is(err, latest.ErrSlow)
+	if err != nil && !isCounting {
+		send(c.up, 0)
+		return
+	}
 	send(c.up, 1)
+	if isCounting && found.now.IsZero() {
+		return
+	}
 	unsettled, oldest := 0, time.Duration(0)
 	for _, it := range found.rows {
 		send(c.records, float64(it.Count), it.Broker, kindOf(it.IsBinding), string(it.State))
@@ -265,28 +294,4 @@ func kindOf(isBinding bool) string {
 		return "binding"
 	}
 	return "instance"
-}
-
-// ask returns counts, and for how long they are old: at most keptFor. If the store fails, the error says why, and the
-// counts are those that were read last, however old they are.
-func (c *storeCollector) ask() (found counts, passed time.Duration, err error) {
-	c.mutex.Lock()
-	defer c.mutex.Unlock()
-	if c.at.IsZero() || c.now().Sub(c.at) >= keptFor {
-		ctx, cancel := context.WithTimeout(c.ctx, mostTime)
-		defer cancel()
-		c.at = c.now()
-		if found, c.err = countsOf(ctx, c.store); c.err == nil {
-			c.counts, c.readAt = found, c.now()
-		}
-	}
-	return c.counts, c.now().Sub(c.readAt), c.err
-}
-
-func countsOf(ctx context.Context, store platform.Store) (found counts, err error) {
-	if found.rows, err = store.Counts(ctx); err != nil {
-		return found, err
-	}
-	found.due, found.now, err = store.OldestDue(ctx)
-	return found, err
 }

@@ -127,11 +127,56 @@ func TestMetricsWithoutStore(t *testing.T) {
 	}
 }
 
+// A scrape is answered though the store hangs, whatever its context says.
+func TestMetricsOfAStoreThatHangs(t *testing.T) {
+	for name, it := range map[string]struct{ due, counts bool }{"all of it": {due: true}, "the counts": {counts: true}} {
+		t.Run(name, func(t *testing.T) {
+			hung := make(chan struct{})
+			store := &hungStore{Store: &countStore{}, hung: hung, due: it.due, counts: it.counts}
+			collector := newStoreCollector(context.Background(), store, time.Now)
+			collector.mostWait = 10 * time.Millisecond
+			m := newMetrics(func() uint64 { return 5 }, func() uint64 { return 0 })
+			m.registry.MustRegister(collector)
+			text := textOfMetrics(t, m)
+			up := map[bool]string{true: "store_up 1", false: "store_up 0"}[it.counts]
+			if !strings.Contains(text, "\n"+prefix+up+"\n") || strings.Contains(text, prefix+"records") ||
+				!strings.Contains(text, "log_lines_dropped_total 5") {
+				t.Errorf("%s isn't in %s", up, text)
+			}
+			close(hung)
+			collector.mostWait = time.Minute
+			if text := textOfMetrics(t, m); !strings.Contains(text, `records{broker="shop",kind="binding",state="ready"} 3`) {
+				t.Errorf("once it goes on: %s", text)
+			}
+		})
+	}
+}
+
+// A hungStore hangs in OldestDue or in Counts until it is let go.
+type hungStore struct {
+	platform.Store
+	hung        chan struct{}
+	due, counts bool
+}
+
+func (h *hungStore) OldestDue(ctx context.Context) (due, now time.Time, err error) {
+	if h.due {
+		<-h.hung
+	}
+	return h.Store.OldestDue(ctx)
+}
+
+func (h *hungStore) Counts(ctx context.Context) ([]platform.Count, error) {
+	if h.counts {
+		<-h.hung
+	}
+	return h.Store.Counts(ctx)
+}
+
 // For how long the oldest row is due grows between two readings, and while the store is away.
 func TestOldestDue(t *testing.T) {
 	clock, store := time.Unix(1_000_000, 0), &countStore{due: time.Unix(103, 0)}
-	collector := newStoreCollector(context.Background(), store)
-	collector.now = func() time.Time { return clock }
+	collector := newStoreCollector(context.Background(), store, func() time.Time { return clock })
 	m := newMetrics(func() uint64 { return 0 }, func() uint64 { return 0 })
 	m.registry.MustRegister(collector)
 	want := func(what, seconds string) {

@@ -6,6 +6,7 @@ import (
 	"net/http"
 	"strconv"
 	"sync"
+	"time"
 
 	"github.com/prometheus/client_golang/prometheus"
 	"github.com/prometheus/client_golang/prometheus/collectors"
@@ -42,7 +43,8 @@ type Options struct {
 //	osb_broker_waiting                        instances and bindings that wait for their first Poll
 //	osb_broker_tombstones                     ids with a tombstone, counted once a minute
 //	osb_broker_oldest_unfinished_seconds      age of the oldest of pending, operating and waiting, or 0
-//	osb_broker_store_up                       1, or 0 if the store fails: then the five before it are left out
+//	osb_broker_store_up                       1, or 0 if the store fails or doesn't answer within 2 seconds: then the
+//	                                          five before it are left out
 //	osb_broker_log_lines_dropped_total        dropped lines of the log
 //	osb_broker_journal_lines_lost_total       lines of the journal that couldn't be written
 //	osb_broker_connections                    open connections
@@ -82,10 +84,10 @@ func New(options Options) *Metrics {
 	return m
 }
 
-// AddStore adds the metrics of the store, which is asked at most once a second, and not after ctx is done. Call it once
-// at most.
+// AddStore adds the metrics of the store, which is asked at most once a second, and not after ctx is done. A scrape
+// waits for the store for 2 seconds at most. Call it once at most.
 func (m *Metrics) AddStore(ctx context.Context, store Store) {
-	m.registry.MustRegister(newCollector(ctx, store))
+	m.registry.MustRegister(newCollector(ctx, store, time.Now))
 }
 
 func counter(name, help string, labels ...string) *prometheus.CounterVec {

@@ -155,8 +155,7 @@ func (s *store) Stats(context.Context) (broker.Stats, error) {
 // over returns Metrics over a store, with a clock that the second function moves.
 func over(store Store) (*Metrics, func(time.Duration)) {
 	metrics, now := New(Options{}), time.Date(2024, 1, 1, 0, 0, 0, 0, time.UTC)
-	collector := newCollector(context.Background(), store)
-	collector.now = func() time.Time { return now }
+	collector := newCollector(context.Background(), store, func() time.Time { return now })
 	metrics.registry.MustRegister(collector)
 	return metrics, func(by time.Duration) { now = now.Add(by) }
 }
@@ -288,4 +287,59 @@ func TestTombstonesThatCantBeCounted(t *testing.T) {
 	expect(t, metrics, map[string]string{
 		"osb_broker_store_up": "0", "osb_broker_pending": "", "osb_broker_tombstones": "",
 	})
+}
+
+// A hungStore hangs, whatever its context says, until it is let go.
+type hungStore struct {
+	slowStore
+	unfinished, all chan struct{} // nil: it doesn't hang
+}
+
+func (h *hungStore) UnfinishedStats(ctx context.Context) (broker.Stats, error) {
+	if h.unfinished != nil {
+		<-h.unfinished
+	}
+	return h.slowStore.UnfinishedStats(ctx)
+}
+
+func (h *hungStore) Stats(ctx context.Context) (broker.Stats, error) {
+	if h.all != nil {
+		<-h.all
+	}
+	return h.slowStore.Stats(ctx)
+}
+
+// A scrape is answered though the store hangs: with store_up 0, and with all that is known without the store.
+func TestAStoreThatHangs(t *testing.T) {
+	stats := broker.Stats{Pending: 1, Tombstones: 4}
+	for name, it := range map[string]struct {
+		store *hungStore
+		want  map[string]string
+	}{
+		"all of it": {&hungStore{unfinished: make(chan struct{})}, map[string]string{
+			"osb_broker_store_up": "0", "osb_broker_pending": "", "osb_broker_tombstones": "",
+		}},
+		"the tombstones": {&hungStore{all: make(chan struct{})}, map[string]string{
+			"osb_broker_store_up": "1", "osb_broker_pending": "1", "osb_broker_tombstones": "",
+		}},
+	} {
+		t.Run(name, func(t *testing.T) {
+			it.store.stats = stats
+			metrics := New(Options{Connections: func() int { return 3 }})
+			collector := newCollector(context.Background(), it.store, time.Now)
+			collector.mostWait = 10 * time.Millisecond
+			metrics.registry.MustRegister(collector)
+			it.want["osb_broker_connections"] = "3"
+			expect(t, metrics, it.want)
+			for _, hung := range []chan struct{}{it.store.unfinished, it.store.all} {
+				if hung != nil {
+					close(hung)
+				}
+			}
+			collector.mostWait = time.Minute
+			expect(t, metrics, map[string]string{
+				"osb_broker_store_up": "1", "osb_broker_pending": "1", "osb_broker_tombstones": "4",
+			})
+		})
+	}
 }

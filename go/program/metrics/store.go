@@ -2,18 +2,21 @@ package metrics
 
 import (
 	"context"
-	"sync"
+	"errors"
 	"time"
 
 	"github.com/prometheus/client_golang/prometheus"
 
 	"pippinterm/broker"
+	"pippinterm/program/latest"
 )
 
 const (
-	keptFor       = time.Second     // how long counts of a store are used
-	tombstonesFor = time.Minute     // how long the count of the tombstones of a SlowStore is used
-	mostTime      = 5 * time.Second // how long the store may take to count
+	keptFor       = time.Second      // how long counts of a store are used
+	tombstonesFor = time.Minute      // how long the count of the tombstones of a SlowStore is used
+	mostTime      = 5 * time.Second  // how long the store may take to count what is unfinished
+	mostToCount   = 30 * time.Second // how long it may take to count all rows
+	mostWait      = 2 * time.Second  // how long a scrape waits for the store
 )
 
 // A Store returns counts of what it keeps. Every broker.Store is one.
@@ -28,13 +31,15 @@ type SlowStore interface {
 	UnfinishedStats(ctx context.Context) (broker.Stats, error)
 }
 
-// A collector is a prometheus.Collector over the counts of a store. If the store fails, only osb_broker_store_up is
-// sent: old counts would hide the failure. The tombstones of a SlowStore are counted once a minute at most. If that
-// fails, they alone are left out until they are counted again.
+// A collector is a prometheus.Collector over the counts of a store. If the store fails, or doesn't answer in time, only
+// osb_broker_store_up is sent: old counts would hide the failure. The tombstones of a SlowStore are counted once a
+// minute at most. If that fails, they alone are left out until they are counted again. While that takes long, the last
+// count is sent.
 type collector struct {
-	ctx   context.Context // Collect has none
-	store Store
-	now   func() time.Time
+	unfinished *latest.Value[broker.Stats]
+	all        *latest.Value[broker.Stats] // of a SlowStore, or nil
+	now        func() time.Time
+	mostWait   time.Duration
 
 	up         *prometheus.Desc
 	pending    *prometheus.Desc
@@ -42,23 +47,13 @@ type collector struct {
 	waiting    *prometheus.Desc
 	tombstones *prometheus.Desc
 	oldest     *prometheus.Desc
-
-	mutex sync.Mutex // is held while the store is asked
-	at    time.Time  // when it was asked
-	stats broker.Stats
-	err   error
-	// of the tombstones of a SlowStore:
-	counted    int
-	hasCounted bool      // whether the last count has succeeded
-	countedAt  time.Time // when it ended
 }
 
-func newCollector(ctx context.Context, store Store) *collector {
+func newCollector(ctx context.Context, store Store, now func() time.Time) *collector {
 	describe := func(name, help string) *prometheus.Desc { return prometheus.NewDesc(prefix+name, help, nil, nil) }
-	return &collector{
-		ctx:        ctx,
-		store:      store,
-		now:        time.Now,
+	c := &collector{
+		now:        now,
+		mostWait:   mostWait,
 		up:         describe("store_up", "Whether the store could count."),
 		pending:    describe("pending", "Instances and bindings with pending work."),
 		operating:  describe("operating", "Instances and bindings with a running operation."),
@@ -66,6 +61,13 @@ func newCollector(ctx context.Context, store Store) *collector {
 		tombstones: describe("tombstones", "Ids with a tombstone."),
 		oldest:     describe("oldest_unfinished_seconds", "Age of the oldest of pending, operating and waiting, or 0."),
 	}
+	unfinished := store.Stats
+	if slow, isSlow := store.(SlowStore); isSlow {
+		unfinished = slow.UnfinishedStats
+		c.all = latest.New(ctx, slow.Stats, latest.Options{Kept: tombstonesFor, Longest: mostToCount, Now: now})
+	}
+	c.unfinished = latest.New(ctx, unfinished, latest.Options{Kept: keptFor, Longest: mostTime, Now: now})
+	return c
 }
 
 // Describe sends the descriptions of all metrics that Collect may send.
@@ -75,9 +77,11 @@ func (c *collector) Describe(to chan<- *prometheus.Desc) {
 	}
 }
 
-// Collect sends the counts, which are at most a second old, but for the tombstones of a SlowStore.
+// Collect sends the counts, which are at most a second old, but for the tombstones of a SlowStore. It waits for the
+// store no longer than mostWait.
 func (c *collector) Collect(to chan<- prometheus.Metric) {
-	stats, hasTombstones, err := c.ask()
+	end := time.Now().Add(c.mostWait)
+	stats, err := c.unfinished.Get(c.mostWait)
 	send := func(desc *prometheus.Desc, value float64) {
 		to <- prometheus.MustNewConstMetric(desc, prometheus.GaugeValue, value)
 	}
@@ -89,46 +93,20 @@ func (c *collector) Collect(to chan<- prometheus.Metric) {
 	send(c.pending, float64(stats.Pending))
 	send(c.operating, float64(stats.Operating))
 	send(c.waiting, float64(stats.Waiting))
-	if hasTombstones {
-		send(c.tombstones, float64(stats.Tombstones))
+	if tombstones, isKnown := c.countOf(stats, time.Until(end)); isKnown {
+		send(c.tombstones, float64(tombstones))
 	}
 	send(c.oldest, c.ageOf(stats.Oldest))
 }
 
-// ask returns the counts, and whether the tombstones are among them.
-func (c *collector) ask() (stats broker.Stats, hasTombstones bool, err error) {
-	c.mutex.Lock()
-	defer c.mutex.Unlock()
-	slow, isSlow := c.store.(SlowStore)
-	if c.at.IsZero() || c.now().Sub(c.at) >= keptFor {
-		if !isSlow {
-			c.stats, c.err = c.within(c.store.Stats)
-		} else if c.stats, c.err = c.within(slow.UnfinishedStats); c.err == nil {
-			c.count(slow)
-		}
-		c.at = c.now()
+// countOf returns the count of the tombstones, and whether it is known.
+func (c *collector) countOf(stats broker.Stats, wait time.Duration) (tombstones int, isKnown bool) {
+	if c.all == nil {
+		return stats.Tombstones, true
 	}
-	if !isSlow {
-		return c.stats, true, c.err
-	}
-	stats = c.stats
-	stats.Tombstones = c.counted
-	return stats, c.hasCounted, c.err
-}
-
-// count counts the tombstones, unless that was done lately.
-func (c *collector) count(slow SlowStore) {
-	if !c.countedAt.IsZero() && c.now().Sub(c.countedAt) < tombstonesFor {
-		return
-	}
-	all, err := c.within(slow.Stats)
-	c.counted, c.hasCounted, c.countedAt = all.Tombstones, err == nil, c.now()
-}
-
-func (c *collector) within(ask func(context.Context) (broker.Stats, error)) (broker.Stats, error) {
-	ctx, cancel := context.WithTimeout(c.ctx, mostTime)
-	defer cancel()
-	return ask(ctx)
+	all, err := c.all.Get(wait)
+	isOld := errors.Is(err, latest.ErrSlow) && all != broker.Stats{}
+	return all.Tombstones, err == nil || isOld
 }
 
 // ageOf returns how many seconds ago a time was. It returns 0 for the zero Time and for a time in the future.
