@@ -142,7 +142,8 @@ class Calls:
         elif call.name in _ENDS:
             run.found = None
             if not is_idle:
-                life.known = life.credentials if call.name == "delete" and life.resource == "whole" else 0
+                if life.resource != "part":
+                    life.known = life.credentials
                 self._become(line, life, Seen("part"))
 
     def _check_alone(self, line: Line, worker: Worker) -> None:
@@ -166,7 +167,11 @@ class Calls:
     def _end(self, line: Line, life: Life, call: _Call | None) -> None:
         if line.of.get("result") != "done":
             return  # the next look finds what is left
-        now, found, run = Seen(life.resource, life.credentials), _found(line, life), self.runs.get(worker_of(line))
+        now, found, run = (
+            Seen(life.resource, life.credentials),
+            _found(line, life, call),
+            self.runs.get(worker_of(line)),
+        )
         is_new = now == Seen("whole") and found.resource == "whole"  # its credentials weren't known
         is_known = found == now or call is not None and not is_new and call.has_found(found, _is_idle(life))
         if run is not None and line.of["call"] == "look":
@@ -219,11 +224,13 @@ def _is_idle(life: Life) -> bool:
     return life.held.work == "-" and not life.held.is_running
 
 
-def _found(line: Line, life: Life) -> Seen:
+def _found(line: Line, life: Life, begun: _Call | None) -> Seen:
     """What a call that is done says of the resource."""
     call = line.of["call"]
     if call != "look":
         return Seen(_ENDS.get(call, "whole"), life.number_of(line.of.get("credentials", "")))
-    if line.of["found"] == life.resource:
-        return Seen(life.resource, life.credentials)
+    since = begun.since if begun is not None else []
+    for it in (Seen(life.resource, life.credentials), *reversed(since)):
+        if it.resource == line.of["found"]:
+            return it
     return Seen(line.of["found"], life.known if line.of["found"] == "whole" else 0)

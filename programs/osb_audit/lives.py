@@ -123,7 +123,7 @@ class Life:
     credentials: int = 0
     """The number of those of the resource."""
     known: int = 0
-    """The number of those that the resource has if it is found whole: a deletion that fails leaves them."""
+    """The number of those that the resource has if it is found whole: a call that fails leaves them."""
     recorded: str = ""
     """The digest that the platform records."""
     numbers: dict[str, int] = field(default_factory=dict)
