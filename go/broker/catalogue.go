@@ -2,12 +2,14 @@ package broker
 
 import (
 	"errors"
+	"fmt"
 
 	"pippinterm/osb"
 )
 
 // A Catalogue is what a broker sells: the document that it serves, and how each plan works.
 type Catalogue struct {
+	store       string // the id of the store, or empty
 	document    []byte
 	returning   []byte // the document of a broker whose ids return
 	instances   map[plan]osb.Mode
@@ -86,6 +88,21 @@ func modesOf(plans []osb.Plan) map[plan]osb.Mode {
 		modes[plan{it.Service, it.Plan}] = mode
 	}
 	return modes
+}
+
+// OfStore returns the catalogue of a broker over the store with this id (NamedStore.ID): its document names the store in
+// the member x-osb-store, and so does each answer of a Handler, in the header StoreHeader. A platform that knows it takes
+// no answer of a broker over another store.
+//
+// Errors: the id is no text that a header can have.
+func (c *Catalogue) OfStore(id string) (*Catalogue, error) {
+	if err := osb.RequestIdentity(id); err != nil {
+		return nil, fmt.Errorf("the id of a store: %w", err)
+	}
+	of := *c
+	of.store = id
+	of.document, of.returning = withStore(c.document, id), withStore(c.returning, id)
+	return &of, nil
 }
 
 // Document is the document that is served.

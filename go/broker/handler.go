@@ -45,6 +45,7 @@ type Handler struct {
 	isStopping  atomic.Bool
 	stopped     chan struct{} // is closed by the first Stop
 	stop        sync.Once
+	store       []string // the value of StoreHeader, or nil
 	first, next uint64   // of which the ids of requests that have none are made
 	bodies      sync.Map // of answers: wording to []byte
 }
@@ -60,8 +61,12 @@ func NewHandler(ctx context.Context, service *Service, config Config) (*Handler,
 	if config.Journal == nil {
 		config.Journal = noJournal{}
 	}
+	var named []string
+	if id := service.catalogue.store; id != "" {
+		named = []string{id}
+	}
 	return &Handler{
-		Config: config, ctx: ctx, service: service,
+		store: named, Config: config, ctx: ctx, service: service,
 		reading: make(chan struct{}, config.AtOnce+slowBodies),
 		slots:   make(chan struct{}, config.AtOnce),
 		working: make(chan struct{}, mayWorkAtOnce(config.AtOnce)), patience: longestQueue,
@@ -131,6 +136,9 @@ func (h *Handler) ServeHTTP(w http.ResponseWriter, r *http.Request) {
 		VcapRequest: first(r.Header, "X-Vcap-Request-Id"),
 	}}
 	x.header[requestIdentity] = []string{x.RequestID}
+	if h.store != nil {
+		x.header[StoreHeader] = h.store
+	}
 	x.header["Content-Type"] = jsonType
 	if len(r.TransferEncoding) > 0 { // no request follows a body whose end the sender may see elsewhere
 		x.header.Set("Connection", "close")

@@ -57,7 +57,11 @@ func newSite(t *testing.T, s setting) *site {
 	if s.over != nil {
 		backend = s.over(it.shelf)
 	}
-	service := broker.NewService(catalogueFor(t, catalogue), it.store, backend, newMemoryLocks(), s.rules, it.observed)
+	named, err := catalogueFor(t, catalogue).OfStore(storeID)
+	if err != nil {
+		t.Fatal(err)
+	}
+	service := broker.NewService(named, it.store, backend, newMemoryLocks(), s.rules, it.observed)
 	sweeper := broker.NewSweeper(service, it.observed)
 	stop, cancel := context.WithCancel(ctx)
 	swept := make(chan struct{})
@@ -164,8 +168,14 @@ func (s *site) ask(method, target, body string, change ...func(*http.Request)) (
 	s.expected.add(message{method: method, target: target, body: []byte(body), header: r.Header})
 	given := httptest.NewRecorder()
 	s.ServeHTTP(given, r)
+	if got := given.Header().Values(broker.StoreHeader); len(got) != 1 || got[0] != storeID {
+		panic(fmt.Sprintf("%s %s: the answer %d names the stores %q, want %q", method, target, given.Code, got, storeID))
+	}
 	return given.Result(), given.Body.String()
 }
+
+// storeID is the store that every answer of a site names.
+const storeID = "8d5f7a3e-0000-4000-8000-000000000001"
 
 // expect asks, and checks the status. It returns the body.
 func (s *site) expect(t *testing.T, status int, method, target, body string, change ...func(*http.Request)) string {

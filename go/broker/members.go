@@ -35,9 +35,14 @@ var (
 func checkMembers(document []byte) error {
 	var read struct {
 		Services []map[string]json.RawMessage `json:"services"`
+		Store    json.RawMessage              `json:"x-osb-store"`
 	}
 	if err := json.Unmarshal(document, &read); err != nil {
 		return fmt.Errorf("%w: %v", ErrCatalogueMember, err)
+	}
+	if read.Store != nil {
+		return fmt.Errorf("%w: x-osb-store: the broker adds it, with the id of its store. Leave it out",
+			ErrCatalogueMember)
 	}
 	for _, service := range read.Services {
 		where := "service " + nameIn(service)

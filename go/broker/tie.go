@@ -19,6 +19,9 @@ type NamedStore interface {
 	// Begin gives the store a name for good, unless it has one, and returns the name that it has. Only a name that begins
 	// with UntiedBefore replaces another name, and only the name Untied.
 	Begin(ctx context.Context, name string) (string, error)
+	// ID returns the id of the store: a random GUID that the first call makes up, and that stays for good. So the answers
+	// of a broker say of which store they are (Catalogue.OfStore).
+	ID(ctx context.Context) (string, error)
 	// Tie calls tie while nobody else can be in a Tie of this store. isUsed is whether a backend keeps the store's name,
 	// or the store has rows. The rows of a store whose name begins with UntiedBefore don't count. If tie returns nil, the
 	// store notes for good that a backend keeps its name.

@@ -31,6 +31,7 @@ var brokerName = regexp.MustCompile(`^[a-z0-9-]{1,63}$`)
 // given and there is no vault; those of the Store.
 func (o *Orders) AddBroker(ctx context.Context, broker Broker, password []byte) error {
 	broker.Password, broker.Catalogue, broker.CatalogueAt, broker.Reason = nil, nil, time.Time{}, Reason{}
+	broker.Store = "" // its first catalogue names it
 	if err := o.finish(&broker, password, true, true); err != nil {
 		return err
 	}

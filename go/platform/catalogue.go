@@ -16,6 +16,8 @@ type Catalogue struct {
 	Services []CatalogueService
 	// HasTombstones is whether the broker never creates again what has ended: x-osb-tombstones is true.
 	HasTombstones bool
+	// Store is the store that it names (StoreOf), or empty.
+	Store string
 }
 
 // A CatalogueService is a service of a catalogue. Its ID is the text that is sent, and Number that text's number.
@@ -79,7 +81,7 @@ func ReadCatalogue(document []byte) (*Catalogue, error) {
 	if written.Services == nil {
 		return nil, errNoServices
 	}
-	read := &Catalogue{HasTombstones: written.Tombstones == true}
+	read := &Catalogue{HasTombstones: written.Tombstones == true, Store: StoreOf(document)}
 	modes := readModes(document)
 	for _, it := range written.Services {
 		number, err := osb.IDOfText(it.ID)

@@ -42,9 +42,10 @@ var ErrUnreachable = errors.New("the broker can't be reached")
 // A Client sends requests. Any number of goroutines use it.
 type Client interface {
 	// Exchange sends one request and waits for the whole answer, or until its Until. It never sends a request twice,
-	// and follows no redirect. Lost is ErrUnreachable (by errors.Is) if there is no connection.
+	// and follows no redirect. It takes no answer that Broker.CheckStore rejects. Lost is ErrUnreachable (by errors.Is) if there is no connection.
 	Exchange(ctx context.Context, out Outgoing) Incoming
-	// Catalogue asks for the catalogue of a broker. An error is why it wasn't had; status is the answer's, or 0.
+	// Catalogue asks for the catalogue of a broker. It takes none that Broker.CheckCatalogue rejects. An error is why it
+	// wasn't had; status is the answer's, or 0.
 	Catalogue(ctx context.Context, broker Broker) (document json.RawMessage, status int, err error)
 	// Clock is the time on a clock that is never set, and that goes on while the machine is suspended.
 	Clock() time.Time

@@ -100,6 +100,8 @@ func (e *Engine) exchange(ctx context.Context, sites *sites, s *sending, answere
 	switch {
 	case isRefusal(heard.Status):
 		sites.lose(s.out.Broker, "broker_refuses", fmt.Errorf("status %d", heard.Status))
+	case errors.Is(heard.Lost, ErrOtherStore) && heard.Status < http.StatusInternalServerError:
+		sites.lose(s.out.Broker, "other_store", brief(heard.Lost))
 	case errors.Is(heard.Lost, ErrUnreachable):
 		sites.lose(s.out.Broker, "broker_unreached", brief(heard.Lost))
 	}

@@ -108,20 +108,20 @@ func isAskedAlike(one, other Broker) bool {
 func (s *sites) ask(ctx context.Context, it *site, group *sync.WaitGroup, every time.Duration) {
 	asking, cancel := context.WithCancel(ctx)
 	it.cancel = cancel
-	broker := it.broker
 	group.Add(1)
 	go func() {
 		defer group.Done()
 		defer cancel()
-		for s.askOnce(asking, it, broker, every == 0) && every > 0 && sleep(asking, every) {
+		for s.askOnce(asking, it, every == 0) && every > 0 && sleep(asking, every) {
 		}
 	}()
 }
 
 // askOnce asks a broker for its catalogue until it is answered. It returns false if ctx is done before, or if the
 // broker refuses the platform and that ends it. Until then the last catalogue counts.
-func (s *sites) askOnce(ctx context.Context, it *site, broker Broker, refusalEnds bool) bool {
+func (s *sites) askOnce(ctx context.Context, it *site, refusalEnds bool) bool {
 	for rest := firstAsking; ; rest *= 2 {
+		broker := s.brokerOf(it)
 		catalogue, status, err := s.catalogue(ctx, broker)
 		if err == nil {
 			s.reach(ctx, it, catalogue)
@@ -129,7 +129,7 @@ func (s *sites) askOnce(ctx context.Context, it *site, broker Broker, refusalEnd
 		}
 		if ctx.Err() == nil {
 			s.miss(it, err)
-			s.once.failed("broker_unreached", broker.Name, err)
+			s.once.failed(eventOf(err), broker.Name, err)
 		}
 		if refusalEnds && refusesPlatform(status) {
 			return false
@@ -143,17 +143,35 @@ func (s *sites) askOnce(ctx context.Context, it *site, broker Broker, refusalEnd
 	}
 }
 
+// eventOf is the event of a catalogue that wasn't had.
+func eventOf(err error) string {
+	if errors.Is(err, ErrOtherStore) {
+		return "other_store"
+	}
+	return "broker_unreached"
+}
+
 // refusesPlatform is whether no waiting mends what a broker has answered: that it refuses the user, the password, or
 // the version of the API.
 func refusesPlatform(status int) bool {
 	return isRefusal(status) || status == http.StatusPreconditionFailed
 }
 
-// miss takes in why the catalogue of a broker wasn't had.
+// miss takes in why the catalogue of a broker wasn't had. If that is because the broker is over another store, nothing
+// more is sent there.
 func (s *sites) miss(it *site, reason error) {
 	s.mu.Lock()
 	defer s.mu.Unlock()
-	it.reason = reason
+	if it.reason = reason; errors.Is(reason, ErrOtherStore) {
+		it.catalogue = nil
+	}
+}
+
+// brokerOf is the broker of a site. Its first catalogue says of which store it is.
+func (s *sites) brokerOf(it *site) Broker {
+	s.mu.Lock()
+	defer s.mu.Unlock()
+	return it.broker
 }
 
 // reach takes in that a broker has answered its catalogue, unless nobody asks for this answer any more.
@@ -161,13 +179,15 @@ func (s *sites) reach(ctx context.Context, it *site, catalogue *Catalogue) {
 	s.mu.Lock()
 	isOver, isNew := ctx.Err() != nil, it.catalogue == nil
 	if !isOver {
-		it.catalogue, it.reason = catalogue, nil
+		it.catalogue, it.reason, it.broker.Store = catalogue, nil, catalogue.Store
 	}
 	s.mu.Unlock()
 	if isOver {
 		return
 	}
-	s.once.failed("broker_unreached", it.broker.Name, nil)
+	for _, event := range []string{"broker_unreached", "other_store"} {
+		s.once.failed(event, it.broker.Name, nil)
+	}
 	if !isNew {
 		return
 	}
@@ -198,8 +218,8 @@ func (s *sites) catalogue(ctx context.Context, broker Broker) (read *Catalogue, 
 
 var errChanged = errors.New("the broker was changed or dropped meanwhile")
 
-// keep writes a catalogue, or why it wasn't had, unless the Store has the same. If the broker was changed or dropped
-// meanwhile, nothing is written, and the error is errChanged.
+// keep writes a catalogue with the store that it names, or why it wasn't had, unless the Store has the same. If the
+// broker was changed or dropped meanwhile, nothing is written, and the error is errChanged.
 func (s *sites) keep(ctx context.Context, asked Broker, document json.RawMessage, reason Reason) error {
 	now, err := timeOf(ctx, s.store)
 	if err != nil {
@@ -211,7 +231,8 @@ func (s *sites) keep(ctx context.Context, asked Broker, document json.RawMessage
 		}
 		before := it.Reason
 		before.At = time.Time{}
-		isKept := document == nil || isSameJSON(it.Catalogue, document)
+		store := StoreOf(document)
+		isKept := document == nil || it.Store == store && isSameJSON(it.Catalogue, document)
 		if before == reason && isKept {
 			return nil, nil
 		}
@@ -219,7 +240,7 @@ func (s *sites) keep(ctx context.Context, asked Broker, document json.RawMessage
 			it.Reason.At = now
 		}
 		if !isKept {
-			it.Catalogue, it.CatalogueAt = document, now
+			it.Catalogue, it.CatalogueAt, it.Store = document, now, store
 		}
 		return &it, nil
 	})

@@ -35,13 +35,11 @@ UPDATE osb_holdings SET ended = clock_timestamp() WHERE ended IS NULL AND NOT un
     AND (holding LIKE '%"tombstone":true%' OR holding LIKE '%"marked":true%');
 UPDATE osb_bindings SET ended = clock_timestamp() WHERE ended IS NULL AND NOT held
     AND holding LIKE '%"tombstone":true%';
+CREATE TABLE IF NOT EXISTS osb_identity (one boolean PRIMARY KEY DEFAULT true CHECK (one), id text NOT NULL);
 `
 
-// isCurrent is whether nothing is missing: all that is missing comes in one transaction, and this column is the last.
-const isCurrent = `
-SELECT EXISTS (SELECT FROM pg_attribute
-    WHERE attrelid = to_regclass('osb_bindings') AND attname = 'ended' AND NOT attisdropped)
-`
+// isCurrent is whether nothing is missing: all that is missing comes in one transaction, and this table is the last.
+const isCurrent = "SELECT to_regclass('osb_identity') IS NOT NULL"
 
 // tablesLock is the number of an advisory lock for brokers that create the tables at the same time: IF NOT EXISTS is no
 // lock. Version 0.2 takes the same lock.

@@ -38,6 +38,22 @@ func (s *Store) Begin(ctx context.Context, name string) (string, error) {
 	return s.Name(ctx)
 }
 
+// ID returns the id of the store, which the first call makes up.
+func (s *Store) ID(ctx context.Context) (id string, err error) {
+	made, err := broker.NewStoreID()
+	if err != nil {
+		return "", err
+	}
+	err = s.transaction(ctx, nil, func(tx *sql.Tx) (bool, error) {
+		const insert = "INSERT INTO osb_identity (id) VALUES ($1) ON CONFLICT (one) DO NOTHING"
+		if _, err := tx.ExecContext(ctx, insert, made); err != nil {
+			return false, err
+		}
+		return true, tx.QueryRowContext(ctx, "SELECT id FROM osb_identity").Scan(&id)
+	})
+	return id, err
+}
+
 // If a binding has a row, its instance has one too (Change).
 const isUsed = "SELECT is_tied OR name NOT LIKE '" + broker.UntiedBefore + "%' AND EXISTS (SELECT FROM osb_holdings) " +
 	"FROM osb_store"

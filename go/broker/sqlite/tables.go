@@ -22,6 +22,7 @@ var tables = []string{
 	"CREATE INDEX IF NOT EXISTS unfinished_bindings ON bindings (instance) WHERE unfinished",
 	"CREATE TABLE IF NOT EXISTS workers (id TEXT PRIMARY KEY, worker INTEGER NOT NULL) WITHOUT ROWID",
 	"CREATE TABLE IF NOT EXISTS readiness (one INTEGER PRIMARY KEY CHECK (one = 1), asked INTEGER NOT NULL)",
+	"CREATE TABLE IF NOT EXISTS identity (one INTEGER PRIMARY KEY CHECK (one = 1), id TEXT NOT NULL)",
 	"CREATE TABLE IF NOT EXISTS store (one INTEGER PRIMARY KEY CHECK (one = 1), name TEXT NOT NULL, " +
 		"is_tied INTEGER NOT NULL DEFAULT 0)",
 }

@@ -32,6 +32,25 @@ func (s *Store) Begin(ctx context.Context, name string) (string, error) {
 	return s.Name(ctx)
 }
 
+// ID returns the id of the store, which the first call makes up.
+func (s *Store) ID(ctx context.Context) (id string, err error) {
+	made, err := broker.NewStoreID()
+	if err != nil {
+		return "", err
+	}
+	err = s.file.Write(ctx, func(c *connection) error {
+		return c.exec("INSERT INTO identity VALUES (1, ?) ON CONFLICT (one) DO NOTHING", made)
+	})
+	if err != nil {
+		return "", err
+	}
+	err = s.file.Read(ctx, func(c *connection) error {
+		id, err = c.text("SELECT id FROM identity")
+		return err
+	})
+	return id, err
+}
+
 // Tie calls tie in a transaction, beside which nothing is written.
 func (s *Store) Tie(ctx context.Context, tie func(isUsed bool) error) error {
 	return s.file.Read(ctx, func(c *connection) error { // the writer isn't for calls of others

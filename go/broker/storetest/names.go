@@ -3,11 +3,13 @@ package storetest
 import (
 	"context"
 	"errors"
+	"strings"
 	"sync"
 	"testing"
 	"time"
 
 	"pippinterm/broker"
+	"pippinterm/osb"
 )
 
 func testName(t *testing.T, open func(*testing.T) broker.NamedStore) {
@@ -29,6 +31,36 @@ func testName(t *testing.T, open func(*testing.T) broker.NamedStore) {
 	wantName("Name", "one", name, err)
 	name, err = second.Begin(ctx, broker.UntiedBefore+"two")
 	wantName("a Begin of a late backend", "one", name, err)
+}
+
+// The id is made up once, by whichever store of a database is first, and no two databases have the same.
+func testID(t *testing.T, open func(*testing.T) broker.NamedStore) {
+	ids := make(chan string, 8)
+	for n := 0; n < cap(ids); n++ {
+		store := opened(t, open)
+		go func() {
+			id, err := store.ID(context.Background())
+			if err != nil {
+				t.Error(err)
+			}
+			ids <- id
+		}()
+	}
+	first := <-ids
+	if _, err := osb.ParseID(first); err != nil || strings.Trim(first, "0-") == "" {
+		t.Errorf("the id is %q, want a random GUID", first)
+	}
+	for n := 1; n < cap(ids); n++ {
+		if id := <-ids; id != first {
+			t.Errorf("another store of the database has the id %q, want %q", id, first)
+		}
+	}
+	if _, err := opened(t, open).Begin(context.Background(), "a name"); err != nil {
+		t.Error(err)
+	}
+	if id, err := opened(t, open).ID(context.Background()); err != nil || id != first {
+		t.Errorf("later the id is %q, %v, want %q", id, err, first)
+	}
 }
 
 // A store that is untied gets another name once, and then its rows don't count.

@@ -41,6 +41,7 @@ func Run(t *testing.T, open func(t *testing.T) broker.NamedStore) {
 		{"a fence during a change", testFenceDuringChange},
 		{"counts", testStats},
 		{"the name", testName},
+		{"the id", testID},
 		{"a tie", testTie},
 		{"a store that was untied", testUntiedBefore},
 		{"rows make a store used", testUsedByRows},

@@ -85,21 +85,32 @@ func ownFile(t *testing.T) string {
 	return path
 }
 
-// A catalogue of one's own is served as it is, and says that the broker keeps tombstones.
+// A catalogue of one's own is served as it is, and says that the broker keeps tombstones, and of which store it is. The
+// store keeps its id over restarts, and no two have the same.
 func TestOwnCatalogue(t *testing.T) {
-	s := start(t, []string{password}, "--state", t.TempDir(), "--catalog", ownFile(t))
-	got, want := map[string]any{}, map[string]any{}
-	if err := json.Unmarshal([]byte(ownCatalogue), &want); err != nil {
-		t.Fatal(err)
+	state, stores := t.TempDir(), map[any]bool{}
+	for _, folder := range []string{state, state, t.TempDir()} {
+		s := start(t, []string{password}, "--state", folder, "--catalog", ownFile(t))
+		got, want := map[string]any{}, map[string]any{}
+		if err := json.Unmarshal([]byte(ownCatalogue), &want); err != nil {
+			t.Fatal(err)
+		}
+		if err := json.Unmarshal([]byte(s.expect(200, "GET", "/v2/catalog", "")), &got); err != nil {
+			t.Fatal(err)
+		}
+		want["x-osb-tombstones"], want["x-osb-store"] = true, got["x-osb-store"]
+		if !reflect.DeepEqual(got, want) {
+			t.Errorf("served is %v, and %v is wanted", got, want)
+		}
+		if id, _ := got["x-osb-store"].(string); len(id) != 36 {
+			t.Errorf("the store is %v, want a GUID", got["x-osb-store"])
+		}
+		stores[got["x-osb-store"]] = true
+		s.stop()
 	}
-	if err := json.Unmarshal([]byte(s.expect(200, "GET", "/v2/catalog", "")), &got); err != nil {
-		t.Fatal(err)
+	if len(stores) != 2 {
+		t.Errorf("two stores have the ids %v", stores)
 	}
-	want["x-osb-tombstones"] = true
-	if !reflect.DeepEqual(got, want) {
-		t.Errorf("served is %v, and %v is wanted", got, want)
-	}
-	s.stop()
 }
 
 // GUIDs in upper case are other ids than the same ones in lower case. The log warns of them.

@@ -104,6 +104,13 @@ func (r *running) open(ctx, stop context.Context, queue *logs.Queue) (err error)
 	if err != nil {
 		return err
 	}
+	id, err := r.parts.store.ID(ctx)
+	if err != nil {
+		return away("the id of the store can't be read", err)
+	}
+	if catalogue, err = catalogue.OfStore(id); err != nil {
+		return program.Unusable(err)
+	}
 	if ids := inUpperCase(catalogue.Document()); len(ids) > 0 {
 		r.log.Warning("guid_in_upper_case").Strs("ids", ids).Send()
 	}

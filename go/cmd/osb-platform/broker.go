@@ -214,7 +214,7 @@ type dryStore struct{ platform.Store }
 func (dryStore) AddBroker(context.Context, platform.Broker) error { return nil }
 
 func setCommand(a *app) *cobra.Command {
-	l := &login{}
+	l, accepts := &login{}, ""
 	made := &cobra.Command{
 		Use:   "set NAME",
 		Short: "Change a broker",
@@ -226,12 +226,14 @@ To replace a password, have the broker accept both the old and the new one, chan
 forget the old one. If a password is in a file, change the file: workers read it again. After a 401 a worker sends
 nothing more to the broker until the catalogue is answered again, and orders that weren't sent yet wait.
 
---url is for the same broker at another address. Another broker would answer that each instance is gone.`,
+--url is for the same broker at another address. Another broker would answer that each instance is gone. If the
+catalogue of a broker names its store (x-osb-store), no answer is taken of a broker that names another one. If its
+instances have come into another store, 'broker list' prints the --accept-store that has its answers taken.`,
 		Example: `  osb-platform broker set shop --url https://broker-2.example --hold 900
   osb-platform broker set shop --store-password <password`,
 		Args: wants("NAME"),
 		RunE: a.over(needsKey, func(ctx context.Context, c *cobra.Command, s session, arguments []string) error {
-			if !l.isGiven() {
+			if !l.isGiven() && accepts == "" {
 				return program.Unusable(errors.New("give an option that says what to change (see " +
 					"osb-platform broker set --help)"))
 			}
@@ -261,15 +263,20 @@ nothing more to the broker until the catalogue is answered again, and orders tha
 					of.PasswordFile = file
 				}
 				l.change(&of.Settings)
+				if accepts != "" {
+					return of.AcceptStore(accepts)
+				}
 				return nil
 			}, password)
-			if err != nil || !l.isOfLogin() {
+			if err != nil || !l.isOfLogin() && accepts == "" {
 				return err
 			}
 			return s.askCatalogue(ctx, arguments[0], asking, warn)
 		}),
 	}
 	made.Flags().StringVar(&l.url, "url", "", "the new `URL`, up to before /v2")
+	made.Flags().StringVar(&accepts, "accept-store", "", "the `ID` of the store whose broker is believed from now on, or "+
+		"none for a broker that names no store any more")
 	l.add(made.Flags(), "")
 	return made
 }

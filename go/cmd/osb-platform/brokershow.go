@@ -63,7 +63,7 @@ func showBroker(to io.Writer, b platform.Broker) error {
 		{"hold", secondsText(b.Settings.Hold)}, {"first pace", secondsText(b.Settings.FirstPace)},
 		{"longest pace", secondsText(b.Settings.LongestPace)}, {"longest poll", secondsText(b.Settings.LongestPoll)},
 		{"catalogue since", orNone(momentOf(b.CatalogueAt))}, {"tombstones", tombstonesOf(b, catalogue)},
-		{"last reason", at(b.Reason)},
+		{"store", printable(b.Store)}, {"last reason", at(b.Reason)},
 	} {
 		if it[1] == "" {
 			continue
@@ -160,10 +160,10 @@ func (s session) askCatalogue(ctx context.Context, name string, asking *client.C
 	}
 	return s.store.ChangeBroker(ctx, name, func(it platform.Broker) (*platform.Broker, error) {
 		switch {
-		case it.URL != broker.URL || it.User != broker.User: // changed meanwhile by somebody else
+		case it.URL != broker.URL || it.User != broker.User || it.Store != broker.Store: // changed meanwhile by somebody else
 			return nil, nil
 		case err == nil:
-			it.Catalogue, it.CatalogueAt, it.Reason = document, now, reason
+			it.Catalogue, it.CatalogueAt, it.Reason, it.Store = document, now, reason, platform.StoreOf(document)
 		case it.Catalogue == nil: // else a worker may have reached it
 			it.Reason = reason
 		}

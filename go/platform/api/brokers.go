@@ -20,6 +20,7 @@ type seller struct {
 	// Password says where the password is: store, file, or none.
 	Password    string          `json:"password"`
 	Settings    settings        `json:"settings"`
+	Store       string          `json:"store,omitempty"`
 	CatalogueAt *time.Time      `json:"catalogue_at,omitempty"`
 	Catalogue   json.RawMessage `json:"catalogue,omitempty"` // only of one broker
 	Reason      *said           `json:"reason,omitempty"`
@@ -51,7 +52,7 @@ func sellerOf(broker platform.Broker) seller {
 			secondsOf(broker.Settings.Hold), secondsOf(broker.Settings.FirstPace),
 			secondsOf(broker.Settings.LongestPace), secondsOf(broker.Settings.LongestPoll),
 		},
-		CatalogueAt: timeOf(broker.CatalogueAt), Reason: saidOf(broker.Reason),
+		Store: broker.Store, CatalogueAt: timeOf(broker.CatalogueAt), Reason: saidOf(broker.Reason),
 	}
 	switch {
 	case broker.PasswordFile != "":

@@ -17,30 +17,43 @@ const longestReason = 200
 // Catalogue asks for the catalogue of a broker, and returns its document if package osb can read it (section Catalog
 // Management). It waits for Options.CatalogueTime at most. status is the answer's, or 0.
 //
-// Errors: those say what is wrong, and what to do. None has the password.
+// Errors: those say what is wrong, and what to do. None has the password. platform.ErrOtherStore (by errors.Is) if the
+// broker isn't over the store that is recorded.
 func (c *Client) Catalogue(ctx context.Context, of platform.Broker) (document json.RawMessage, status int, err error) {
+	got, err := c.catalogue(ctx, of)
+	if err != nil {
+		return nil, got.status, err
+	}
+	if err := of.CheckCatalogue(got.body, got.header.Values(platform.StoreHeader)); err != nil {
+		return nil, got.status, fmt.Errorf("the catalogue of %s: %w", of.Name, err)
+	}
+	return got.body, got.status, nil
+}
+
+// catalogue is an answer with a catalogue that can be read.
+func (c *Client) catalogue(ctx context.Context, of platform.Broker) (got received, err error) {
 	to, err := c.broker(of)
 	if err != nil {
-		return nil, 0, err
+		return received{}, err
 	}
 	id, err := newID()
 	if err != nil {
-		return nil, 0, err
+		return received{}, err
 	}
-	got, err := c.ask(ctx, to, of, sending{
+	got, err = c.ask(ctx, to, of, sending{
 		method: http.MethodGet, target: to.prefix + "/v2/catalog", id: id, until: c.now().Add(c.options.CatalogueTime),
-		longest: LongestCatalogue, isAlone: true,
+		longest: LongestCatalogue, isAlone: true, isOfAny: true,
 	})
 	if err != nil {
-		return nil, got.status, fmt.Errorf("the catalogue of %s: %w", of.Name, err)
+		return got, fmt.Errorf("the catalogue of %s: %w", of.Name, err)
 	}
 	if got.status != http.StatusOK {
-		return nil, got.status, fmt.Errorf("the broker %s %s%s", of.Name, refusal(got.status), reason(got.body))
+		return got, fmt.Errorf("the broker %s %s%s", of.Name, refusal(got.status), reason(got.body))
 	}
 	if _, err := osb.CataloguePlans(got.body); err != nil {
-		return nil, got.status, fmt.Errorf("the catalogue of %s can't be read: %w", of.Name, err)
+		return got, fmt.Errorf("the catalogue of %s can't be read: %w", of.Name, err)
 	}
-	return got.body, got.status, nil
+	return got, nil
 }
 
 // refusal is what a status other than 200 says.

@@ -26,6 +26,7 @@ type sending struct {
 	until          time.Time
 	longest        int  // of the answer's body
 	isAlone        bool // whether it has a connection of its own in any case
+	isOfAny        bool // whether its answer may be that of another store, which is judged later
 }
 
 // A received is an answer that came whole. Of one that didn't, the status may be known.
@@ -151,8 +152,11 @@ func (c *Client) ask(ctx context.Context, to *broker, of platform.Broker, sent s
 		return received{}, notSent{reason}
 	}
 	got, err := c.on(within, conn, request, sent)
+	if err == nil && !sent.isOfAny {
+		err = of.CheckStore(got.header.Values(platform.StoreHeader))
+	}
 	switch {
-	case err == nil:
+	case err == nil, errors.Is(err, platform.ErrOtherStore):
 	case !conn.top.isWritten:
 		err = notSent{because(ctx, within, err)}
 	default:

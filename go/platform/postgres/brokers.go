@@ -35,9 +35,11 @@ func brokerRowOf(broker platform.Broker) (it brokerRow, err error) {
 		Password: broker.Password, PasswordFile: storable(broker.PasswordFile),
 		Catalogue: orNull(string(broker.Catalogue)), CatalogueAt: seconds(broker.CatalogueAt),
 	}
-	if it.Settings, err = textOf(broker.Settings); err != nil {
+	settings, err := broker.SettingsText()
+	if err != nil {
 		return it, err
 	}
+	it.Settings = string(settings)
 	it.Reason, err = reasonText(broker.Reason)
 	return it, err
 }
@@ -47,7 +49,7 @@ func (r brokerRow) broker() (platform.Broker, error) {
 		Name: r.Name, URL: r.URL, User: r.Username, Password: r.Password, PasswordFile: r.PasswordFile,
 		Catalogue: raw(r.Catalogue), CatalogueAt: time.Time(r.CatalogueAt),
 	}
-	err := either(json.Unmarshal([]byte(r.Settings), &it.Settings), readReason(r.Reason, &it.Reason))
+	err := either(it.ReadSettings([]byte(r.Settings)), readReason(r.Reason, &it.Reason))
 	if err != nil {
 		err = fmt.Errorf("the broker %s: %w", r.Name, err)
 	}

@@ -3,7 +3,6 @@ package sqlite
 import (
 	"context"
 	"database/sql/driver"
-	"encoding/json"
 	"fmt"
 
 	"pippinterm/platform"
@@ -35,7 +34,7 @@ func brokerOf(values []driver.Value) (broker platform.Broker, err error) {
 	broker.Catalogue, broker.CatalogueAt, broker.Reason = r.json(), r.at(), r.reason()
 	err = r.err
 	if err == nil {
-		err = json.Unmarshal([]byte(settings), &broker.Settings)
+		err = broker.ReadSettings([]byte(settings))
 	}
 	if err != nil {
 		err = fmt.Errorf("sqlite: the broker %s: %w", broker.Name, err)
@@ -98,7 +97,7 @@ func one(otherwise error) func(rows int64, err error) error {
 }
 
 func brokerValues(broker platform.Broker) ([]driver.Value, error) {
-	settings, err := json.Marshal(broker.Settings)
+	settings, err := broker.SettingsText()
 	if err != nil {
 		return nil, err
 	}

@@ -405,7 +405,7 @@ func testBrokers(t *testing.T, open opener) {
 			Catalogue: json.RawMessage(`{ "services": ["\u0000", 1.0 ]}`), CatalogueAt: past(1),
 			Reason: platform.Reason{At: past(2), Kind: "catalog", Status: 500, Error: "e", Description: "d", Lost: "l"},
 		},
-		{Name: "b", URL: "http://b", PasswordFile: "/run/secret's"},
+		{Name: "b", URL: "http://b", PasswordFile: "/run/secret's", Store: "8d5f7a3e-0000-4000-8000-000000000001"},
 		{Name: "c", URL: "http://c", User: "c"},
 	}
 	for _, n := range []int{1, 0, 2} {
