@@ -110,7 +110,7 @@ def execute(url: str, statement: str) -> None:
     """Runs a statement in a session of its own, and commits it."""
     import psycopg2  # if PostgreSQL is used, it is installed
 
-    with closing(psycopg2.connect(url, connect_timeout=10)) as session, session.cursor() as cursor:
+    with closing(psycopg2.connect(url, connect_timeout=60)) as session, session.cursor() as cursor:
         session.autocommit = True
         cursor.execute(statement)
 

@@ -51,9 +51,9 @@ def test_signal(storm: Path, number: int) -> None:
     with SmallBroker(seconds=0.03).running() as small:
         line = [*WITH_SIGNALS, str(storm), "conform", "--url", small.url, "--poll-seconds", "0.01"]
         with subprocess.Popen(line, env=ENVIRONMENT, stdout=subprocess.PIPE, text=True) as process:
-            until(lambda: len(small.instances) >= 3, 30)
+            until(lambda: len(small.instances) >= 3)
             process.send_signal(number)
-            text, _ = process.communicate(timeout=30)
+            text, _ = process.communicate(timeout=120)
         assert process.returncode == 1
         assert "not every case was tried: the run was ended before\n" in text
         assert small.instances == set()

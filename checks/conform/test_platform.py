@@ -181,9 +181,9 @@ def test_signal_ends_the_orders(storm: Path, tmp_path: Path, number: int) -> Non
         child = Path("/proc") / (tmp_path / "pid").read_text().strip() / "stat"
         until(lambda: " (sleep) " in child.read_text())
         process.send_signal(number)
-        text, errors = process.communicate(timeout=30)
+        text, errors = process.communicate(timeout=120)
     assert (process.returncode, errors) == (1, "") and "the run was ended before\n" in text, text + errors
-    until(lambda: not child.exists() or " (sleep) Z " in child.read_text(), 10)
+    until(lambda: not child.exists() or " (sleep) Z " in child.read_text())
 
 
 def test_must(storm: Path) -> None:
@@ -207,7 +207,7 @@ def test_signal(storm: Path, tmp_path: Path, number: int) -> None:
         assert Forgetful(port).create("mine")
         assert len(list(tmp_path.iterdir())) == 1
         process.send_signal(number)
-        text, _ = process.communicate(timeout=30)
+        text, _ = process.communicate(timeout=120)
     assert process.returncode == 1 and "the run was ended before\n" in text
     assert list(tmp_path.iterdir()) == []
 

@@ -15,11 +15,9 @@ from ports import free_address
 
 pytestmark = pytest.mark.slow
 
-SHORT = (
-    *("--seconds", "2", "--instances", "20", "--poll-seconds", "0.1"),
-    *("--request-seconds", "1", "--late-seconds", "1.5", "--seed", "1"),
-)
+SHORT = "--instances", "20", "--poll-seconds", "0.1", "--seed", "1"
 """With this seed, six instances stay to the end."""
+TIMES = {"--seconds": 2, "--request-seconds": 1, "--late-seconds": 1.5}
 REPEATED = "".join(f"{instance}.1 repeated\n" for instance in range(1, 21))
 """The faults: each creation reaches the broker twice."""
 
@@ -64,17 +62,25 @@ def test_failed_run_changes_no_report(storm: Path, tmp_path: Path) -> None:
         assert kept.read_text() == "before" and not new.exists()
 
 
-def of_twice_broker(storm: Path, instances: Path, files: dict[str, Path]) -> subprocess.CompletedProcess[str]:
-    """A storm with these files of reports, each of which has something longer before, unless nothing can be written."""
-    broker, faults = TwiceBroker(instances), instances.with_suffix(".faults")
-    faults.write_text(REPEATED)
-    for file in files.values():
-        if file != Path("/dev/full"):
-            file.write_text("x" * 1_000_000)
-    with broker.running():
-        options = [it for pair in files.items() for it in pair]
-        found = ("--list-command", broker.list_command, "--faults", faults)
-        return ran(storm, "broker", "--url", broker.url, *SHORT, *found, *options)
+def of_twice_broker(storm: Path, folder: Path, files: dict[str, Path]) -> subprocess.CompletedProcess[str]:
+    """A storm with these files of reports, each of which has something longer before, unless nothing can be written. If
+    the machine is so busy that no instance is left, which would exist twice, the next storm has more time.
+    """
+    for slower in 1, 5, 25:
+        instances = folder / f"instances{slower}"
+        broker, faults = TwiceBroker(instances), instances.with_suffix(".faults")
+        faults.write_text(REPEATED)
+        for file in files.values():
+            if file != Path("/dev/full"):
+                file.write_text("x" * 1_000_000)
+        with broker.running():
+            times = [it for option, seconds in TIMES.items() for it in (option, seconds * slower)]
+            options = [*times, *(it for pair in files.items() for it in pair)]
+            found = ("--list-command", broker.list_command, "--faults", faults)
+            done = ran(storm, "broker", "--url", broker.url, *SHORT, *found, *options, seconds=600)
+        if "it exists twice" in done.stdout:
+            break
+    return done
 
 
 @pytest.mark.long(20)
@@ -83,6 +89,7 @@ def test_all_reports_are_written(storm: Path, tmp_path: Path) -> None:
     for full in "--json", "--html", "--faults-to":
         files = {it: tmp_path / f"report{it}" for it in ("--json", "--html", "--faults-to")}
         files[full] = Path("/dev/full")
+        (tmp_path / full).mkdir()
         done = of_twice_broker(storm, tmp_path / full, files)
         assert (done.returncode, done.stderr.count("\n")) == (1, 1), done.stdout + done.stderr
         assert done.stderr.startswith("osb-storm: the report can't be written: write /dev/full: "), done.stderr

@@ -84,7 +84,7 @@ def test_signal(storm: Path, number: int) -> None:
     with SmallBroker().running() as small:
         line = [*WITH_SIGNALS, *command(storm, small.url, "--seconds", "20", "--answer-seconds", "1")]
         with begun(line) as process:
-            until(lambda: len(small.instances) >= 3, 30)
+            until(lambda: len(small.instances) >= 3)
             process.send_signal(number)
             text, _ = process.communicate(timeout=60)
         assert process.returncode == 1
@@ -97,15 +97,15 @@ def test_signal_and_unanswered_creations(storm: Path) -> None:
     The program says until when it waits, and a second signal ends that.
     """
     with SmallBroker().running() as small:
-        line = command(storm, small.url, "--seconds", "20", "--answer-seconds", "30", "--fault-percent", "100")
+        line = command(storm, small.url, "--seconds", "20", "--answer-seconds", "120", "--fault-percent", "100")
         with begun(line, subprocess.PIPE) as process:
-            until(lambda: len(small.instances) >= 5, 30)
+            until(lambda: len(small.instances) >= 5)
             process.send_signal(signal.SIGINT)
-            until(lambda: not small.instances, 20)
+            until(lambda: not small.instances)
             assert process.stderr is not None
             waits = process.stderr.readline()
             process.send_signal(signal.SIGINT)
-            text, _ = process.communicate(timeout=10)
+            text, _ = process.communicate(timeout=120)
     assert re.match(r"osb-storm: \d+ of \d+ .* are deleted\. Creations that weren't answered: [1-9]", waits), waits
     assert waits.endswith(" A second SIGINT or SIGTERM ends the deletions.\n"), waits
     assert process.returncode == 3
@@ -120,7 +120,7 @@ def test_closed_terminal(storm: Path) -> None:
         line = [*WITH_SIGNALS, *command(storm, small.url, "--seconds", "20", "--answer-seconds", "1")]
         with begun(line, subprocess.PIPE) as process:
             assert process.stdout is not None and process.stderr is not None
-            until(lambda: len(small.instances) >= 3, 30)
+            until(lambda: len(small.instances) >= 3)
             process.stdout.close()
             process.stderr.close()
             for _ in range(3):
@@ -136,7 +136,7 @@ def test_nohup(storm: Path) -> None:
     with SmallBroker().running() as small:
         line = ["nohup", *command(storm, small.url, "--seconds", "1", "--instances", "5")]
         with begun(line, subprocess.DEVNULL) as process:
-            until(lambda: len(small.instances) >= 2, 30)
+            until(lambda: len(small.instances) >= 2)
             process.send_signal(signal.SIGHUP)
             text, _ = process.communicate(timeout=60)
         assert "the run was ended before\n" not in text and "converged" in text, text
@@ -148,11 +148,11 @@ def test_hanging_command(storm: Path) -> None:
     with SmallBroker().running() as small:
         line = command(storm, small.url, "--list-command", "sleep 1000 | cat")
         with begun(line) as process:
-            until(lambda: len(small.instances) == 1, 30)
+            until(lambda: len(small.instances) == 1)
             for _ in range(2):
                 process.send_signal(signal.SIGTERM)
                 time.sleep(0.5)
-            text, _ = process.communicate(timeout=10)
+            text, _ = process.communicate(timeout=120)
         assert process.returncode == 3
         assert [f"not deleted: instance {it}: the time for deletions was over\n" in text for it in small.instances] == [
             True

@@ -23,7 +23,7 @@ _METRIC = re.compile(r"`([a-z]\w+)(?:\{([\w,]+)\})?`")
 
 def exported(address: str) -> Metrics:
     """What is exported at this address of --health-listen, without Go's own metrics."""
-    with urllib.request.urlopen(f"{address}/metrics", timeout=10) as answer:
+    with urllib.request.urlopen(f"{address}/metrics", timeout=60) as answer:
         text = answer.read().decode()
     histograms = set(_TYPE.findall(text))
     found: Metrics = {}

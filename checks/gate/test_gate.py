@@ -219,7 +219,7 @@ def test_nothing_goes_on_after_a_failure(repository: Repository, monkeypatch: py
     (repository.top / "test_alone.py").write_text(
         "import os, pathlib, pytest, time\n\n@pytest.mark.alone\ndef test_clock():\n"
         "    pathlib.Path('new').write_text(str(os.getpid()))\n"
-        "    os.rename('new', 'clock')\n    time.sleep(60)\n"
+        "    os.rename('new', 'clock')\n    time.sleep(600)\n"
     )
     monkeypatch.setattr(gate, "TOP", repository.top)
     monkeypatch.setattr(os, "sched_getaffinity", lambda _: set(range(4)))
@@ -230,7 +230,7 @@ def test_nothing_goes_on_after_a_failure(repository: Repository, monkeypatch: py
             waiting.until((repository.top / "clock").exists)
             raise KeyboardInterrupt
     number = (repository.top / "clock").read_text()
-    waiting.until(lambda: not Path(f"/proc/{number}").exists(), 10)
+    waiting.until(lambda: not Path(f"/proc/{number}").exists())
 
 
 @pytest.mark.slow

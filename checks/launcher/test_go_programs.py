@@ -172,13 +172,13 @@ def test_two_starts_build_once(repository: GoRepository) -> None:
 @pytest.mark.parametrize("how", [signal.SIGTERM, signal.SIGKILL])
 def test_end_of_the_launcher_ends_its_build(repository: GoRepository, how: signal.Signals) -> None:
     """The next start builds, and leaves nothing of the ended one."""
-    (repository.kit / "seconds").write_text("60\n")
+    (repository.kit / "seconds").write_text("600\n")
     with repository.start() as launcher:
         until(repository.go_builds)
         builder = int(repository.go_builds()[0].split()[0])
         launcher.send_signal(how)
-        assert launcher.wait(10) == -how
-        until(lambda: not Path(f"/proc/{builder}").exists(), 10)
+        assert launcher.wait(60) == -how
+        until(lambda: not Path(f"/proc/{builder}").exists())
     (repository.kit / "seconds").write_text("0\n")
     (repository.program.parent / f"{repository.name}.new.1").touch()
     assert serve(repository)[:2] == (9, says("first"))

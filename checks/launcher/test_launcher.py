@@ -155,13 +155,13 @@ def test_two_starts_build_once(repository: Repository) -> None:
 
 @pytest.mark.parametrize("how", [signal.SIGTERM, signal.SIGKILL])
 def test_end_of_the_launcher_ends_its_build(repository: Repository, how: signal.Signals) -> None:
-    (repository.kit / "seconds").write_text("60\n")
+    (repository.kit / "seconds").write_text("600\n")
     with start(repository) as launcher:
         until(repository.builds)
         group = int((repository.kit / "builds").read_text().split()[0])
         launcher.send_signal(how)
-        assert launcher.wait(10) == -how
-        until(lambda: not is_alive(group), 10)
+        assert launcher.wait(60) == -how
+        until(lambda: not is_alive(group))
 
 
 def is_alive(group: int) -> bool:

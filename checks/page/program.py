@@ -72,7 +72,7 @@ class Got(NamedTuple):
 def get(url: str, target: str = "/", host: str | None = None) -> Got:
     """What the page answers to a request, for this Host or for its own."""
     own = url[len("http://") : -1]
-    with contextlib.closing(http.client.HTTPConnection(own, timeout=30)) as connection:
+    with contextlib.closing(http.client.HTTPConnection(own, timeout=60)) as connection:
         connection.request("GET", target, headers={"Host": own if host is None else host})
         response = connection.getresponse()
         return Got(response.status, response.read().decode(), dict(response.getheaders()))

@@ -41,7 +41,7 @@ class Serving:
 
     def unfinished(self) -> float:
         """How much is pending, operating or waiting."""
-        with urllib.request.urlopen(f"http://127.0.0.1:{self.port}/metrics", timeout=10) as page:
+        with urllib.request.urlopen(f"http://127.0.0.1:{self.port}/metrics", timeout=60) as page:
             text = page.read().decode()
         return sum(map(float, re.findall(r"^osb_broker_(?:pending|operating) (\S+)$", text, re.MULTILINE)))
 

@@ -108,7 +108,7 @@ def is_served(port: int) -> bool:
     headers = {"Authorization": f"Basic {login}", "X-Broker-API-Version": "2.17"}
     request = urllib.request.Request(f"http://127.0.0.1:{port}/v2/catalog", headers=headers)
     try:
-        with urllib.request.urlopen(request, timeout=5) as answer:
+        with urllib.request.urlopen(request, timeout=60) as answer:
             return bool(json.load(answer)["services"])
     except OSError:
         return False

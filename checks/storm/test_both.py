@@ -166,9 +166,9 @@ def test_killed(storm: Path, broker: Path, platform: Path, replay: Path, tmp_pat
         return any('"arrived"' in it.read_text() for it in journal.glob("broker/*.jsonl"))
 
     with subprocess.Popen(line, env=environment, stdout=subprocess.DEVNULL) as it:
-        until(has_arrived, 30)
+        until(has_arrived)
         it.kill()
-    until(lambda: not runs(), 10)
+    until(lambda: not runs())
     assert audited(journal, replay)["instances"] > 0
 
 

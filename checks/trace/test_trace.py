@@ -54,8 +54,8 @@ def test_any_schedule(replay: Path, schedule: bytes, number: int | None, settle:
 
 
 def next_lines(out: IO[bytes], count: int) -> list[str]:
-    """The next lines of the pipe. Fails if they aren't there within 20 seconds."""
-    until, found = time.monotonic() + 20, b""
+    """The next lines of the pipe. Fails if they aren't there within a minute."""
+    until, found = time.monotonic() + 60, b""
     while found.count(b"\n") < count:
         ready, _, _ = select.select([out], [], [], max(0.0, until - time.monotonic()))
         piece = os.read(out.fileno(), 4096) if ready else b""

@@ -76,7 +76,7 @@ func TestLocksThatAreSilent(t *testing.T) {
 			t.Errorf("%s %s is answered %d after %v", method, target, got, took)
 		}
 	}
-	const soon = 20 * time.Second
+	const soon = time.Minute
 	want(201, soon, "PUT", "there", bodyOf(now, ""))
 	silent := make(chan struct{})
 	var once sync.Once
@@ -106,11 +106,14 @@ func TestLocksThatAreSilent(t *testing.T) {
 			t.Fatal("requests without a place wait")
 		}
 	}
-	const atOnce = time.Second
-	want(200, atOnce, "PUT", "there", bodyOf(now, ""))
-	want(410, atOnce, "DELETE", "never"+names(now), "")
-	want(503, atOnce, "PUT", "new", bodyOf(now, ""))
-	want(503, atOnce, "DELETE", "there"+names(now), "")
+	begun := time.Now()
+	want(200, soon, "PUT", "there", bodyOf(now, ""))
+	want(410, soon, "DELETE", "never"+names(now), "")
+	want(503, soon, "PUT", "new", bodyOf(now, ""))
+	want(503, soon, "DELETE", "there"+names(now), "")
+	if took := time.Since(begun); took >= 8*time.Second { // each would wait two seconds for a place
+		t.Errorf("got four answers after %v, want them at once", took)
+	}
 	if count := locks.count(); count != 2 {
 		t.Errorf("%d have tried the silent locks at once, and not 2", count)
 	}

@@ -194,7 +194,7 @@ func (s *site) expect(t *testing.T, status int, method, target, body string, cha
 // until asks again until the body has this text.
 func (s *site) until(t *testing.T, text, method, target string) string {
 	t.Helper()
-	for end := time.Now().Add(20 * time.Second); ; time.Sleep(2 * time.Millisecond) {
+	for end := time.Now().Add(time.Minute); ; time.Sleep(2 * time.Millisecond) {
 		_, body := s.ask(method, target, "")
 		if strings.Contains(body, text) {
 			return body
@@ -208,7 +208,7 @@ func (s *site) until(t *testing.T, text, method, target string) string {
 // untilGone asks for the last operation until it is gone.
 func (s *site) untilGone(t *testing.T, target string) {
 	t.Helper()
-	for end := time.Now().Add(20 * time.Second); ; time.Sleep(time.Millisecond) {
+	for end := time.Now().Add(time.Minute); ; time.Sleep(time.Millisecond) {
 		given, body := s.ask("GET", target+"/last_operation", "")
 		if given.StatusCode == 410 {
 			return
@@ -508,7 +508,7 @@ func TestFirstPoll(t *testing.T) {
 
 	s = newSite(t, setting{rules: broker.Rules{FirstPoll: true}})
 	s.expect(t, 202, "PUT", instances+"i?accepts_incomplete=true", bodyOf(later, ""))
-	for end := time.Now().Add(20 * time.Second); ; time.Sleep(time.Millisecond) {
+	for end := time.Now().Add(time.Minute); ; time.Sleep(time.Millisecond) {
 		held, err := s.store.Read(context.Background(), keyOf("i"))
 		if row, _ := held.Holding.Row(); err != nil || row.Phase == osb.PhaseFailed {
 			break
@@ -550,7 +550,7 @@ func TestFailedBindings(t *testing.T) {
 	s.until(t, "failed", "GET", one+"/service_bindings/b/last_operation")
 	s.expected.beginsItself(broker.BindingKey(keyOf("i").Instance, keyOf("b").Instance))
 	s.expect(t, 422, "DELETE", one+names(bindLater), "")
-	for end := time.Now().Add(20 * time.Second); ; time.Sleep(time.Millisecond) {
+	for end := time.Now().Add(time.Minute); ; time.Sleep(time.Millisecond) {
 		if given, _ := s.ask("DELETE", one+names(bindLater), ""); given.StatusCode == 200 {
 			break
 		}

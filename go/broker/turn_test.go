@@ -50,13 +50,13 @@ func (s *site) create(name string) <-chan int {
 	return status
 }
 
-// within fails the test if a call takes 10 seconds.
+// within fails the test if a call takes a minute.
 func within[T any](t *testing.T, what string, from <-chan T) T {
 	t.Helper()
 	select {
 	case got := <-from:
 		return got
-	case <-time.After(10 * time.Second):
+	case <-time.After(time.Minute):
 		t.Fatalf("%s takes too long", what)
 	}
 	panic("not reached")

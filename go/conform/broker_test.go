@@ -118,7 +118,7 @@ func TestOurBroker(t *testing.T) {
 			if passed := report.Count(conform.Must, conform.Pass); passed < 50 {
 				t.Errorf("%s: only %d MUSTs passed", plan, passed)
 			}
-			within, cancel := context.WithTimeout(context.Background(), 20*time.Second)
+			within, cancel := context.WithTimeout(context.Background(), time.Minute)
 			if left := r.CleanUp(within); len(left) > 0 {
 				t.Errorf("%s: %v are left", plan, left)
 			}

@@ -167,7 +167,7 @@ func TestUnansweredKeepsNothing(t *testing.T) {
 
 // If CleanUp is ended while it waits, nothing is left but what may still arrive.
 func TestEndedWait(t *testing.T) {
-	ctx, end := context.WithTimeout(context.Background(), 5*time.Second)
+	ctx, end := context.WithTimeout(context.Background(), time.Minute)
 	defer end()
 	m := newModel(false)
 	r := owing(t, m, func(c *Config) { c.Tell = func(string) { end() } }, "one", "two")
@@ -331,7 +331,7 @@ func TestInstanceThatIsNeverFree(t *testing.T) {
 	if _, err := r.Run(context.Background()); err != nil {
 		t.Fatal(err)
 	}
-	within, cancel := context.WithTimeout(context.Background(), 10*time.Second)
+	within, cancel := context.WithTimeout(context.Background(), time.Minute)
 	defer cancel()
 	left := r.CleanUp(within)
 	if len(left) != 1 || left[0].Instance != stuck || !strings.Contains(left[0].Reason, "ConcurrencyError") {

@@ -24,7 +24,7 @@ func TestOwe(t *testing.T) {
 		m.lives[it] = &life{state: "ready", asked: object{"plan": "a"}}
 		r.Owe(Owed{Instance: it.instance, Binding: it.binding})
 	}
-	within, cancel := context.WithTimeout(context.Background(), 10*time.Second)
+	within, cancel := context.WithTimeout(context.Background(), time.Minute)
 	defer cancel()
 	if left := r.CleanUp(within); len(left) > 0 || m.left() > 0 {
 		t.Errorf("%v are left, and %d exist", left, m.left())

@@ -132,10 +132,10 @@ func TestLimit(t *testing.T) {
 	}
 }
 
-// locked returns the lock of the instance. It fails if it has to wait for more than ten seconds.
+// locked returns the lock of the instance. It fails if it has to wait for more than a minute.
 func locked(t *testing.T, locks broker.Locks) broker.Lock {
 	t.Helper()
-	limited, cancel := context.WithTimeout(ctx, 10*time.Second)
+	limited, cancel := context.WithTimeout(ctx, time.Minute)
 	defer cancel()
 	lock, err := locks.Lock(limited, instance.Key)
 	if err != nil {
@@ -341,10 +341,10 @@ func TestBadResultEndsTheGroup(t *testing.T) {
 	waitForEnd(t, pidOf(t, backend))
 }
 
-// waitForEnd returns once a process has ended. It fails if that takes longer than ten seconds.
+// waitForEnd returns once a process has ended. It fails if that takes longer than a minute.
 func waitForEnd(t *testing.T, pid int) {
 	t.Helper()
-	for end := time.Now().Add(10 * time.Second); ; time.Sleep(time.Millisecond) {
+	for end := time.Now().Add(time.Minute); ; time.Sleep(time.Millisecond) {
 		stat, err := os.ReadFile("/proc/" + strconv.Itoa(pid) + "/stat")
 		if err != nil || strings.Contains(string(stat), ") Z ") {
 			return

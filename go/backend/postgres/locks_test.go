@@ -192,7 +192,7 @@ func TestALockThatOutlivesItsClient(t *testing.T) {
 	if _, err := template.ExecContext(context.Background(), "COMMIT"); err != nil {
 		t.Fatal(err)
 	}
-	ctx, cancel := context.WithTimeout(context.Background(), 20*time.Second)
+	ctx, cancel := context.WithTimeout(context.Background(), time.Minute)
 	defer cancel()
 	next, err := second.Locks().Lock(ctx, key)
 	if err != nil {
@@ -298,7 +298,7 @@ func TestLocksOfAServerThatIsSilent(t *testing.T) {
 		held.Unlock()
 		done <- broker.ErrAway
 	}()
-	late := time.After(25 * time.Second)
+	late := time.After(time.Minute)
 	for n := 0; n < cap(done); n++ {
 		select {
 		case err := <-done:

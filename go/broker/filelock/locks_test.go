@@ -47,10 +47,10 @@ func isFree(t *testing.T, locks *Locks, key broker.Key) bool {
 	return true
 }
 
-// locked returns the lock of a key. It fails if it has to wait for more than ten seconds.
+// locked returns the lock of a key. It fails if it has to wait for more than a minute.
 func locked(t *testing.T, locks *Locks, key broker.Key) broker.Lock {
 	t.Helper()
-	ctx, cancel := context.WithTimeout(context.Background(), 10*time.Second)
+	ctx, cancel := context.WithTimeout(context.Background(), time.Minute)
 	defer cancel()
 	lock, err := locks.Lock(ctx, key)
 	if err != nil {

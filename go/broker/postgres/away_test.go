@@ -100,7 +100,7 @@ func TestServerThatIsSilent(t *testing.T) {
 			}()
 		}
 	}
-	late := time.After(30 * time.Second)
+	late := time.After(time.Minute)
 	for n := 0; n < cap(done); n++ {
 		select {
 		case err := <-done:

@@ -33,7 +33,7 @@ func TestClosed(t *testing.T) {
 			if err == nil {
 				t.Errorf("%s succeeds", name)
 			}
-		case <-time.After(5 * time.Second):
+		case <-time.After(time.Minute):
 			t.Errorf("%s waits", name)
 		}
 	}

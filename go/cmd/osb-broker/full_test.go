@@ -19,7 +19,7 @@ func (s *served) longest(bytes uint64) {
 // untilReady asks for /readyz until the status is this one. An answer may be a second old.
 func (s *served) untilReady(status int) {
 	s.t.Helper()
-	for late := time.Now().Add(20 * time.Second); ; time.Sleep(20 * time.Millisecond) {
+	for late := time.Now().Add(time.Minute); ; time.Sleep(20 * time.Millisecond) {
 		given, body := s.plain("/readyz")
 		if given == status {
 			return

@@ -82,7 +82,7 @@ func (h haproxy) status(from, login string, header http.Header) int {
 	request.SetBasicAuth("platform", strings.TrimPrefix(login, "OSB_BROKER_PASSWORD="))
 	request.Header.Set("X-Broker-API-Version", "2.17")
 	dialer := net.Dialer{LocalAddr: &net.TCPAddr{IP: net.ParseIP(from)}}
-	client := http.Client{Timeout: 20 * time.Second, Transport: &http.Transport{
+	client := http.Client{Timeout: time.Minute, Transport: &http.Transport{
 		DisableKeepAlives: true,
 		DialContext: func(ctx context.Context, network, address string) (net.Conn, error) {
 			return dialer.DialContext(ctx, network, address)

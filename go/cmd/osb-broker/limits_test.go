@@ -175,7 +175,7 @@ func TestHealthWhileItStops(t *testing.T) {
 				}
 			}
 		}
-		for end := time.Now().Add(10 * time.Second); isShared; time.Sleep(time.Millisecond) {
+		for end := time.Now().Add(time.Minute); isShared; time.Sleep(time.Millisecond) {
 			conn, err := net.Dial("tcp", strings.TrimPrefix(s.url, "http://"))
 			if err != nil {
 				break

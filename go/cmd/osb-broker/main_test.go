@@ -54,7 +54,7 @@ func start(t *testing.T, environment []string, arguments ...string) *served {
 	s := &served{
 		t: t, command: osbBroker(environment, append([]string{"serve", "--listen", "127.0.0.1:0"}, arguments...)...),
 		lines:  make(chan string, 10_000),
-		client: &http.Client{Timeout: 20 * time.Second, Transport: &http.Transport{DisableKeepAlives: true}},
+		client: &http.Client{Timeout: time.Minute, Transport: &http.Transport{DisableKeepAlives: true}},
 	}
 	stderr, err := s.command.StderrPipe()
 	if err != nil {
@@ -80,7 +80,7 @@ func start(t *testing.T, environment []string, arguments ...string) *served {
 // event waits for a line of the log with this event.
 func (s *served) event(name string) map[string]any {
 	s.t.Helper()
-	late := time.After(20 * time.Second)
+	late := time.After(time.Minute)
 	for {
 		select {
 		case line, isOpen := <-s.lines:

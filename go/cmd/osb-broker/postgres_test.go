@@ -35,7 +35,7 @@ func ended(t *testing.T, status int, says string, command *exec.Cmd) {
 	if err := command.Start(); err != nil {
 		t.Fatal(err)
 	}
-	late := time.AfterFunc(20*time.Second, func() { _ = command.Process.Kill() })
+	late := time.AfterFunc(time.Minute, func() { _ = command.Process.Kill() })
 	defer late.Stop()
 	_ = command.Wait()
 	got, text := command.ProcessState.ExitCode(), out.String()

@@ -123,7 +123,7 @@ func TestPipesInPlaceOfFiles(t *testing.T) {
 	if failed := r.hangUp("users_not_reloaded"); !strings.Contains(failed["error"].(string), "isn't a regular file") {
 		t.Errorf("the log has %v", failed)
 	}
-	late := time.AfterFunc(20*time.Second, func() { _ = s.command.Process.Kill() })
+	late := time.AfterFunc(time.Minute, func() { _ = s.command.Process.Kill() })
 	defer late.Stop()
 	s.stop()
 	unusable(t, file+" isn't a regular file", "serve", "--state", filepath.Join(folder, "o"), "--password-file", file)

@@ -79,7 +79,7 @@ func (g *gate) in20Seconds(call func() error) {
 	select {
 	case err := <-done:
 		g.check(err)
-	case <-time.After(20 * time.Second):
+	case <-time.After(time.Minute):
 		g.t.Fatal("the backend's create doesn't run")
 	}
 }
@@ -95,7 +95,7 @@ func (g *gate) count() int {
 // until asks again until the status is this one, and the body has the text.
 func (s *served) until(status int, text, method, path, body string) {
 	s.t.Helper()
-	for end := time.Now().Add(20 * time.Second); ; time.Sleep(5 * time.Millisecond) {
+	for end := time.Now().Add(time.Minute); ; time.Sleep(5 * time.Millisecond) {
 		given, got := s.ask(method, path, body)
 		if given == status && strings.Contains(got, text) {
 			return

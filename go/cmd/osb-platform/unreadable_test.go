@@ -43,7 +43,7 @@ func TestUnreadableRow(t *testing.T) {
 		}
 		command, goesOn := &cobra.Command{}, func(platform.Entry) (bool, bool) { return false, false }
 		command.SetErr(io.Discard)
-		ctx, cancel := context.WithTimeout(ctx, 10*time.Second)
+		ctx, cancel := context.WithTimeout(ctx, time.Minute)
 		defer cancel()
 		_, err = (&waiting{}).wait(ctx, command, session{store: in}, of, false, goesOn)
 		if err == nil || !strings.Contains(err.Error(), "two: its record can't be read: ") {

@@ -80,7 +80,7 @@ func (s *served) try(method, target, plan string) (status int, body string, err 
 	}
 	request.SetBasicAuth("platform", "secret")
 	request.Header.Set(osb.VersionHeader, osb.VersionSent)
-	answer, err := (&http.Client{Timeout: 30 * time.Second}).Do(request)
+	answer, err := (&http.Client{Timeout: time.Minute}).Do(request)
 	if err != nil {
 		return 0, "", err
 	}
@@ -102,7 +102,7 @@ func (s *served) want(method, target, plan string, status int, text string) stri
 // poll polls until the operation has ended.
 func (s *served) poll(target, plan string) (int, string) {
 	s.t.Helper()
-	for deadline := time.Now().Add(30 * time.Second); ; {
+	for deadline := time.Now().Add(time.Minute); ; {
 		status, body := s.ask(http.MethodGet, target+"/last_operation", plan)
 		if !strings.Contains(body, "in progress") {
 			return status, body

@@ -26,7 +26,7 @@ func (r *reader) Scan(value any) error {
 	}
 	r.was = string(bytes)
 	r.cancel()
-	for until := time.Now().Add(5 * time.Second); r.db.Stats().InUse > 0; time.Sleep(time.Millisecond) {
+	for until := time.Now().Add(time.Minute); r.db.Stats().InUse > 0; time.Sleep(time.Millisecond) {
 		if time.Now().After(until) {
 			return fmt.Errorf("the rows weren't closed")
 		}

@@ -194,7 +194,7 @@ func TestWorkThatEndsItsGoroutine(t *testing.T) {
 	}()
 	select {
 	case <-ended:
-	case <-time.After(10 * time.Second):
+	case <-time.After(time.Minute):
 		t.Fatal("the transaction still has the connection")
 	}
 	var open int
