@@ -91,6 +91,14 @@ func TestStatusOfPostgreSQL(t *testing.T) {
 	}
 }
 
+// A template that doesn't exist ends it before anything is sold.
+func TestTemplateThatIsMissing(t *testing.T) {
+	address, environment := postgresql(t)
+	line := []string{"serve", "--state", t.TempDir(), "--backend", address, "--template", "osb_nowhere"}
+	variables := append([]string{"OSB_BACKEND_KEY=" + strings.Repeat("k", 32)}, environment...)
+	ended(t, 78, "there is no database osb_nowhere to copy", osbBroker(variables, line...))
+}
+
 // A socket is of no use to applications, so their address has to be given with it.
 func TestSocketOfTheBackend(t *testing.T) {
 	variables := []string{password, "OSB_BACKEND_KEY=" + strings.Repeat("k", 32)}
