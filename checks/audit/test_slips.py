@@ -333,6 +333,17 @@ SLIPS = {
         held_text("making", "async", INSTANCE),
         "async",
     ),
+    "a Poll of what was held before a doubtful change, and before one that was committed": Slip(
+        ENDED.replace("B change 0 ready", "B change 0 ready !doubtful")
+        + """P lose r2; P take 2 polling/2; P claim cleaning/3/deprovision; P send r3 deprovision 3
+             B arrive 3 r3 deprovision; B change 3 ready+deprovision; B arrive 2 r2 poll committed=4
+             B answer 2 200 in-progress saw=making""",
+        ("broker", 15),
+        STALE,
+        "",
+        held_text("making", "async", INSTANCE),
+        "async",
+    ),
     "two workers of one process at once": Slip(
         ASKED7
         + """B7 change 1 pending-provision; B7 begin create visit=1; B7 begin look; B7 end look part

@@ -196,10 +196,10 @@ def _postponed(lines: list[Line], undone: frozenset[Change]) -> list[Line]:
         if line.event == "answered" and "saw" in line.of and line.visit in arrived:
             begun = arrived[line.visit]
             for row, saw in _seen(line):
-                for late in _unseen(lines, changes.get(row, []), arrived, begun, at, saw):
-                    if lines[late].change not in undone and _is_committed(lines[late], lines[begun]):
-                        break  # the request has seen what was there before
-                    moves[late] = max(moves.get(late, 0), begun)
+                late = _unseen(lines, changes.get(row, []), arrived, begun, at, saw)
+                known = [lines[it] for it in late if lines[it].change not in undone]
+                if not any(_is_committed(it, lines[begun]) for it in known):
+                    moves.update((it, max(moves.get(it, 0), begun)) for it in late)
     return list(_moved(lines, moves)) if moves else lines
 
 
