@@ -6,12 +6,16 @@ import (
 	_ "embed"
 	"encoding/json"
 	"errors"
+	"fmt"
 	"net"
 	"net/http"
 	"net/url"
 	"strconv"
 	"strings"
 	"time"
+	"unicode"
+	"unicode/utf16"
+	"unicode/utf8"
 
 	"pippinterm/platform"
 )
@@ -235,13 +239,37 @@ func textOf(body any) ([]byte, error) {
 	case nil:
 		return nil, nil
 	case json.RawMessage:
-		return body, nil
+		return printable(body), nil
 	}
 	var text bytes.Buffer
 	encoder := json.NewEncoder(&text)
 	encoder.SetEscapeHTML(false) // it is no HTML, and a broker's metadata stay as they are
 	err := encoder.Encode(body)
-	return text.Bytes(), err
+	return printable(text.Bytes()), err
+}
+
+// printable is the same JSON, in which characters are escaped that a terminal wouldn't show, but carry out: controls, and
+// marks that turn the direction of the text round. Such characters are only in strings. Bytes that aren't UTF-8 become
+// U+FFFD, as readers of JSON read them.
+func printable(text []byte) []byte {
+	isPrintable := func(r rune) bool { return r < 0x7f || r != utf8.RuneError && unicode.IsPrint(r) }
+	if bytes.IndexFunc(text, func(r rune) bool { return !isPrintable(r) }) < 0 {
+		return text
+	}
+	made := make([]byte, 0, len(text)+100)
+	for len(text) > 0 {
+		r, size := utf8.DecodeRune(text)
+		switch first, second := utf16.EncodeRune(r); {
+		case isPrintable(r):
+			made = append(made, text[:size]...)
+		case r <= 0xffff:
+			made = fmt.Appendf(made, `\u%04x`, r)
+		default:
+			made = fmt.Appendf(made, `\u%04x\u%04x`, first, second)
+		}
+		text = text[size:]
+	}
+	return made
 }
 
 func addressOf(r *http.Request) string {
