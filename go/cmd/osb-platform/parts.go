@@ -131,7 +131,8 @@ func (r *running) pageReader() (*apiclient.Client, error) {
 	}
 	token := hex.EncodeToString(random)
 	handler, err := api.NewHandler(platform.NewOrders(r.store, nil), r.store, api.Options{
-		Tokens: []api.Token{{Name: "page", Permissions: api.Read, Digest: sha256.Sum256([]byte(token))}},
+		Tokens:      []api.Token{{Name: "page", Permissions: api.Read, Digest: sha256.Sum256([]byte(token))}},
+		ShowsCauses: true,
 		Observe: func(of api.Exchange) {
 			if of.Err != nil {
 				r.log.apiRequest(of)
@@ -167,6 +168,10 @@ func (r *running) pageUsers() (map[string][]string, error) {
 func (r *running) api() (http.Handler, error) {
 	orders := platform.NewOrders(r.journal.ordersStore(r.store), r.vault)
 	orders.AllowHTTP(r.settings.allowHTTP)
+	hosts, err := api.ParseHosts(r.settings.sites.brokerHosts)
+	if err != nil {
+		return nil, err
+	}
 	return r.reloadable("tokens_reloaded", "tokens_not_reloaded", func() (http.Handler, error) {
 		tokens, warning, err := api.ReadTokens(r.settings.sites.apiTokens)
 		if err != nil {
@@ -176,7 +181,7 @@ func (r *running) api() (http.Handler, error) {
 			r.log.warn(warning)
 		}
 		return api.NewHandler(orders, r.store, api.Options{
-			Tokens: tokens, CheckKey: r.checkKeyOfAPI, Observe: r.log.apiRequest,
+			Tokens: tokens, CheckKey: r.checkKeyOfAPI, Observe: r.log.apiRequest, BrokerHosts: hosts,
 		})
 	})
 }

@@ -2,10 +2,12 @@ package main
 
 import (
 	"errors"
+	"fmt"
 	"net/netip"
 
 	"github.com/spf13/pflag"
 
+	"pippinterm/platform/api"
 	"pippinterm/program"
 	"pippinterm/program/server"
 )
@@ -16,6 +18,7 @@ type siteSettings struct {
 	page, pageUsers string
 	pageHosts       []string
 	api, apiTokens  string
+	brokerHosts     []string
 	apiTLS          server.CertificateFiles
 	perAddress      int // connections, or 0 for a quarter of those of the page or the API
 	trustedProxies  []netip.Prefix
@@ -31,6 +34,9 @@ func (s *siteSettings) add(flags *pflag.FlagSet) {
 	flags.StringVar(&s.api, "api", "", "a `host:port` for the API. GET /v1/openapi.json describes it")
 	flags.StringVar(&s.apiTokens, "api-tokens", "",
 		"the `file` with the API's tokens: a name, permissions, and the SHA-256 of a token on each line")
+	flags.StringSliceVar(&s.brokerHosts, "broker-hosts", nil, "the `hosts` at which a broker may be that the API adds or "+
+		"moves: names, *.NAME for all below one, addresses and networks, each with or without a port, with commas "+
+		"between them. May be given several times (default: all)")
 	flags.StringVar(&s.apiTLS.Certificate, "api-tls-certificate", "",
 		"a `file` with the certificates of the API, which is HTTPS then")
 	flags.StringVar(&s.apiTLS.Key, "api-tls-key", "", "the `file` with the key of --api-tls-certificate")
@@ -47,12 +53,15 @@ func (s *siteSettings) check() error {
 	switch {
 	case s.page == "" && (len(s.pageHosts) > 0 || s.pageUsers != ""):
 		return program.Unusable(errors.New("--page-host and --page-users go with --page HOST:PORT"))
-	case s.api == "" && (s.apiTokens != "" || s.isTLS()):
-		return program.Unusable(errors.New("--api-tokens and --api-tls-.. go with --api HOST:PORT"))
+	case s.api == "" && (s.apiTokens != "" || s.isTLS() || len(s.brokerHosts) > 0):
+		return program.Unusable(errors.New("--api-tokens, --broker-hosts and --api-tls-.. go with --api HOST:PORT"))
 	case s.api != "" && s.apiTokens == "":
 		return program.Unusable(errors.New("--api wants a file with tokens: --api-tokens FILE"))
 	case s.page == "" && s.api == "" && (s.perAddress > 0 || len(s.trustedProxies) > 0):
 		return program.Unusable(errors.New("--connections-per-address and --trusted-proxy go with --page or --api"))
+	}
+	if _, err := api.ParseHosts(s.brokerHosts); err != nil {
+		return program.Unusable(fmt.Errorf("--broker-hosts: %w", err))
 	}
 	return nil
 }

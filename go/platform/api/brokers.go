@@ -45,6 +45,15 @@ type sellers struct {
 	Items []seller `json:"items"`
 }
 
+// seller is a broker as it is answered.
+func (a *asked) seller(broker platform.Broker) seller {
+	s := sellerOf(broker)
+	if s.Reason != nil && s.Reason.Status == 0 && !a.ShowsCauses {
+		s.Reason.Lost = "no answer came: 'osb-platform broker list' and the log of a worker say why"
+	}
+	return s
+}
+
 func sellerOf(broker platform.Broker) seller {
 	s := seller{
 		Name: broker.Name, URL: broker.URL, User: broker.User, Password: "none",
@@ -70,7 +79,7 @@ func (a *asked) listBrokers() (answer, error) {
 	}
 	found := sellers{Items: []seller{}}
 	for _, it := range all {
-		found.Items = append(found.Items, sellerOf(it))
+		found.Items = append(found.Items, a.seller(it))
 	}
 	return answer{status: http.StatusOK, body: found}, nil
 }
@@ -97,7 +106,7 @@ func (a *asked) showBroker() (answer, error) {
 	if broker == nil {
 		return answer{}, newProblem(http.StatusNotFound, "not_found", "there is no broker of this name")
 	}
-	shown := sellerOf(*broker)
+	shown := a.seller(*broker)
 	shown.Catalogue = broker.Catalogue
 	return answer{status: http.StatusOK, body: shown}, nil
 }
@@ -130,12 +139,15 @@ func (a *asked) putBroker() (answer, error) {
 	status, name := http.StatusOK, a.values["name"]
 	if before == nil {
 		status = http.StatusCreated
+		if err := a.checkHost(given.URL); err != nil {
+			return answer{}, err
+		}
 		err = a.orders.AddBroker(a.Context(), platform.Broker{
 			Name: name, URL: given.URL, User: given.User, Settings: wanted,
 		}, password)
 	} else {
 		err = a.orders.SetBroker(a.Context(), name, func(broker *platform.Broker) error {
-			return given.change(broker, wanted)
+			return a.change(given, broker, wanted)
 		}, password)
 	}
 	if err == nil && isSealed { // the key may have been replaced meanwhile, and this password left out
@@ -151,17 +163,31 @@ func (a *asked) putBroker() (answer, error) {
 	case after == nil:
 		return answer{}, errors.New("the broker was dropped just after it was written")
 	}
-	answered := answer{status: status, body: sellerOf(*after)}
+	answered := answer{status: status, body: a.seller(*after)}
 	if status == http.StatusCreated {
 		answered.location = brokers + "/" + url.PathEscape(name)
 	}
 	return answered, nil
 }
 
-func (s newSeller) change(broker *platform.Broker, wanted platform.Settings) error {
-	if s.Password == "" && strings.TrimRight(s.URL, "/") != broker.URL {
-		return newProblem(http.StatusBadRequest, "password_needed",
-			"the URL is another one: give the password, too, which is sent there")
+// checkHost returns a problem unless a broker may be at a URL.
+func (a *asked) checkHost(url string) error {
+	if a.BrokerHosts.Allows(url) {
+		return nil
+	}
+	return newProblem(http.StatusBadRequest, "invalid", "no broker may be at the host of this URL: the program has the "+
+		"option --broker-hosts, which doesn't name it")
+}
+
+func (a *asked) change(s newSeller, broker *platform.Broker, wanted platform.Settings) error {
+	if strings.TrimRight(s.URL, "/") != broker.URL {
+		if s.Password == "" {
+			return newProblem(http.StatusBadRequest, "password_needed",
+				"the URL is another one: give the password, too, which is sent there")
+		}
+		if err := a.checkHost(s.URL); err != nil {
+			return err
+		}
 	}
 	broker.URL, broker.User, broker.Settings = s.URL, s.User, wanted
 	if s.Password != "" {

@@ -38,6 +38,12 @@ type Options struct {
 	// replaced since. It is called before a password or credentials are read or written, and after a password was
 	// written. It may be nil.
 	CheckKey func(context.Context) error
+	// BrokerHosts are those at which a broker may be that is added, or that gets another URL. By default they are all: a
+	// token that may write can have this program connect to any address then.
+	BrokerHosts Hosts
+	// ShowsCauses is whether a broker's reason says why there was no connection. Else whoever adds a broker would see
+	// which ports are open on the network of this program.
+	ShowsCauses bool
 	// Observe is called once for each request, when its answer is known. It returns at once. It may be nil.
 	Observe func(Exchange)
 }

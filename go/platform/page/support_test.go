@@ -99,8 +99,9 @@ func clientOf(t *testing.T, store platform.Store, observe func(api.Exchange)) *a
 	t.Helper()
 	token := strings.Repeat("t", api.ShortestToken)
 	handler, err := api.NewHandler(platform.NewOrders(store, nil), store, api.Options{
-		Tokens:  []api.Token{{Name: "page", Permissions: api.Read, Digest: sha256.Sum256([]byte(token))}},
-		Observe: observe,
+		ShowsCauses: true,
+		Tokens:      []api.Token{{Name: "page", Permissions: api.Read, Digest: sha256.Sum256([]byte(token))}},
+		Observe:     observe,
 	})
 	must(t, err)
 	client, err := apiclient.New(apiclient.Options{
