@@ -2,6 +2,7 @@ package stormrun
 
 import (
 	"context"
+	"fmt"
 	"os"
 	"path/filepath"
 	"strings"
@@ -202,5 +203,25 @@ fatal error: four
 	}
 	if found := cries(log + "-none"); len(found) != 1 {
 		t.Errorf("a log that can't be read: %q", found)
+	}
+}
+
+// README and the page of storms say how long a storm pauses, and in which build a lease ends before that.
+func TestPausesAreWritten(t *testing.T) {
+	pause := usualTimes().pause
+	if pause[0] <= 3*time.Second { // the lease of a build with the tag storm
+		t.Errorf("a pause of %v doesn't outlast a lease", pause[0])
+	}
+	want := fmt.Sprintf("for %v to %v seconds. ", pause[0].Seconds(), pause[1].Seconds())
+	for file, want := range map[string]string{
+		"../../README.md": want, "../../docs/storm.md": strings.Replace(want, "for ", "A pause lasts ", 1),
+	} {
+		text, err := os.ReadFile(file)
+		if err != nil {
+			t.Fatal(err)
+		}
+		if !strings.Contains(strings.Join(strings.Fields(string(text)), " ")+" ", want) {
+			t.Errorf("%s doesn't say %q", file, want)
+		}
 	}
 }

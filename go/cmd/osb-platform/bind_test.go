@@ -50,7 +50,7 @@ func TestTriesOfBinding(t *testing.T) {
 				` is gone: bind 503 .*`},
 		{"unbind " + first + " --wait=60", 0, ``, first + " was tried again as " + last + ": removing that one\n" + last +
 			" is gone"},
-		{"bind db --tries 0 --key-file " + key, 78, ``, `osb-platform: .*--tries.*`},
+		{"bind db --tries 0 --key-file " + key, 2, ``, `osb-platform: .*--tries.*`},
 		{"remove db --wait=60", 0, ``, `db is gone`},
 	})
 	p.stop()

@@ -156,7 +156,7 @@ func TestStoreWithAnotherScheme(t *testing.T) {
 	}
 	t.Cleanup(func() { _ = os.Chdir(before) })
 	for _, it := range []string{"list", "broker add x http://127.0.0.1:1", "run --once"} {
-		check(t, "mysql://x", []line{{it, 2, ``, `osb-platform: .*mysql://.*`}})
+		check(t, "mysql://x", []line{{it, 78, ``, `osb-platform: .*mysql://.*`}})
 	}
 	if found, err := filepath.Glob("*"); err != nil || len(found) > 0 {
 		t.Errorf("%q was created, %v", found, err)
@@ -170,8 +170,8 @@ func TestParametersBeyondTheBounds(t *testing.T) {
 	check(t, store, []line{
 		{"create --plan small --parameters " + deep, 78, ``,
 			`osb-platform: parameters can't be sent: more than 126 arrays and objects lie within each other`},
-		{`create --plan small --parameters {"a":1e400}`, 2, ``, `osb-platform: .*: the number 1e400 is above 1.8e308`},
-		{`create --plan small --context {"a":1,"a":2}`, 2, ``,
+		{`create --plan small --parameters {"a":1e400}`, 78, ``, `osb-platform: .*: the number 1e400 is above 1.8e308`},
+		{`create --plan small --context {"a":1,"a":2}`, 78, ``,
 			`osb-platform: context can't be sent: the member "a" stands twice in an object`},
 		{"list", 0, ``, ``},
 	})

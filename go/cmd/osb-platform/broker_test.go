@@ -58,7 +58,7 @@ last reason	20[^ ]* the catalogue of two: .*refused`, ``},
 		{"broker show two", 0, `.*hold	default
 first pace	0.5
 .*`, ``},
-		{"broker set two --hold never", 78, ``, `osb-platform: .*want a number of seconds.*`},
+		{"broker set two --hold never", 2, ``, `osb-platform: .*want a number of seconds.*`},
 		{"broker set three --hold 1", 1, ``, `osb-platform: the broker "three" is unknown.*`},
 		{"create --plan small", 78, ``, `osb-platform: there are several brokers: name one of shop, two`},
 		{"create --broker two --plan small", 1, ``, `osb-platform: the broker two has given no catalogue yet.*`},

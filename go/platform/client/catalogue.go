@@ -3,9 +3,13 @@ package client
 import (
 	"context"
 	"crypto/rand"
+	"crypto/tls"
 	"encoding/json"
+	"errors"
 	"fmt"
+	"io"
 	"net/http"
+	"syscall"
 
 	"pippinterm/osb"
 	"pippinterm/platform"
@@ -45,7 +49,7 @@ func (c *Client) catalogue(ctx context.Context, of platform.Broker) (got receive
 		longest: LongestCatalogue, isAlone: true, isOfAny: true,
 	})
 	if err != nil {
-		return got, fmt.Errorf("the catalogue of %s: %w", of.Name, err)
+		return got, fmt.Errorf("the catalogue of %s: %w%s", of.Name, err, meaning(err, got.status, to.isTLS))
 	}
 	if got.status != http.StatusOK {
 		return got, fmt.Errorf("the broker %s %s%s", of.Name, refusal(got.status), reason(got.body))
@@ -54,6 +58,29 @@ func (c *Client) catalogue(ctx context.Context, of platform.Broker) (got receive
 		return got, fmt.Errorf("the catalogue of %s can't be read: %w", of.Name, err)
 	}
 	return got, nil
+}
+
+// meaning says what a connection that broke means, and what to check, or nothing. status is that of the answer, or 0 if
+// nothing of it has come.
+func meaning(err error, status int, isTLS bool) string {
+	var noTLS tls.RecordHeaderError
+	isClosed := errors.Is(err, ErrCut) || errors.Is(err, io.EOF) || errors.Is(err, syscall.ECONNRESET)
+	switch {
+	case errors.As(err, &noTLS):
+		return ". What listens there doesn't speak TLS: check the port, or give a URL with http://"
+	case isClosed && status != 0:
+		return fmt.Sprintf(". The broker, or a proxy before it, closed the connection within its answer, of status %d: "+
+			"see its log", status)
+	case isClosed && isTLS && errors.Is(err, ErrNotSent):
+		return ". The connection was closed in the TLS handshake: check that the port is one for TLS, and whether the " +
+			"broker wants a certificate (--tls-certificate, --tls-key)"
+	case isClosed:
+		return ". The connection was closed without an answer: check that a broker listens there, and whether it wants " +
+			"https://"
+	case errors.Is(err, ErrGarbled) && !isTLS:
+		return ". What listens there doesn't speak HTTP: check the port, and whether it wants https://"
+	}
+	return ""
 }
 
 // refusal is what a status other than 200 says.

@@ -3,6 +3,7 @@ package client
 import (
 	"context"
 	"errors"
+	"net"
 	"strconv"
 	"strings"
 	"testing"
@@ -92,5 +93,50 @@ func TestCatalogueAlone(t *testing.T) {
 	}
 	if requests, connections := server.seen(); len(requests) != 3 || connections != 3 {
 		t.Errorf("%d requests on %d connections", len(requests), connections)
+	}
+}
+
+// What a connection that breaks means, and what to check.
+func TestBrokenConnections(t *testing.T) {
+	answers := func(text string) func(net.Conn) {
+		return func(c net.Conn) { _, _ = c.Write([]byte(text)) }
+	}
+	reset := func(c net.Conn) { _ = c.(*net.TCPConn).SetLinger(0) }
+	for what, it := range map[string]struct {
+		scheme string
+		does   func(net.Conn)
+		says   string
+	}{
+		"closed":            {"http", answers(""), "closed without an answer: check that a broker listens there"},
+		"reset":             {"http", reset, "closed without an answer: check that a broker listens there"},
+		"closed in between": {"http", answers("HTTP/1.1 200 OK\r\nContent-Length: 9\r\n\r\n{"), "answer, of status 200"},
+		"no HTTP":           {"http", answers("SSH-2.0-OpenSSH_9.2\r\n"), "doesn't speak HTTP"},
+		"TLS at http":       {"http", answers("\x15\x03\x01\x00\x02\x02\x28"), "whether it wants https://"},
+		"http at TLS":       {"https", answers("HTTP/1.1 400 Bad Request\r\n\r\n"), "doesn't speak TLS"},
+		"closed in TLS":     {"https", answers(""), "closed in the TLS handshake"},
+		"reset in TLS":      {"https", reset, "closed in the TLS handshake"},
+	} {
+		listener, err := net.Listen("tcp", "127.0.0.1:0")
+		if err != nil {
+			t.Fatal(err)
+		}
+		it := it
+		go func() {
+			for {
+				conn, err := listener.Accept()
+				if err != nil {
+					return
+				}
+				_, _ = conn.Read(make([]byte, 4096))
+				it.does(conn)
+				_ = conn.Close()
+			}
+		}()
+		url := it.scheme + "://" + listener.Addr().String()
+		_, _, err = newClient(t, Options{}).Catalogue(context.Background(), at(url))
+		if err == nil || !strings.Contains(err.Error(), it.says) || strings.Contains(err.Error(), secret) {
+			t.Errorf("%s: got %v, want %s", what, err, it.says)
+		}
+		_ = listener.Close()
 	}
 }

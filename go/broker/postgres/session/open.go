@@ -165,11 +165,16 @@ func milliseconds(duration time.Duration) string {
 	return strconv.FormatInt(duration.Milliseconds(), 10)
 }
 
-// newConnector makes an error of the panic with which lib/pq rejects some variables of the environment.
+// newConnector returns a connector for a URL.
+//
+// Errors: ErrBadAddress; those of a variable of the environment that can't be used, which last.
 func newConnector(address string) (made *pq.Connector, err error) {
-	defer func() {
+	if err := useEnvironment(); err != nil {
+		return nil, Lasting(err)
+	}
+	defer func() { // lib/pq rejects variables by a panic
 		if what := recover(); what != nil {
-			err = fmt.Errorf("the environment can't be used: %v", what)
+			err = Lasting(fmt.Errorf("the environment can't be used: %v", what))
 		}
 	}()
 	made, err = pq.NewConnector(address)
@@ -177,7 +182,7 @@ func newConnector(address string) (made *pq.Connector, err error) {
 	if errors.As(err, &badURL) {
 		return nil, ErrBadAddress
 	}
-	return made, err
+	return made, Lasting(err)
 }
 
 // A connector opens connections whose synchronous_commit is known.

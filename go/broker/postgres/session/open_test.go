@@ -4,6 +4,7 @@ import (
 	"context"
 	"errors"
 	"fmt"
+	"os"
 	"strings"
 	"testing"
 	"time"
@@ -151,5 +152,49 @@ func TestLost(t *testing.T) {
 	_, err = db.Exec("SELECT 1 / 0")
 	if session.IsLost(err) || !session.IsCode(err, "01000", "22012") || session.IsCode(err, "01000") {
 		t.Errorf("a division by zero: %v", err)
+	}
+}
+
+// What PostgreSQL's own programs take from the environment, and lib/pq panics at, doesn't stop a session that is the same
+// without it. What says which server is meant, or how it is checked, is an error that lasts.
+func TestVariablesThatTheDriverRejects(t *testing.T) {
+	const address = "postgresql://u@127.0.0.1:1/d"
+	open := func() error {
+		db, err := session.Open(address, session.Options{Most: 1, Lock: 1, Statement: 1, Idle: 1})
+		if err == nil {
+			_ = db.Close()
+		}
+		return err
+	}
+	for _, name := range []string{
+		"PGSYSCONFDIR", "PGSERVICEFILE", "PGLOCALEDIR", "PGREALM", "PGKRBSRVNAME", "PGGSSLIB",
+	} {
+		t.Setenv(name, "/nowhere")
+		if err := open(); err != nil {
+			t.Errorf("%s: %v", name, err)
+		}
+	}
+	for _, name := range []string{"PGHOSTADDR", "PGSERVICE", "PGREQUIRESSL", "PGSSLCRL", "PGREQUIREPEER"} {
+		t.Setenv(name, "")
+		if err := open(); err != nil {
+			t.Errorf("an empty %s: %v", name, err)
+		}
+		t.Setenv(name, "1")
+		err := open()
+		if _, isLasting := session.Remedy(err); !isLasting || !strings.Contains(err.Error(), "unset "+name) {
+			t.Errorf("%s: %v, lasting: %v", name, err, isLasting)
+		}
+		if err := os.Unsetenv(name); err != nil {
+			t.Fatal(err)
+		}
+	}
+	for name, value := range map[string]string{"PGCLIENTENCODING": "LATIN1", "PGDATESTYLE": "German"} {
+		t.Setenv(name, value)
+		if _, isLasting := session.Remedy(open()); !isLasting {
+			t.Errorf("%s=%s isn't an error that lasts", name, value)
+		}
+		if err := os.Unsetenv(name); err != nil {
+			t.Fatal(err)
+		}
 	}
 }
