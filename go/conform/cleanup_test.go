@@ -140,10 +140,10 @@ func TestUnansweredKeepsNothing(t *testing.T) {
 		}, "one", "two")
 		begun, left := time.Now(), make(chan []Leftover, 1)
 		go func() { left <- r.CleanUp(context.Background()) }()
-		for m.left() > 0 && time.Since(begun) < 10*time.Second {
+		for m.left() > 0 && time.Since(begun) < time.Minute {
 			time.Sleep(time.Millisecond)
 		}
-		if took := time.Since(begun); took >= time.Second {
+		if took := time.Since(begun); took >= 2*time.Second { // a creation may arrive until then
 			t.Errorf("async %v: what exists was deleted after %v", async, took)
 		}
 		m.turn.Lock()

@@ -65,7 +65,7 @@ func TestEndsWhole(t *testing.T) {
 		"a child":      "sleep 1000",
 		"a pipe":       "tail -f /dev/null | cat",
 		"in the back":  "sleep 1000 & echo one",
-		"a new group":  "setsid sleep 7 & echo one",
+		"a new group":  "setsid sleep 90 & echo one",
 		"deaf to TERM": "trap '' TERM HUP INT; sleep 1000; sleep 1000",
 	} {
 		marked := filepath.Join(t.TempDir(), "late")
@@ -83,7 +83,7 @@ func TestEndsWhole(t *testing.T) {
 			begun := time.Now()
 			err := run(ctx)
 			cancel()
-			if took := time.Since(begun); err == nil || took > 5*time.Second {
+			if took := time.Since(begun); err == nil || took > time.Minute {
 				t.Errorf("%s: %v after %v", name, err, took)
 			}
 		}
@@ -133,7 +133,7 @@ func TestLimit(t *testing.T) {
 	} {
 		begun := time.Now()
 		err := run()
-		if took := time.Since(begun); err == nil || took > 5*time.Second || !strings.Contains(err.Error(), "within 100ms") {
+		if took := time.Since(begun); err == nil || took > time.Minute || !strings.Contains(err.Error(), "within 100ms") {
 			t.Errorf("%s: %v after %v", name, err, took)
 		}
 	}
@@ -151,14 +151,14 @@ func TestMostPrinted(t *testing.T) {
 		"a pipe":      "head -c 100000000 /dev/zero | cat; sleep 1000",
 		"and ends":    "head -c 10001 /dev/zero",
 		"fails":       "head -c 100000000 /dev/zero; exit 3",
-		"a new group": "setsid sleep 7 & head -c 100000000 /dev/zero; sleep 1000",
+		"a new group": "setsid sleep 90 & head -c 100000000 /dev/zero; sleep 1000",
 	} {
-		ctx, cancel := context.WithTimeout(context.Background(), 5*time.Second)
+		ctx, cancel := context.WithTimeout(context.Background(), 80*time.Second)
 		begun := time.Now()
 		rows, err := Rows(ctx, command, 1)
 		cancel()
 		took := time.Since(begun)
-		if err == nil || took > 5*time.Second || len(rows) > 0 || !strings.Contains(err.Error(), "more than 10000 bytes") {
+		if err == nil || took > time.Minute || len(rows) > 0 || !strings.Contains(err.Error(), "more than 10000 bytes") {
 			t.Errorf("%s: %v after %v", name, err, took)
 		}
 	}

@@ -148,7 +148,7 @@ func TestCourseEndsWhenDone(t *testing.T) {
 		time: time.Hour, settleTime: time.Second,
 	}
 	converged, _ := c.run(context.Background())
-	if took := time.Since(begun); !converged || took > 5*time.Second || len(ends) != 1 || len(k.all()) != 1 {
+	if took := time.Since(begun); !converged || took > time.Minute || len(ends) != 1 || len(k.all()) != 1 {
 		t.Errorf("converged %v after %s, %d instances", converged, took, len(k.all()))
 	}
 }

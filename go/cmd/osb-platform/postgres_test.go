@@ -137,7 +137,7 @@ func TestStopWhileTheDatabaseHangs(t *testing.T) {
 			if rest := p.stop(); !strings.Contains(rest, `"event":"stopped"`) {
 				t.Errorf("the log: %s", rest)
 			}
-			if took := time.Since(begun); took > 10*time.Second {
+			if took := time.Since(begun); took > 20*time.Second { // 10, and what a busy machine adds
 				t.Errorf("it took %v", took)
 			}
 		})
@@ -162,7 +162,7 @@ func TestStopBeforeTheDatabaseAnswers(t *testing.T) {
 	if err := command.Wait(); err != nil {
 		t.Error(err)
 	}
-	if took := time.Since(begun); took > 10*time.Second {
+	if took := time.Since(begun); took > 20*time.Second { // 10, and what a busy machine adds
 		t.Errorf("it took %v", took)
 	}
 }

@@ -426,7 +426,7 @@ func TestDiskHangs(t *testing.T) {
 	for n := 1; n <= 100; n++ {
 		w.Write("made", member{n, ""})
 	}
-	if took := time.Since(begun); took < w.patience || took > 20*w.patience {
+	if took := time.Since(begun); took < w.patience || took > 60*w.patience { // each of them would wait
 		t.Errorf("100 lines took %v", took)
 	}
 	if w.Lost() != 100 || len(failures) != 1 || !strings.Contains(failures[0], "the disk doesn't answer") {
@@ -435,7 +435,7 @@ func TestDiskHangs(t *testing.T) {
 	w.patience = 10 * time.Second
 	rest := make(chan string, 1)
 	go func() { rest <- read() }()
-	for end := time.Now().Add(10 * time.Second); ; time.Sleep(time.Millisecond) { // until a line isn't lost
+	for end := time.Now().Add(time.Minute); ; time.Sleep(time.Millisecond) { // until a line isn't lost
 		lost := w.Lost()
 		if w.Write("made", member{101, ""}); w.Lost() == lost || time.Now().After(end) {
 			break
@@ -461,7 +461,7 @@ func TestCloseAtADiskThatHangs(t *testing.T) {
 	w.patience, w.file = 50*time.Millisecond, disk
 	begun := time.Now()
 	w.Close()
-	if took := time.Since(begun); took > 20*w.patience {
+	if took := time.Since(begun); took > time.Minute { // the disk hangs for good
 		t.Errorf("it took %v", took)
 	}
 	go read()
