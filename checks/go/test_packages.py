@@ -117,7 +117,7 @@ def test_tests_of_times(packages: Packages) -> None:
     packages.test(*TIMED, race=True)
 
 
-@pytest.mark.long(30)
+@pytest.mark.long(60)
 @pytest.mark.postgres
 def test_tests_that_fill_a_server(packages: Packages) -> None:
     """The tests of backend/postgres. Each process of pytest has a server of its own."""

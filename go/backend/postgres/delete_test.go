@@ -194,6 +194,34 @@ func TestPoliciesOnManyTables(t *testing.T) {
 	}
 }
 
+const manyLargeObjects = `SELECT lo_create(0) FROM generate_series(1,
+	3 * current_setting('max_locks_per_transaction')::integer * current_setting('max_connections')::integer)`
+
+// Neither do more large objects than one transaction can lock: those of a binding become the instance's. Those that a
+// role owns in the database of another customer go, with other objects beside them.
+func TestManyLargeObjects(t *testing.T) {
+	r := newRig(t)
+	d := r.open()
+	of, other := created(t, d), created(t, d)
+	name, others := postgres.NameOf(of.request.Key), postgres.NameOf(other.request.Key)
+	pgtest.Exec(t, r.customer(other.request.Key), "GRANT ALL ON DATABASE "+others+" TO "+name)
+	owner := r.login(name, postgres.PasswordOf(secret, of.request.Key), others)
+	pgtest.Exec(t, owner, "CREATE SCHEMA s", `CREATE TYPE s."a type" AS ENUM ('x')`, "CREATE DOMAIN s.d AS s.\"a type\"",
+		"CREATE TYPE s.c AS (x s.d)", `CREATE FUNCTION s.f(s.c, s."a type"[]) RETURNS integer LANGUAGE sql AS 'SELECT 1'`,
+		"CREATE AGGREGATE s.a (integer) (SFUNC = int4pl, STYPE = integer)", "CREATE PROCEDURE s.p() LANGUAGE sql AS ''",
+		manyLargeObjects)
+	bind, binding := bound(t, d, other.request.Key)
+	hold(t, r.login(binding.Username, binding.Password, binding.Database), "SET ROLE NONE", manyLargeObjects)
+	if err := d.DeleteBinding(bind.ctx, bind.request); err != nil {
+		t.Errorf("DeleteBinding: %v", err)
+	}
+	if err := d.Delete(of.ctx, of.request); err != nil {
+		t.Errorf("Delete: %v", err)
+	}
+	r.wantNothing(of.request.Key)
+	wantThere(t, d, other, broker.Whole)
+}
+
 // Roles of which the broker's role isn't a member any more keep nothing. On PostgreSQL 14 a role that has logged in can
 // bring that about.
 func TestRolesThatAreLeft(t *testing.T) {

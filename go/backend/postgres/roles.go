@@ -130,6 +130,15 @@ FROM (SELECT oid, relkind FROM pg_class AS c WHERE relowner = $1::text::regrole 
     relkind IN ('v', 'm', 'f', 'r', 'p') OR relkind = 'S' AND NOT EXISTS (SELECT FROM pg_depend
         WHERE classid = 'pg_class'::regclass AND objid = c.oid AND deptype IN ('a', 'i')))
     ORDER BY relkind DESC LIMIT 500) AS r`
+	selectObjects = `
+SELECT string_agg(CASE classid WHEN 'pg_largeobject'::regclass THEN format('SELECT lo_unlink(%s)', objid)
+    WHEN 'pg_proc'::regclass THEN format('DROP ROUTINE IF EXISTS %s CASCADE', objid::regprocedure)
+    WHEN 'pg_type'::regclass THEN format('DROP TYPE IF EXISTS %s CASCADE', objid::regtype)
+    ELSE format('DROP SCHEMA IF EXISTS %s CASCADE', objid::regnamespace) END, ';')
+FROM (SELECT classid, objid FROM pg_shdepend WHERE $2 = '' AND deptype = 'o'
+    AND refclassid = 'pg_authid'::regclass AND refobjid = $1::text::regrole
+    AND classid IN ('pg_largeobject'::regclass, 'pg_proc'::regclass, 'pg_type'::regclass, 'pg_namespace'::regclass)
+    AND dbid = (SELECT oid FROM pg_database WHERE datname = current_database()) LIMIT 500) AS o`
 	selectPolicies = `
 SELECT string_agg(CASE WHEN others IS NULL THEN format('DROP POLICY IF EXISTS %I ON %s', polname, polrelid::regclass)
     ELSE format('ALTER POLICY %I ON %s TO %s', polname, polrelid::regclass, others) END, ';')
@@ -138,10 +147,11 @@ FROM (SELECT polname, polrelid, (SELECT string_agg(quote_ident(rolname), ', ') F
     FROM pg_policy WHERE $1::text::regrole = ANY (polroles) AND $2::text IS NOT NULL LIMIT 500) AS p`
 )
 
-// disownByParts takes away the relations that a role owns, and its part in policies, a few at a time. The relations
-// become the heir's. Without an heir they are dropped.
+// disownByParts takes away what a role may have a lot of, a few at a time: the relations, large objects, routines, types
+// and schemas that it owns, and its part in policies. Relations become the heir's. All else is the heir's by REASSIGN
+// OWNED, which needs no lock for it. Without an heir all of it is dropped.
 func disownByParts(ctx context.Context, db *sql.DB, role, heir string) error {
-	for _, query := range []string{selectSchemas, selectRelations, selectPolicies} {
+	for _, query := range []string{selectSchemas, selectRelations, selectObjects, selectPolicies} {
 		for {
 			var statements sql.NullString
 			if err := db.QueryRowContext(ctx, query, quote(role), heir).Scan(&statements); err != nil {
