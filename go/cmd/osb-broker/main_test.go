@@ -44,6 +44,7 @@ type served struct {
 	t       *testing.T
 	command *exec.Cmd
 	lines   chan string
+	seen    []string // the lines of the log that event has taken
 	url     string
 	client  *http.Client
 }
@@ -87,6 +88,7 @@ func (s *served) event(name string) map[string]any {
 			if !isOpen {
 				s.t.Fatalf("it has ended without %s", name)
 			}
+			s.seen = append(s.seen, line)
 			var read map[string]any
 			if err := json.Unmarshal([]byte(line), &read); err != nil {
 				s.t.Fatalf("a line isn't JSON: %q", line)

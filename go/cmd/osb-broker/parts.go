@@ -48,6 +48,7 @@ func partsOf(ctx context.Context, s *settings, log *logs.Logger, observer broker
 	if err := os.MkdirAll(s.state, 0o700); err != nil {
 		return p, ofFiles("the state folder can't be created", err)
 	}
+	warnOfFolder(s.state, log)
 	if err := p.openBackend(ctx, s, log); err != nil {
 		return p, err
 	}
@@ -65,6 +66,13 @@ func partsOf(ctx context.Context, s *settings, log *logs.Logger, observer broker
 		return p, program.Unusable(fmt.Errorf("%w. %s", err, p.remedy(ctx, s)))
 	}
 	return p, away("the store and the backend can't be used together", err)
+}
+
+// warnOfFolder logs a warning if other accounts can write to the state folder: they can replace the store.
+func warnOfFolder(folder string, log *logs.Logger) {
+	if mode, isOpen := program.IsOpen(folder); isOpen {
+		log.Warning("folder_open").Str("folder", folder).Str("mode", fmt.Sprintf("%04o", mode)).Send()
+	}
 }
 
 // remedy is what to do about a store and a backend that don't belong together.

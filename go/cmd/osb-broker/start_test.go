@@ -204,3 +204,22 @@ func TestStateFolderOfACommandIsTied(t *testing.T) {
 		start(t, []string{password}, over("st2", "store")...).stop()
 	}
 }
+
+// A state folder that other accounts can write to is reported.
+func TestOpenStateFolder(t *testing.T) {
+	for mode, isOpen := range map[os.FileMode]bool{0o777: true, 0o770: true, 0o755: false, 0o700: false} {
+		state := t.TempDir()
+		if err := os.Chmod(state, mode); err != nil {
+			t.Fatal(err)
+		}
+		s := start(t, []string{password}, "--state", state)
+		s.stop()
+		warned := false
+		for _, line := range s.seen {
+			warned = warned || strings.Contains(line, `"event":"folder_open"`) && strings.Contains(line, state)
+		}
+		if warned != isOpen {
+			t.Errorf("a state folder of mode %o is reported: %v, want %v", mode, warned, isOpen)
+		}
+	}
+}

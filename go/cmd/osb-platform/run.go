@@ -5,9 +5,11 @@ import (
 	"fmt"
 	"io"
 	"os/signal"
+	"path/filepath"
 	"syscall"
 	"time"
 
+	pgsession "pippinterm/broker/postgres/session"
 	"pippinterm/platform"
 	"pippinterm/platform/client"
 	"pippinterm/platform/vault"
@@ -104,6 +106,17 @@ func (r *running) await(stop context.Context, endWork context.CancelFunc, done <
 	return r.end(stop, nil, false)
 }
 
+// warnOfFolder logs a warning if other accounts can write to the folder of the store: they can replace the store.
+func (r *running) warnOfFolder() {
+	if pgsession.IsAddress(r.places.store) {
+		return
+	}
+	folder := filepath.Dir(r.places.store)
+	if mode, isOpen := program.IsOpen(folder); isOpen {
+		r.log.at(warningLevel, "folder_open").Str("folder", folder).Str("mode", fmt.Sprintf("%04o", mode)).Send()
+	}
+}
+
 func (r *running) end(stop context.Context, err error, hasEnded bool) error {
 	if stop.Err() != nil { // it was asked to stop, and nothing else is wrong
 		event := r.log.at(infoLevel, "stopped").Bool("all_work_ended", hasEnded && err == nil)
@@ -119,6 +132,7 @@ func (r *running) serve(work, stop context.Context) (err error) {
 	if err != nil {
 		return err
 	}
+	r.warnOfFolder()
 	r.store = store
 	close(r.opened)
 	defer func() {

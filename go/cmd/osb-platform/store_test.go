@@ -5,6 +5,8 @@ import (
 	"errors"
 	"fmt"
 	"io/fs"
+	"os"
+	"path/filepath"
 	"strings"
 	"syscall"
 	"testing"
@@ -80,6 +82,20 @@ func TestStatusOfFiles(t *testing.T) {
 			if status := program.Run(context.Background(), root); status != want {
 				t.Errorf("%v: status %d, want %d", err, status, want)
 			}
+		}
+	}
+}
+
+// A folder of the store that other accounts can write to is reported.
+func TestOpenFolder(t *testing.T) {
+	for mode, isOpen := range map[os.FileMode]bool{0o777: true, 0o770: true, 0o755: false, 0o700: false} {
+		store := newStore(t)
+		if err := os.Chmod(filepath.Dir(store), mode); err != nil {
+			t.Fatal(err)
+		}
+		got := call(t, "run", "--once", "--store", store)
+		if strings.Contains(got.failed, `"event":"folder_open"`) != isOpen {
+			t.Errorf("a folder of mode %o: want it reported: %v; got %s", mode, isOpen, got.failed)
 		}
 	}
 }

@@ -7,6 +7,8 @@ import (
 	"fmt"
 	"os"
 	"sync/atomic"
+
+	"pippinterm/program/ciphers"
 )
 
 // Files are the names of files in PEM.
@@ -22,6 +24,7 @@ type trust struct{ current atomic.Pointer[tls.Config] }
 func (t *trust) load(files Files) error {
 	config := &tls.Config{
 		MinVersion:         tls.VersionTLS12,
+		CipherSuites:       ciphers.Suites(),
 		NextProtos:         []string{"http/1.1"}, // a server may answer HTTP/2 otherwise
 		ClientSessionCache: tls.NewLRUClientSessionCache(0),
 	}

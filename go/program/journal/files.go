@@ -72,7 +72,7 @@ type chain struct {
 
 // chainAt locks the chain of a file. The journal goes on in the latest one.
 func chainAt(path string) (*chain, error) {
-	lock, err := os.OpenFile(path, os.O_WRONLY|os.O_CREATE, 0o600)
+	lock, err := openOwn(path, os.O_WRONLY)
 	if err != nil {
 		return nil, err
 	}
@@ -89,6 +89,29 @@ func chainAt(path string) (*chain, error) {
 		return nil, err
 	}
 	return c, nil
+}
+
+// openOwn opens a file of a chain, or creates it, so that only its owner can read it. A symbolic link isn't followed.
+func openOwn(path string, flags int) (*os.File, error) {
+	file, err := os.OpenFile(path, flags|os.O_CREATE|syscall.O_NOFOLLOW, 0o600)
+	if errors.Is(err, syscall.ELOOP) {
+		return nil, fmt.Errorf("%s is a symbolic link, which isn't followed: name the file itself", path)
+	}
+	if err != nil {
+		return nil, err
+	}
+	about, err := file.Stat()
+	if err == nil && !about.Mode().IsRegular() {
+		err = fmt.Errorf("%s isn't a regular file", path)
+	}
+	if err == nil && about.Mode().Perm()&0o077 != 0 { // a journal has what only the program should know
+		err = file.Chmod(0o600)
+	}
+	if err != nil {
+		_ = file.Close()
+		return nil, fmt.Errorf("only the owner should read the journal: %w", err)
+	}
+	return file, nil
 }
 
 // latestOf is the greatest number of a file that follows another one, or 0.
@@ -117,7 +140,7 @@ func (c *chain) next() (*os.File, error) {
 	if number > 0 {
 		name += "." + strconv.Itoa(number)
 	}
-	file, err := os.OpenFile(name, os.O_RDWR|os.O_APPEND|os.O_CREATE, 0o600)
+	file, err := openOwn(name, os.O_RDWR|os.O_APPEND)
 	if err == nil {
 		c.count, c.isNew = number, false
 	}

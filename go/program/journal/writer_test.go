@@ -237,6 +237,42 @@ func TestFile(t *testing.T) {
 	wantEvents(t, path+".3", "started, 7, stopped")
 }
 
+// A file, and those that follow it, can be read by their owner only, also if they were there. A link isn't followed.
+func TestOnlyTheOwnerReads(t *testing.T) {
+	folder := t.TempDir()
+	path, elsewhere := filepath.Join(folder, "journal"), filepath.Join(folder, "elsewhere")
+	for _, file := range []string{path, path + ".1", elsewhere} {
+		if err := os.WriteFile(file, nil, 0o644); err != nil {
+			t.Fatal(err)
+		}
+	}
+	w := opened(t, path, 250)
+	for n := 1; n <= 5; n++ {
+		w.Write("made", member{n, ""})
+	}
+	w.Close()
+	for _, file := range []string{path, path + ".1", path + ".2"} {
+		if about, err := os.Stat(file); err != nil || about.Mode() != 0o600 {
+			t.Errorf("%s has mode %v, %v; want 0600", file, about.Mode(), err)
+		}
+	}
+	for _, link := range []string{filepath.Join(folder, "link"), path + ".9"} {
+		if err := os.Symlink(elsewhere, link); err != nil {
+			t.Fatal(err)
+		}
+		of := strings.TrimSuffix(link, ".9")
+		if w, err := Open(Options{Path: of, Side: "broker", Most: 200}); err == nil {
+			w.Close()
+			t.Errorf("%s is a journal", link)
+		} else if !strings.Contains(err.Error(), "symbolic link") {
+			t.Errorf("%s: %v", link, err)
+		}
+	}
+	if about, err := os.Stat(elsewhere); err != nil || about.Mode() != 0o644 || about.Size() != 0 {
+		t.Errorf("the file behind the links has changed: %v, %v", about, err)
+	}
+}
+
 // One process writes to a file at a time, also while the journal is in a later one.
 func TestTaken(t *testing.T) {
 	path := filepath.Join(t.TempDir(), "journal")

@@ -8,6 +8,8 @@ import (
 	"os"
 	"sync/atomic"
 	"time"
+
+	"pippinterm/program/ciphers"
 )
 
 // CertificateFiles are the names of files in PEM.
@@ -77,6 +79,7 @@ func (f CertificateFiles) read() (*certificates, error) {
 	}
 	config := &tls.Config{
 		MinVersion:   tls.VersionTLS12,
+		CipherSuites: ciphers.Suites(),
 		Certificates: []tls.Certificate{pair},
 		NextProtos:   []string{"http/1.1"},
 	}

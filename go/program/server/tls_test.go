@@ -90,11 +90,17 @@ func TestClientsThatCantShakeHands(t *testing.T) {
 	old := authority.client(CertificateFiles{})
 	old.MinVersion, old.MaxVersion = tls.VersionTLS10, tls.VersionTLS11
 	distrustful := newAuthority(t).client(CertificateFiles{})
+	weak := authority.client(CertificateFiles{})
+	weak.MaxVersion = tls.VersionTLS12
+	weak.CipherSuites = []uint16{ // which Go's server takes by default
+		tls.TLS_ECDHE_ECDSA_WITH_AES_128_CBC_SHA, tls.TLS_ECDHE_RSA_WITH_AES_128_CBC_SHA, tls.TLS_RSA_WITH_AES_128_GCM_SHA256,
+	}
 	for name, test := range map[string]struct {
 		config *tls.Config
 		event  string
 	}{
 		"TLS 1.1":                        {old, "unsupported versions"},
+		"CBC, and no forward secrecy":    {weak, "no cipher suite"},
 		"a client that doesn't trust us": {distrustful, "bad certificate"},
 	} {
 		t.Run(name, func(t *testing.T) {
