@@ -2,6 +2,7 @@ package sqlite
 
 import (
 	"context"
+	"errors"
 	"os"
 	"path/filepath"
 	"testing"
@@ -40,4 +41,23 @@ func TestFaults(t *testing.T) {
 		},
 		Faults: []storefaults.Fault{storefaults.Refused, storefaults.Lost},
 	})
+}
+
+// Each statement of Open fails once, over a new file and over one of version 0.2: the error is returned, and the file can
+// be opened later.
+func TestOpeningThatFails(t *testing.T) {
+	for _, path := range []string{filepath.Join(t.TempDir(), "store"), made(t, append(of02, rowsWithout(marked)...))} {
+		for n, failed := 1, "none yet"; failed != ""; n++ {
+			by := &storefaults.Driver{}
+			by.Fail(n, storefaults.Refused)
+			store, err := opened(context.Background(), path, broker.Silent{}, by)
+			if failed = by.Failed(); failed != "" && !errors.Is(err, storefaults.ErrFault) || failed == "" && err != nil {
+				t.Errorf("%q has failed: got %v", failed, err)
+			}
+			if err == nil {
+				_ = store.Close()
+			}
+		}
+		open(t, path, broker.Silent{})
+	}
 }

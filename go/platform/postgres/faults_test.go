@@ -6,6 +6,7 @@ import (
 
 	"pippinterm/broker/postgres/pgtest"
 	"pippinterm/platform"
+	"pippinterm/platform/postgres"
 	"pippinterm/platform/storetest"
 	"pippinterm/storefaults"
 )
@@ -36,4 +37,21 @@ func TestFaults(t *testing.T) {
 		},
 		Faults: []storefaults.Fault{storefaults.Refused, storefaults.Cut, storefaults.Lost, storefaults.Broken},
 	})
+}
+
+// Each statement of Open fails once, over an empty schema: the error is returned, and the store can be opened later.
+func TestOpeningThatFails(t *testing.T) {
+	proxy, url := storefaults.NewProxy(t, pgtest.Schema(t, pgtest.URL(t), "osb_platform_opening"))
+	for n, failed := 1, "none yet"; failed != ""; n++ {
+		proxy.Fail(n, storefaults.Refused)
+		store, err := postgres.Open(background, url, 2)
+		failed = proxy.Failed()
+		proxy.Fail(0, storefaults.Refused)
+		if (failed != "") != (err != nil) && !storefaults.IsBegin(failed) {
+			t.Errorf("%q has failed: got %v", failed, err)
+		}
+		if err == nil {
+			_ = store.Close()
+		}
+	}
 }

@@ -1,12 +1,15 @@
 package sqlite
 
 import (
+	"context"
+	"errors"
 	"os"
 	"path/filepath"
 	"testing"
 
 	"pippinterm/platform"
 	"pippinterm/platform/storetest"
+	"pippinterm/program/sqlite"
 	"pippinterm/storefaults"
 )
 
@@ -44,4 +47,25 @@ func TestFaults(t *testing.T) {
 		Faults:  []storefaults.Fault{storefaults.Refused, storefaults.Lost},
 		Without: []string{"Only", "HasWorkers"}, // they lock files
 	})
+}
+
+// Each statement of Open and OpenExisting fails once, over a new file and over one of version 0.2: the error is returned,
+// and the file can be opened later.
+func TestOpeningThatFails(t *testing.T) {
+	for _, path := range []string{filepath.Join(t.TempDir(), "store"), old(t)} {
+		for _, bring := range []func(context.Context, *sqlitefile.Conn, string) error{migrate, migrateExisting} {
+			for n, failed := 1, "none yet"; failed != ""; n++ {
+				by := &storefaults.Driver{}
+				by.Fail(n, storefaults.Refused)
+				store, err := opened(background, path, by, bring)
+				if failed = by.Failed(); failed != "" && !errors.Is(err, storefaults.ErrFault) || failed == "" && err != nil {
+					t.Errorf("%q has failed: got %v", failed, err)
+				}
+				if err == nil {
+					_ = store.Close()
+				}
+			}
+		}
+		open(t, path)
+	}
 }

@@ -21,6 +21,12 @@ var faultyCalls = []faultyCall{
 	{"List", lists(platform.Filter{}), false},
 	{"List of the ready bindings of an instance", lists(ofBindings(platform.Ready)), false},
 	{"List backwards", lists(platform.Filter{Latest: true, Most: 2}), false},
+	{"Places", func(store platform.Store, see func(any)) error {
+		return saw(see)(store.Places(background, platform.Filter{}))
+	}, false},
+	{"ReadAll", func(store platform.Store, see func(any)) error {
+		return saw(see)(store.ReadAll(background, []platform.Key{instance(1), binding(3, 4), instance(3)}))
+	}, false},
 	{"Life", lives, false},
 	{"Counts", func(store platform.Store, see func(any)) error { return saw(see)(store.Counts(background)) }, false},
 	{"InFlight", func(store platform.Store, see func(any)) error { return saw(see)(store.InFlight(background, 9)) }, false},

@@ -5,6 +5,7 @@ import (
 	"errors"
 	"fmt"
 	"path/filepath"
+	"sync"
 	"testing"
 	"time"
 
@@ -166,6 +167,94 @@ func TestRotateThatCanNotBegin(t *testing.T) {
 	}
 	if opened := r.opens(t, before); opened != 4 {
 		t.Errorf("the old key opens %d, want 4", opened)
+	}
+}
+
+// A failingOnce store fails at one of its calls.
+type failingOnce struct {
+	platform.Store
+	turn   sync.Mutex
+	left   int // how many calls until the one that fails
+	failed bool
+}
+
+func (f *failingOnce) fails() error {
+	f.turn.Lock()
+	defer f.turn.Unlock()
+	if f.left--; f.left != 0 {
+		return nil
+	}
+	f.failed = true
+	return errFailing
+}
+
+func (f *failingOnce) HasWorkers(ctx context.Context) (bool, error) {
+	if err := f.fails(); err != nil {
+		return false, err
+	}
+	return f.Store.HasWorkers(ctx)
+}
+
+func (f *failingOnce) Fingerprint(ctx context.Context, fingerprint string) (string, error) {
+	if err := f.fails(); err != nil {
+		return "", err
+	}
+	return f.Store.Fingerprint(ctx, fingerprint)
+}
+
+func (f *failingOnce) ReplaceFingerprint(ctx context.Context, before, after string) error {
+	if err := f.fails(); err != nil {
+		return err
+	}
+	return f.Store.ReplaceFingerprint(ctx, before, after)
+}
+
+func (f *failingOnce) Brokers(ctx context.Context) ([]platform.Broker, error) {
+	if err := f.fails(); err != nil {
+		return nil, err
+	}
+	return f.Store.Brokers(ctx)
+}
+
+func (f *failingOnce) ChangeBroker(
+	ctx context.Context, name string, change func(platform.Broker) (*platform.Broker, error),
+) error {
+	if err := f.fails(); err != nil {
+		return err
+	}
+	return f.Store.ChangeBroker(ctx, name, change)
+}
+
+func (f *failingOnce) List(ctx context.Context, filter platform.Filter) ([]platform.Entry, error) {
+	if err := f.fails(); err != nil {
+		return nil, err
+	}
+	return f.Store.List(ctx, filter)
+}
+
+func (f *failingOnce) Change(ctx context.Context, key platform.Key, step platform.Step) error {
+	if err := f.fails(); err != nil {
+		return err
+	}
+	return f.Store.Change(ctx, key, step)
+}
+
+// A store that fails at any one call ends a rotation with the error. Nothing is lost, and a further one ends it.
+func TestRotateOverAStoreThatFails(t *testing.T) {
+	before, both, after := newVault(t, one), newVault(t, other, one), newVault(t, other)
+	for n, failed := 1, true; failed; n++ {
+		r := newRig(t, before, 2)
+		store := &failingOnce{Store: r, left: n}
+		_, err := both.Rotate(background, store)
+		if failed = store.failed; failed != errors.Is(err, errFailing) {
+			t.Errorf("call %d of the store has failed: got %v", n, err)
+		}
+		if opened := r.opens(t, both); opened != 3 {
+			t.Errorf("call %d of the store has failed: both keys open %d, want 3", n, opened)
+		}
+		if _, err := both.Rotate(background, r); err != nil || r.opens(t, after) != 3 {
+			t.Errorf("after call %d of the store has failed: got %v", n, err)
+		}
 	}
 }
 
