@@ -728,3 +728,66 @@ func (s *site) hostile(t *testing.T, method, target, body string) {
 		t.Errorf("%s %q %q: %d", method, target, body, given.Code)
 	}
 }
+
+// A handler that lacks something, or has limits of 0, is rejected.
+func TestConfigsThatAreRejected(t *testing.T) {
+	service := newBench(t, newShelf(calm), newMemoryLocks()).Service
+	full := broker.Config{
+		Users: &broker.Users{}, LongestBody: 1, AtOnce: 1, Touch: func(broker.Key) {}, Observer: broker.Silent{},
+	}
+	for name, change := range map[string]func(*broker.Config){
+		"":               func(*broker.Config) {},
+		"no users":       func(c *broker.Config) { c.Users = nil },
+		"no Touch":       func(c *broker.Config) { c.Touch = nil },
+		"no Observer":    func(c *broker.Config) { c.Observer = nil },
+		"LongestBody: 0": func(c *broker.Config) { c.LongestBody = 0 },
+		"AtOnce: 0":      func(c *broker.Config) { c.AtOnce = 0 },
+	} {
+		config := full
+		change(&config)
+		if _, err := broker.NewHandler(context.Background(), service, config); (err == nil) != (name == "") {
+			t.Errorf("%s: got %v", name, err)
+		}
+	}
+}
+
+func TestWordsForWhatExists(t *testing.T) {
+	got := fmt.Sprint(broker.None, broker.Part, broker.Whole, broker.There(9))
+	if want := "none part whole unknown"; got != want {
+		t.Errorf("got %q, want %q", got, want)
+	}
+	if got := (&broker.Rejected{Status: 400, Description: "too many"}).Error(); got != "rejected: too many" {
+		t.Errorf("got %q, want %q", got, "rejected: too many")
+	}
+	if broker.Away(nil) != nil {
+		t.Error("got an error, want nil")
+	}
+}
+
+// Documents that aren't a catalogue are rejected.
+func TestCataloguesThatAreRejected(t *testing.T) {
+	for _, it := range []string{
+		"", "[]", `{"services": 1}`, strings.Replace(catalogue, `"x-osb-asynchronous": true`, `"x-osb-asynchronous": 1`, 1),
+		strings.Replace(catalogue, `"description": "all later"`, `"description": "d", "maintenance_info": 1`, 1),
+		strings.Replace(catalogue, `"bindings_retrievable": true`, `"bindings_retrievable": 1`, 1),
+	} {
+		if _, err := broker.NewCatalogue([]byte(it), true); err == nil {
+			t.Errorf("%q: got nil, want an error", it)
+		}
+	}
+	if document := catalogueFor(t, catalogue).Document(); !json.Valid(document) {
+		t.Errorf("got %s, want JSON", document)
+	}
+}
+
+// Of the description of a refusal the first 1,000 characters are sent.
+func TestLongDescriptions(t *testing.T) {
+	long := strings.Repeat("é", 1001)
+	s := newSite(t, setting{over: func(s *shelf) broker.Backend {
+		return refusing{s, &broker.Rejected{Status: 400, Description: long}}
+	}})
+	body := s.expect(t, 400, "PUT", instances+"i", bodyOf(now, ""))
+	if !strings.Contains(body, strings.Repeat("é", 1000)) || strings.Contains(body, long) {
+		t.Errorf("got %s, want 1,000 characters", body)
+	}
+}

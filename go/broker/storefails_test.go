@@ -7,6 +7,7 @@ import (
 	"path/filepath"
 	"sync"
 	"testing"
+	"time"
 
 	"pippinterm/broker"
 	"pippinterm/broker/sqlite"
@@ -74,21 +75,20 @@ func (s *failingStore) Unfinished(ctx context.Context) ([]broker.Key, error) {
 // A clumsy is a broker over a store that fails once.
 type clumsy struct {
 	*lone
-	shelf *shelf
 	store *failingStore
 }
 
-func newClumsy(t *testing.T, n int) *clumsy {
+func newClumsy(t *testing.T, n int, backend broker.Backend) *clumsy {
 	t.Helper()
 	opened, err := sqlite.Open(context.Background(), filepath.Join(t.TempDir(), "store"), broker.Silent{})
 	if err != nil {
 		t.Fatal(err)
 	}
 	t.Cleanup(func() { _ = opened.Close() })
-	c := &clumsy{shelf: newShelf(calm), store: &failingStore{Store: opened, left: n}}
+	c := &clumsy{store: &failingStore{Store: opened, left: n}}
 	b := &bench{store: opened, observed: &observed{}}
 	b.Service = broker.NewService(
-		catalogueFor(t, catalogue), c.store, c.shelf, losable{newMemoryLocks()}, broker.Rules{}, b.observed)
+		catalogueFor(t, catalogue), c.store, backend, losable{newMemoryLocks()}, broker.Rules{}, b.observed)
 	c.lone = &lone{bench: b, handler: handlerFor(t, b.Service)}
 	return c
 }
@@ -125,19 +125,38 @@ func TestStoreThatFailsOnce(t *testing.T) {
 			created, deleted, query = 200, 410, "&accepts_incomplete=true"
 		}
 		for n, failed := 1, "none yet"; failed != ""; n++ {
-			c := newClumsy(t, n)
+			shelf := newShelf(calm)
+			c := newClumsy(t, n, shelf)
 			c.until(t, created, 200, "PUT", instances+"i?"+query, bodyOf(plan, ""), one)
 			c.until(t, created, 200, "PUT", bound+"?"+query, bodyOf(plan, ""), both)
 			c.until(t, 200, 200, "GET", bound, "", both)
 			c.until(t, 200, 200, "GET", instances+"i/last_operation", "", one)
 			c.until(t, deleted, 410, "DELETE", bound+names(plan)+query, "", both)
 			c.until(t, deleted, 410, "DELETE", instances+"i"+names(plan)+query, "", one)
-			if failed = c.store.call; len(c.shelf.things) > 0 {
-				t.Errorf("%s: %s, call %d of the store, has failed: got %v, want nothing", plan, failed, n, c.shelf.things)
+			if failed = c.store.call; len(shelf.things) > 0 {
+				t.Errorf("%s: %s, call %d of the store, has failed: got %v, want nothing", plan, failed, n, shelf.things)
 			}
 			if failed == "" && n < 10 {
 				t.Errorf("%s: got %d calls of the store, want more", plan, n)
 			}
 		}
+	}
+}
+
+// A sweep that can't read what is unfinished is reported, and the next one finds it.
+func TestSweepOverAStoreThatFails(t *testing.T) {
+	backend := &blind{shelf: newShelf(calm)}
+	c := newClumsy(t, 0, backend)
+	key := c.leave(t, backend, "left")
+	c.store.left = 1
+	end := sweeping(t, broker.NewSweeper(c.Service, c.observed), nil, nil)
+	defer end()
+	for until := time.Now().Add(time.Minute); c.isPending(t, key); time.Sleep(time.Millisecond) {
+		if time.Now().After(until) {
+			t.Fatal("it is still pending")
+		}
+	}
+	if failed := c.observed.failures[0]; failed.Event != "unfinished_unreadable" || !errors.Is(failed.Err, errStore) {
+		t.Errorf("got %+v, want unfinished_unreadable", failed)
 	}
 }

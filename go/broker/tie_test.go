@@ -303,3 +303,72 @@ func TestTieOfAStoreWithoutAName(t *testing.T) {
 	}
 	g.tie(g.store("a"), backend) // later it is tied
 }
+
+var errTie = errors.New("it fails")
+
+// A failingTie is a store and a backend of which one call fails.
+type failingTie struct {
+	broker.NamedStore
+	*folders.Folders
+	at string
+}
+
+func (f failingTie) fails(at string) error {
+	if f.at == at {
+		return errTie
+	}
+	return nil
+}
+
+func (f failingTie) Name(ctx context.Context) (string, error) {
+	if err := f.fails("Name"); err != nil {
+		return "", err
+	}
+	return f.NamedStore.Name(ctx)
+}
+
+func (f failingTie) Begin(ctx context.Context, name string) (string, error) {
+	if err := f.fails("Begin"); err != nil {
+		return "", err
+	}
+	return f.NamedStore.Begin(ctx, name)
+}
+
+func (f failingTie) Owner(ctx context.Context) (string, error) {
+	if err := f.fails("Owner"); err != nil {
+		return "", err
+	}
+	return f.Folders.Owner(ctx)
+}
+
+func (f failingTie) Own(ctx context.Context, name string) (string, error) {
+	if err := f.fails("Own"); err != nil {
+		return "", err
+	}
+	return f.Folders.Own(ctx, name)
+}
+
+func (f failingTie) IsLateTied() {}
+
+// A call that fails ends Tie with its error, of a new store and of one that was untied. Later they are tied.
+func TestTieThatFails(t *testing.T) {
+	for _, isUntied := range []bool{false, true} {
+		for _, at := range []string{"Name", "Begin", "Owner", "Own"} {
+			g := newGround(t)
+			store, backend := g.store("a"), g.folders("here")
+			if isUntied {
+				_, err := store.Begin(context.Background(), broker.Untied)
+				g.check(err)
+			}
+			failing := failingTie{store, backend, at}
+			if err := broker.Tie(context.Background(), failing, failing, false); !errors.Is(err, errTie) {
+				t.Errorf("%s fails, untied %t: got %v, want %v", at, isUntied, err, errTie)
+			}
+			if owner := g.owner(backend); owner != "" {
+				t.Errorf("%s fails, untied %t: the owner is %q, want none", at, isUntied, owner)
+			}
+			failing.at = ""
+			g.check(broker.Tie(context.Background(), failing, failing, false))
+		}
+	}
+}

@@ -75,6 +75,13 @@ func (s *failingStore) Change(ctx context.Context, key Key, step Step) error {
 	})
 }
 
+func (s *failingStore) ReadAll(ctx context.Context, keys []Key) ([]Entry, error) {
+	if err := s.fails("ReadAll"); err != nil {
+		return nil, err
+	}
+	return s.memory.ReadAll(ctx, keys)
+}
+
 func (s *failingStore) AddBroker(ctx context.Context, broker Broker) error {
 	if err := s.fails("AddBroker"); err != nil {
 		return err

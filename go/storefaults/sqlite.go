@@ -6,8 +6,8 @@ import (
 	"github.com/mattn/go-sqlite3"
 )
 
-// A Driver opens connections of SQLite. Each statement, and each row of a query, may be the one that fails, but not a
-// ROLLBACK.
+// A Driver opens connections of SQLite. Each statement that is prepared or executed, and each row of a query, may be
+// the one that fails, but not a ROLLBACK.
 type Driver struct{ Countdown }
 
 // Open opens a connection.
@@ -72,6 +72,9 @@ func (d *Driver) queried(text string, query func() (driver.Rows, error)) (driver
 
 // Prepare prepares a statement.
 func (c *conn) Prepare(text string) (driver.Stmt, error) {
+	if err := c.driver.refused("PREPARE " + text); err != nil {
+		return nil, err
+	}
 	made, err := c.SQLiteConn.Prepare(text)
 	if err != nil {
 		return nil, err

@@ -58,3 +58,12 @@ func open(t *testing.T, url string) *postgres.Store {
 	}
 	return store
 }
+
+func TestStoreWithoutConnections(t *testing.T) {
+	if _, err := postgres.Open(context.Background(), "postgresql://127.0.0.1:1/none", 0, broker.Silent{}); err == nil {
+		t.Error("got nil, want an error")
+	}
+	if _, err := postgres.Open(context.Background(), "no URL", 1, broker.Silent{}); err == nil {
+		t.Error("got nil, want an error")
+	}
+}
