@@ -307,6 +307,12 @@ func TestCatalogueThatIsNotKept(t *testing.T) {
 	if _, status, err := s.catalogue(background, broker); !errors.Is(err, ErrAway) {
 		t.Errorf("got %d, %v, want %v", status, err, ErrAway)
 	}
+	answer := p.line.catalogue
+	p.line.catalogue = func(Broker) (string, int, error) { return "", 503, errors.New("it is down") }
+	if _, status, err := s.catalogue(background, broker); status != 503 || err == nil || p.failed("store_failed") != 1 {
+		t.Errorf("got %d, %v, and %v, want 503, and that the reason isn't written", status, err, p.failures)
+	}
+	p.line.catalogue = answer
 	p.store.setAway(nil)
 	if _, status, err := s.catalogue(background, broker); err != nil || !p.hasCatalogue() {
 		t.Errorf("once the store is back: got %d, %v, want a catalogue", status, err)
@@ -327,5 +333,8 @@ func TestBrokersThatAreNotRead(t *testing.T) {
 	group.Wait()
 	if it := s.byName["shelf"]; it == nil || it.catalogue == nil {
 		t.Errorf("got %+v, want the broker with its catalogue", it)
+	}
+	if s.refresh(nil); len(s.byName) > 0 {
+		t.Errorf("once it is dropped: got %v, want no broker", s.byName)
 	}
 }
