@@ -30,18 +30,33 @@ type Faulty struct {
 // written. Afterwards the call succeeds, and nothing is locked.
 func RunFaults(t *testing.T, by Faulty) {
 	t.Run("a row that can't be read", by.unreadable)
-	for _, fault := range by.Faults {
-		for _, it := range faultyCalls {
-			fault, it := fault, it
+	shared := by.open(t)
+	for n, fault := range by.Faults {
+		for at, it := range faultyCalls {
+			f, it := *shared, it
+			f.fault, f.first = fault, (n*len(faultyCalls)+at)*2*mostStatements
 			t.Run(fault.String()+", "+it.name, func(t *testing.T) {
-				f := &faulty{Faulty: by, beside: opened(t, by.Beside), fault: fault}
-				begin(t, f.beside)
-				f.store, f.countdown = by.Open(t)
-				f.each(t, it)
-				f.close(t)
+				if !it.readsAll {
+					f.each(t, it)
+					return
+				}
+				own := by.open(t)
+				own.fault = f.fault
+				own.each(t, it)
+				own.close(t)
 			})
 		}
 	}
+	shared.close(t)
+}
+
+// open opens the stores of a test.
+func (by Faulty) open(t *testing.T) *faulty {
+	t.Helper()
+	f := &faulty{Faulty: by, beside: opened(t, by.Beside)}
+	begin(t, f.beside)
+	f.store, f.countdown = by.Open(t)
+	return f
 }
 
 // faulty is a store of which one call fails, beside another one of the same database.
@@ -51,6 +66,7 @@ type faulty struct {
 	countdown  *storefaults.Countdown
 	beside     broker.NamedStore
 	fault      storefaults.Fault
+	first      int // the number of the first key of the call
 	key        broker.Key
 	before     broker.Held // what is written of the key before the call
 	tombstones int         // of a call whose keys are oneOfTwo
@@ -64,9 +80,14 @@ type faultyCall struct {
 	call func(f *faulty, t *testing.T) error
 	// after is what is written of the key once the call has returned nil, or nil if that is what was there before.
 	after func(t *testing.T) broker.Entry
+	// readsAll is for a call that reads the rows of all keys. It has a database of its own, and only two keys.
+	readsAll bool
 	// isFirst has each call be the first of its store, as one that keeps what it has read.
 	isFirst bool
 }
+
+// mostStatements are more than any call has.
+const mostStatements = 200
 
 func ofOne(n int) broker.Key { return binding(n, n) }
 
@@ -74,35 +95,35 @@ func ofOne(n int) broker.Key { return binding(n, n) }
 func oneOfTwo(n int) broker.Key { return instance(n % 2) }
 
 var faultyCalls = []faultyCall{
-	{"Read of an instance", instance, (*faulty).read, nil, false},
-	{"Read of a binding", ofOne, (*faulty).read, nil, false},
-	{"Change of an instance", instance, (*faulty).change, ready, false},
-	{"Change of a binding", ofOne, (*faulty).change, ready, false},
-	{"Change of an instance with a fence", instance, (*faulty).changeFenced, ready, false},
-	{"Change of a binding with a fence", ofOne, (*faulty).changeFenced, ready, false},
-	{"Fence of an instance", instance, (*faulty).fence, nil, false},
-	{"Fence of a binding", ofOne, (*faulty).fence, nil, false},
-	{"HeldBindings", instance, (*faulty).held, nil, false},
-	{"Unfinished", oneOfTwo, (*faulty).unfinished, nil, false},
-	{"Stats", oneOfTwo, (*faulty).stats, nil, true},
-	{"Ready", instance, func(f *faulty, _ *testing.T) error { return f.store.Ready(context.Background()) }, nil, false},
-	{"Name and Begin", instance, (*faulty).name, nil, false},
-	{"Tie", instance, (*faulty).tie, nil, false},
+	{"Read of an instance", instance, (*faulty).read, nil, false, false},
+	{"Read of a binding", ofOne, (*faulty).read, nil, false, false},
+	{"Change of an instance", instance, (*faulty).change, ready, false, false},
+	{"Change of a binding", ofOne, (*faulty).change, ready, false, false},
+	{"Change of an instance with a fence", instance, (*faulty).changeFenced, ready, false, false},
+	{"Change of a binding with a fence", ofOne, (*faulty).changeFenced, ready, false, false},
+	{"Fence of an instance", instance, (*faulty).fence, nil, false, false},
+	{"Fence of a binding", ofOne, (*faulty).fence, nil, false, false},
+	{"HeldBindings", instance, (*faulty).held, nil, false, false},
+	{"Unfinished", oneOfTwo, (*faulty).unfinished, nil, true, false},
+	{"Stats", oneOfTwo, (*faulty).stats, nil, true, true},
+	{"Ready", instance, (*faulty).ready, nil, false, false},
+	{"Name and Begin", instance, (*faulty).name, nil, false, false},
+	{"ID", instance, (*faulty).id, nil, false, false},
+	{"Tie", instance, (*faulty).tie, nil, false, false},
 }
 
 // each has one statement of a call fail after the other, until the call has none that could: of keys with and without a
 // row.
 func (f *faulty) each(t *testing.T, it faultyCall) {
-	const most = 200 // no call has so many statements
 	for n, isLast := 1, false; !isLast; n++ {
-		if n == most {
+		if n == mostStatements {
 			t.Fatalf("got %d statements, want fewer", n)
 		}
 		isLast = true
 		for _, hasRow := range []bool{false, true} {
-			f.key = it.key(2 * n)
+			f.key = it.key(f.first + 2*n)
 			if hasRow {
-				f.key = it.key(2*n + 1)
+				f.key = it.key(f.first + 2*n + 1)
 			}
 			f.prepare(t, hasRow)
 			if it.isFirst {
@@ -125,8 +146,8 @@ func (f *faulty) close(t *testing.T) {
 	}
 }
 
-// prepare writes what is there before the call: the instance, a binding of it that is held, one that isn't, and the row of
-// the key itself.
+// prepare writes what is there before the call: the instance, a binding of it that is held, one that isn't, and the row
+// of the key itself.
 func (f *faulty) prepare(t *testing.T, hasRow bool) {
 	t.Helper()
 	of := f.key.Instance
@@ -231,8 +252,11 @@ func (f *faulty) fence(t *testing.T) error {
 	if err != nil {
 		return err
 	}
-	return f.beside.Change(context.Background(), f.key, number, func(broker.Held) (*broker.Entry, error) { return nil, nil })
+	return f.beside.Change(context.Background(), f.key, number,
+		func(broker.Held) (*broker.Entry, error) { return nil, nil })
 }
+
+func (f *faulty) ready(*testing.T) error { return f.store.Ready(context.Background()) }
 
 func (f *faulty) held(*testing.T) error {
 	got, err := f.store.HeldBindings(context.Background(), f.key.Instance)
@@ -297,6 +321,19 @@ func (f *faulty) name(*testing.T) error {
 	return nil
 }
 
+func (f *faulty) id(t *testing.T) error {
+	got, err := f.store.ID(context.Background())
+	if err != nil {
+		return err
+	}
+	want, err := f.beside.ID(context.Background())
+	if err != nil {
+		t.Fatal(err)
+	}
+	f.want("the id", got, want)
+	return nil
+}
+
 // errTied ends a Tie that is only to look.
 var errTied = errors.New("it was to look")
 
@@ -316,7 +353,8 @@ func (f *faulty) tie(t *testing.T) error {
 func (by Faulty) unreadable(t *testing.T) {
 	store := opened(t, by.Beside)
 	for _, it := range []struct{ spoiled, key broker.Key }{
-		{instance(1), instance(1)}, {instance(1), binding(1, 1)}, {instance(2), binding(2, 2)}, {binding(3, 3), binding(3, 3)},
+		{instance(1), instance(1)}, {instance(1), binding(1, 1)}, {instance(2), binding(2, 2)},
+		{binding(3, 3), binding(3, 3)},
 	} {
 		if it.key == it.spoiled || !it.key.IsBinding || it.spoiled == instance(2) {
 			write(t, store, broker.InstanceKey(it.key.Instance), ready(t))
