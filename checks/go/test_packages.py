@@ -10,6 +10,7 @@ from pathlib import Path
 import pytest
 from crate_programs import told_by
 from go.toolchain import TOP, Packages
+from go.unreached import LIST, PACKAGES, ROOT, Profile, differences
 from whole import WHOLE
 
 pytestmark = pytest.mark.slow
@@ -93,12 +94,31 @@ TIMED = "pippinterm/faults", "pippinterm/platform/client", "pippinterm/program/s
 """The packages whose tests are about how long something takes."""
 
 
-@pytest.mark.long(250)
+LISTED = [f"{ROOT}{it}" for it in PACKAGES]
+"""The packages of whose statements a list has those that no test runs."""
+
+
+@pytest.mark.long(150)
 @pytest.mark.postgres
 def test_tests(packages: Packages) -> None:
     """The tests of each package that no other test has."""
-    these = [it for it in but_osb(packages) if it not in (ALONE, *BY_THE_CLOCK, *TIMED)]
+    these = [it for it in but_osb(packages) if it not in (*LISTED, *BY_THE_CLOCK, *TIMED)]
     packages.test(*these, race=True)
+
+
+@pytest.mark.long(150)
+@pytest.mark.postgres
+def test_tests_that_reach_all(packages: Packages, tmp_path: Path) -> None:
+    """The tests of the packages in which each statement is run by a test of the package, or listed with a reason."""
+    reaches_all(packages, tmp_path, *(it for it in LISTED if it != ALONE))
+
+
+def reaches_all(packages: Packages, folder: Path, *these: str) -> None:
+    packages.profile(*these, profile=folder / "profile", race=True)
+    profile = Profile([(folder / "profile").read_text(encoding="utf-8")], TOP / "go")
+    assert profile.packages == {it.removeprefix(ROOT) for it in these}
+    wrong = differences(profile, LIST.read_text(encoding="utf-8"))
+    assert wrong == [], "\n".join(["", *wrong])
 
 
 @pytest.mark.alone
@@ -119,9 +139,9 @@ def test_tests_of_times(packages: Packages) -> None:
 
 @pytest.mark.long(60)
 @pytest.mark.postgres
-def test_tests_that_fill_a_server(packages: Packages) -> None:
+def test_tests_that_fill_a_server(packages: Packages, tmp_path: Path) -> None:
     """The tests of backend/postgres. Each process of pytest has a server of its own."""
-    packages.test(ALONE, race=True)
+    reaches_all(packages, tmp_path, ALONE)
 
 
 def but_osb(packages: Packages) -> list[str]:

@@ -92,6 +92,15 @@ class Packages:
         self._compile(*these, flags=_flags(tags, False))
         return self._run(by, *these, GOFLAGS=_flags(tags, False))
 
+    def profile(self, *these: str, profile: Path, race: bool = False) -> None:
+        """As test, and writes which statements of each package its own tests have run. For that the packages are
+        compiled in another way, so only what they import is compiled before.
+        """
+        race = race and WHOLE
+        with building(race):
+            self._run("list", "-export", *these, GOFLAGS=_flags("", race))
+        self._test(f"-coverprofile={profile}", *these, tags="", race=race)
+
     def test(
         self, *these: str, tags: str = "", options: tuple[str, ...] = (), race: bool = False, **environment: str
     ) -> None:
@@ -101,8 +110,11 @@ class Packages:
         """
         race = race and WHOLE
         self._compile(*these, flags=_flags(tags, race), race=race)
+        self._test(*options, *these, tags=tags, race=race, **environment)
+
+    def _test(self, *line: str, tags: str, race: bool, **environment: str) -> None:
         how = ["-v", "-count=1", "-timeout", "20m", "-vet=off", "-ldflags=-w"]
-        told = self._run("test", *how, *options, *these, GOFLAGS=_flags(tags, race), **environment)
+        told = self._run("test", *how, *line, GOFLAGS=_flags(tags, race), **environment)
         assert environment.get("OSB_TEST_POSTGRESQL") == "" or SKIPPED.findall(told) == []
 
     def mutants(self, folder: Path, edits: list[Path]) -> str:
