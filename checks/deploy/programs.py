@@ -24,13 +24,15 @@ def _answers(address: str) -> bool:
 
 
 @contextlib.contextmanager
-def running(*command: str, health: str, environment: dict[str, str], log: Path = Path(os.devnull)) -> Iterator[None]:
-    """The program, until the end of the block. `health`: where it serves /healthz; `log`: the file of its log."""
+def running(*command: str, health: str, environment: dict[str, str], log: Path = Path(os.devnull)) -> Iterator[int]:
+    """The program, until the end of the block: its process id. `health`: where it serves /healthz; `log`: the file of
+    its log.
+    """
     with open(log, "wb") as written:
         process = subprocess.Popen(command, env=environment, stdout=subprocess.DEVNULL, stderr=written)
     try:
         until(lambda: _answers(health))
-        yield
+        yield process.pid
     finally:
         process.kill()
         process.wait()

@@ -202,7 +202,7 @@ type wording struct {
 
 // written is the body of an answer.
 func (h *Handler) written(it wording) ([]byte, error) {
-	if body, isKnown := h.bodies.Load(it); isKnown {
+	if body, isKnown := h.wordings.Load(it); isKnown {
 		return body.([]byte), nil
 	}
 	var sentence *string
@@ -211,7 +211,7 @@ func (h *Handler) written(it wording) ([]byte, error) {
 	}
 	body, err := osb.WriteDescribedAnswer(it.Answer, nil, sentence)
 	if err == nil {
-		h.bodies.Store(it, body)
+		h.wordings.Store(it, body)
 	}
 	return body, err
 }

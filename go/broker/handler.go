@@ -1,6 +1,7 @@
 package broker
 
 import (
+	"bytes"
 	"context"
 	"errors"
 	"fmt"
@@ -14,6 +15,7 @@ import (
 	"sync/atomic"
 	"time"
 
+	"pippinterm/budget"
 	"pippinterm/osb"
 )
 
@@ -21,6 +23,12 @@ import (
 type Config struct {
 	Users       *Users
 	LongestBody int // in bytes, 1 or more; a longer body is answered with 413
+	// ParsedAtOnce is how many bytes of bodies are parsed at once, LongestBody or more, or 0 for four times LongestBody. A
+	// body takes up to 85 times its length while it is parsed. A request waits at most 30 seconds for its turn, and is
+	// answered with 503 then. So does one whose body has to wait because the bodies of other requests, from before they
+	// are read until they are answered, have 16 MiB or four times LongestBody. Of both, a user gets as much as the others
+	// leave free.
+	ParsedAtOnce int
 	// AtOnce is how many requests are carried out at once, 1 or more; others wait. Of 2 or more, a quarter, and at least
 	// one, is kept for requests that do no work. A request that may do work waits at most 30 seconds for its turn, and
 	// is answered with 503 then. Rules.LocksAtOnce should be less than three quarters.
@@ -38,16 +46,17 @@ type Handler struct {
 	Config
 	ctx         context.Context
 	service     *Service
-	reading     chan struct{} // a place for each body that is read
-	slots       chan struct{} // a place for each request that is carried out
-	working     chan struct{} // a place for each of them that may do work
-	patience    time.Duration // how long a request waits for a place in working
+	bodies      *budget.Budget // bytes of bodies in memory, from before they are read until their requests are answered
+	parsed      *budget.Budget // bytes of bodies that are parsed
+	slots       chan struct{}  // a place for each request that is carried out
+	working     chan struct{}  // a place for each of them that may do work
+	patience    time.Duration  // how long a request waits for a place in working
 	isStopping  atomic.Bool
 	stopped     chan struct{} // is closed by the first Stop
 	stop        sync.Once
 	store       []string // the value of StoreHeader, or nil
 	first, next uint64   // of which the ids of requests that have none are made
-	bodies      sync.Map // of answers: wording to []byte
+	wordings    sync.Map // the bodies of answers: wording to []byte
 }
 
 // NewHandler makes a handler over a service.
@@ -58,6 +67,13 @@ func NewHandler(ctx context.Context, service *Service, config Config) (*Handler,
 	if config.LongestBody < 1 || config.AtOnce < 1 {
 		return nil, errors.New("broker: LongestBody and AtOnce are 1 or more")
 	}
+	if config.ParsedAtOnce == 0 {
+		config.ParsedAtOnce = 4 * config.LongestBody
+	}
+	if config.ParsedAtOnce < config.LongestBody {
+		return nil, fmt.Errorf("broker: at most %d bytes are parsed at once, and a body may have %d: allow more, or shorter "+
+			"bodies", config.ParsedAtOnce, config.LongestBody)
+	}
 	if config.Journal == nil {
 		config.Journal = noJournal{}
 	}
@@ -67,7 +83,7 @@ func NewHandler(ctx context.Context, service *Service, config Config) (*Handler,
 	}
 	return &Handler{
 		store: named, Config: config, ctx: ctx, service: service,
-		reading: make(chan struct{}, config.AtOnce+slowBodies),
+		bodies: budget.New(BodiesAtOnce(config.LongestBody)), parsed: budget.New(config.ParsedAtOnce),
 		slots:   make(chan struct{}, config.AtOnce),
 		working: make(chan struct{}, mayWorkAtOnce(config.AtOnce)), patience: longestQueue,
 		stopped: make(chan struct{}),
@@ -75,11 +91,15 @@ func NewHandler(ctx context.Context, service *Service, config Config) (*Handler,
 	}, nil
 }
 
-// slowBodies is how many bodies may be read at once, besides those of the requests that are carried out. So some
-// platforms that send slowly don't keep others waiting.
-const slowBodies = 256
+// BodiesAtOnce returns how many bytes the bodies of all requests may have in memory, for this Config.LongestBody.
+func BodiesAtOnce(longest int) int {
+	if longest > 4<<20 {
+		return 4 * longest
+	}
+	return 16 << 20
+}
 
-// longestQueue is how long a request waits until it may do work.
+// longestQueue is how long a request waits until it may do work, and until its body may be read or parsed.
 const longestQueue = 30 * time.Second
 
 // mayWorkAtOnce is how many of the requests that are carried out at once may do work. The others are kept for requests
@@ -166,17 +186,60 @@ func (h *Handler) answer(x *exchange) reply {
 	if osb.AsksForCatalogue("", x.request.RequestURI) {
 		return h.catalogue(x)
 	}
+	size := h.sizeOf(x.request)
+	if !h.bodies.Take(x.User, size, h.patience) {
+		return h.busy(x)
+	}
+	defer func() { h.bodies.Give(x.User, size) }()
 	body, err := h.body(x.request)
+	if size > len(body) { // its length wasn't announced, or it was cut
+		h.bodies.Give(x.User, size-len(body))
+		size = len(body)
+	}
 	if err != nil { // it was cut on its way, came too slowly, or has a malformed chunk
 		x.header.Set("Connection", "close")
 		return h.otherError(x, http.StatusRequestTimeout, cutBody)
 	}
-	asked, err := h.read(x, body)
-	if err != nil {
+	asked, isParsed, err := h.parse(x, body)
+	switch {
+	case !isParsed:
+		return h.busy(x)
+	case err != nil:
 		return h.refused(x, err)
 	}
 	asked.Arrived = x.arrived
 	return h.carriedOut(x, asked)
+}
+
+// parse reads what a request asks, once its body may be parsed, and returns whether that came about in time.
+func (h *Handler) parse(x *exchange, body []byte) (asked Asked, isParsed bool, err error) {
+	if !h.parsed.Take(x.User, len(body), h.patience) {
+		return asked, false, nil
+	}
+	defer h.parsed.Give(x.User, len(body))
+	asked, err = h.read(x, body)
+	if len(body) >= largeBody {
+		osb.ReturnMemory()
+	}
+	return asked, true, err
+}
+
+// largeBody is the length of a body from which on it pays to return the memory that its parsing took: it takes longer
+// than the return.
+const largeBody = 32 << 10
+
+// busy answers a request of which nothing was done, and nothing was looked up.
+func (h *Handler) busy(x *exchange) reply {
+	x.header.Set("Retry-After", "30")
+	return h.otherError(x, http.StatusServiceUnavailable, allWork)
+}
+
+// sizeOf is how many bytes the body of a request may take.
+func (h *Handler) sizeOf(r *http.Request) int {
+	if r.ContentLength < 0 || r.ContentLength > int64(h.LongestBody) {
+		return h.LongestBody
+	}
+	return int(r.ContentLength)
 }
 
 // mostDiscarded is how many bytes are read of a body beyond LongestBody.
@@ -194,13 +257,15 @@ func (h *Handler) body(r *http.Request) ([]byte, error) {
 	if r.ContentLength == 0 {
 		return nil, nil
 	}
-	h.reading <- struct{}{}
-	defer func() { <-h.reading }()
-	body, err := io.ReadAll(io.LimitReader(r.Body, int64(h.LongestBody)+1))
-	if len(body) > h.LongestBody {
+	body := bytes.Buffer{}
+	if r.ContentLength > 0 {
+		body.Grow(h.sizeOf(r) + bytes.MinRead) // with which it doesn't grow again
+	}
+	_, err := body.ReadFrom(io.LimitReader(r.Body, int64(h.LongestBody)+1))
+	if body.Len() > h.LongestBody {
 		_, _ = io.CopyN(io.Discard, r.Body, mostDiscarded) // the answer is the same if the body ends, or is cut
 	}
-	return body, err
+	return body.Bytes(), err
 }
 
 // catalogue answers the document of the catalogue.
@@ -217,8 +282,7 @@ func (h *Handler) catalogue(x *exchange) reply {
 func (h *Handler) carriedOut(x *exchange, asked Asked) reply {
 	if h.mayWork(asked) {
 		if !h.takeTurn() {
-			x.header.Set("Retry-After", "30")
-			return h.otherError(x, http.StatusServiceUnavailable, allWork)
+			return h.busy(x)
 		}
 		defer func() { <-h.working }()
 		if h.isStopping.Load() { // nothing was begun
@@ -329,8 +393,9 @@ func (h *Handler) admit(x *exchange) (reply, bool) {
 	return reply{}, true
 }
 
-// wait has the answer to a failed login wait for its turn. The right password doesn't wait. That tells them apart, but a
-// client that goes away meanwhile ends nothing: its connection stays taken until then, so passwords aren't tried faster.
+// wait has the answer to a failed login wait for its turn. The right password doesn't wait. That tells them apart, but
+// a client that goes away meanwhile ends nothing: its connection stays taken until then, so passwords aren't tried
+// faster.
 func (h *Handler) wait(turn time.Duration) {
 	if turn <= 0 {
 		return

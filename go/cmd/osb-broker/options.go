@@ -29,7 +29,8 @@ type settings struct {
 	threads, workers, connections int
 	perAddress                    int // connections, or 0 for a quarter of them
 	trustedProxies                []netip.Prefix
-	longestBody, perInstance      int
+	longestBody, parsedAtOnce     int // in bytes; parsedAtOnce is 0 for four times longestBody
+	perInstance                   int
 	requestTime, sweepTime        time.Duration
 	longestPause                  time.Duration
 	stopTime, commandTime         time.Duration
@@ -145,7 +146,11 @@ func (s *settings) addLimits(flags *pflag.FlagSet) {
 	flags.Var(program.Networks(&s.trustedProxies), "trusted-proxy",
 		"the `network` of a proxy that names its clients, by the PROXY protocol or by X-Forwarded-For: an address, or "+
 			"such as 10.1.0.0/16. May be given several times")
-	flags.Var(program.Count(&s.longestBody, 1<<20, 1, most), "longest-body", "the greatest length of a body, in bytes")
+	flags.Var(program.Count(&s.longestBody, 256<<10, 1, most/4), "longest-body",
+		"the greatest length of a body, in bytes")
+	flags.Var(program.Count(&s.parsedAtOnce, 0, 1, most), "parsed-at-once",
+		"`bytes` of bodies that are parsed at once, at least --longest-body (default: 4 times --longest-body). Each byte "+
+			"takes up to 85 bytes of memory. Others wait")
 	flags.Var(program.Seconds(&s.requestTime, 30*time.Second), "request-seconds", "in which a request has to arrive")
 	flags.Var(program.Seconds(&s.sweepTime, 5*time.Second), "sweep-seconds", "between two looks for unfinished work")
 	flags.Var(program.Seconds(&s.longestPause, broker.DefaultLongestPause), "longest-pause",

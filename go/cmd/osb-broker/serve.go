@@ -131,8 +131,8 @@ func (r *running) openService(ctx context.Context, catalogue *broker.Catalogue) 
 	r.sweeper = broker.NewSweeper(service, r.observer)
 	r.work, r.endWork = context.WithCancel(ctx)
 	r.handler, err = broker.NewHandler(r.work, service, broker.Config{
-		Users: r.access.users, LongestBody: s.longestBody, AtOnce: s.threads, Limiter: limiter.New(), Touch: r.sweeper.Touch,
-		Observer: r.observer, Journal: with.journal,
+		Users: r.access.users, LongestBody: s.longestBody, ParsedAtOnce: s.parsedAtOnce, AtOnce: s.threads,
+		Limiter: limiter.New(), Touch: r.sweeper.Touch, Observer: r.observer, Journal: with.journal,
 	})
 	return program.Unusable(err)
 }

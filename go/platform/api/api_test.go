@@ -9,6 +9,7 @@ import (
 	"testing"
 	"time"
 
+	"pippinterm/budget"
 	"pippinterm/platform"
 )
 
@@ -515,6 +516,42 @@ func TestAtOnce(t *testing.T) {
 	close(letGo)
 	if got := <-first; got != 200 {
 		t.Errorf("the first one: %d", got)
+	}
+}
+
+// An order whose body may not be parsed in time is answered with 503, and nothing of it is done. Other tokens and
+// requests without a body don't wait.
+func TestParsedAtOnce(t *testing.T) {
+	store := newFake()
+	made, err := NewHandler(platform.NewOrders(store, nil), store, Options{
+		Tokens: []Token{tokenOfText("one", writing, Read|Write), tokenOfText("two", all, Read|Write)}, LongestBody: 1000,
+		Timeout: 50 * time.Millisecond,
+	})
+	must(t, err)
+	ask := func(token, method, target, body string) *httptest.ResponseRecorder {
+		request := httptest.NewRequest(method, target, strings.NewReader(body))
+		request.Header.Set("Authorization", "Bearer "+token)
+		request.Header.Set("Content-Type", "application/json")
+		recorder := httptest.NewRecorder()
+		made.ServeHTTP(recorder, request)
+		return recorder
+	}
+	body := `{"broker":"` + strings.Repeat("a", 900) + `"}`
+	for _, it := range []*budget.Budget{made.(*handler).parsed, made.(*handler).bodies} {
+		taken := 0
+		for ; it.Take("one", 900, 0); taken++ {
+		}
+		if got := ask(writing, "POST", "/v1/instances", body); got.Code != 503 || got.Header().Get("Retry-After") != "5" ||
+			!strings.Contains(got.Body.String(), `"busy"`) {
+			t.Errorf("got %d %s, want 503, busy", got.Code, got.Body)
+		}
+		if got := ask(writing, "GET", "/v1/counts", ""); got.Code != 200 {
+			t.Errorf("without a body: got %d, want 200", got.Code)
+		}
+		if got := ask(all, "POST", "/v1/instances", body); got.Code != 400 && got.Code != 404 {
+			t.Errorf("another token: got %d %s, want 400 or 404", got.Code, got.Body)
+		}
+		it.Give("one", 900*taken)
 	}
 }
 

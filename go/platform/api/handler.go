@@ -17,6 +17,8 @@ import (
 	"unicode/utf16"
 	"unicode/utf8"
 
+	"pippinterm/budget"
+	"pippinterm/osb"
 	"pippinterm/platform"
 )
 
@@ -27,8 +29,12 @@ var document []byte
 type Options struct {
 	// Tokens are those that may ask, one or more.
 	Tokens []Token
-	// LongestBody is how many bytes the body of a request may have. It is 1 MiB by default.
+	// LongestBody is how many bytes the body of a request may have. It is 256 KiB by default.
 	LongestBody int64
+	// ParsedAtOnce is how many bytes of bodies are parsed and carried out at once, LongestBody or more. It is four times
+	// LongestBody by default. Others wait, and so do bodies beyond 16 MiB, or four times ParsedAtOnce, that have arrived
+	// or are on their way. Of both, a token gets as much as the others leave free.
+	ParsedAtOnce int64
 	// Timeout is how long a request may wait for the store. It is 30 seconds by default.
 	Timeout time.Duration
 	// AtOnce is how many requests are carried out at once, after their bodies have arrived. It is 64 by default.
@@ -65,7 +71,9 @@ type handler struct {
 	Options
 	orders *platform.Orders
 	store  platform.Store
-	slots  chan struct{} // has a value for each request that is carried out
+	slots  chan struct{}  // has a value for each request that is carried out
+	bodies *budget.Budget // bytes of bodies in memory
+	parsed *budget.Budget // bytes of those whose requests are carried out
 }
 
 // NewHandler makes the handler of the API. It answers to /v1/.. alone, and to each request on one goroutine. What it
@@ -79,11 +87,17 @@ func NewHandler(orders *platform.Orders, store platform.Store, options Options) 
 	if err := checkTokens(options.Tokens); err != nil {
 		return nil, errors.New("api: " + err.Error())
 	}
-	if options.LongestBody < 0 || options.Timeout < 0 || options.AtOnce < 0 {
+	if options.LongestBody < 0 || options.ParsedAtOnce < 0 || options.Timeout < 0 || options.AtOnce < 0 {
 		return nil, errors.New("api: no limit is negative")
 	}
 	if options.LongestBody == 0 {
-		options.LongestBody = 1 << 20
+		options.LongestBody = 256 << 10
+	}
+	if options.ParsedAtOnce == 0 {
+		options.ParsedAtOnce = 4 * options.LongestBody
+	}
+	if options.ParsedAtOnce < options.LongestBody {
+		return nil, errors.New("api: ParsedAtOnce is LongestBody or more")
 	}
 	if options.Timeout == 0 {
 		options.Timeout = 30 * time.Second
@@ -98,7 +112,18 @@ func NewHandler(orders *platform.Orders, store platform.Store, options Options) 
 		options.Observe = func(Exchange) {}
 	}
 	options.Tokens = append([]Token(nil), options.Tokens...)
-	return &handler{Options: options, orders: orders, store: store, slots: make(chan struct{}, options.AtOnce)}, nil
+	return &handler{
+		Options: options, orders: orders, store: store, slots: make(chan struct{}, options.AtOnce),
+		bodies: budget.New(bodiesAtOnce(int(options.ParsedAtOnce))), parsed: budget.New(int(options.ParsedAtOnce)),
+	}, nil
+}
+
+// bodiesAtOnce is how many bytes the bodies of all requests may have in memory, if so many are parsed at once.
+func bodiesAtOnce(parsed int) int {
+	if parsed > 4<<20 {
+		return 4 * parsed
+	}
+	return 16 << 20
 }
 
 // asked is a request on its way to its answer.
@@ -106,6 +131,7 @@ type asked struct {
 	*http.Request
 	*handler
 	query  url.Values
+	token  string            // the name of the token, or empty
 	values map[string]string // of the segments in braces of the route's pattern
 	text   []byte            // the body
 }
@@ -166,27 +192,54 @@ func (h *handler) answer(w http.ResponseWriter, r *http.Request, exchange *Excha
 	case found == nil:
 		return answer{}, newProblem(http.StatusNotFound, "no_route", "there is no such path: see /v1/openapi.json")
 	}
-	a := &asked{Request: r, handler: h, values: values}
+	a := &asked{Request: r, handler: h, values: values, token: exchange.Token}
 	if err := a.readQuery(found.query); err != nil {
 		return answer{}, err
 	}
+	if err := a.checkBody(found); err != nil {
+		return answer{}, err
+	}
+	size := a.sizeOf(found)
+	if !h.bodies.Take(a.token, size, a.left()) {
+		return answer{}, errBusy
+	}
+	defer h.bodies.Give(a.token, size)
 	if err := a.readBody(w, found); err != nil {
 		return answer{}, err
 	}
 	return a.carryOut(found)
 }
 
+// errBusy is the problem of a request of which nothing was done.
+var errBusy = newProblem(http.StatusServiceUnavailable, "busy", "too many ask at once: nothing was done")
+
+// left is for how long the request may still wait.
+func (a *asked) left() time.Duration {
+	deadline, _ := a.Context().Deadline() // ServeHTTP has set one
+	return time.Until(deadline)
+}
+
 // carryOut calls, once it is the turn of the request.
 func (a *asked) carryOut(found *route) (answer, error) {
+	if !a.parsed.Take(a.token, len(a.text), a.left()) {
+		return answer{}, errBusy
+	}
+	defer a.parsed.Give(a.token, len(a.text))
+	if len(a.text) >= largeBody {
+		defer osb.ReturnMemory()
+	}
 	select {
 	case a.slots <- struct{}{}:
 		defer func() { <-a.slots }()
 		given, err := found.call(a)
 		return given, a.named(err)
 	case <-a.Context().Done():
-		return answer{}, newProblem(http.StatusServiceUnavailable, "busy", "too many ask at once: nothing was done")
+		return answer{}, errBusy
 	}
 }
+
+// largeBody is the length of a body from which on it pays to return the memory that its parsing took.
+const largeBody = 32 << 10
 
 // readQuery reads the query, whose names must be of these.
 func (a *asked) readQuery(names []string) error {

@@ -16,9 +16,9 @@ import (
 // deepest is how many arrays and objects of a body may lie within each other.
 const deepest = 64
 
-// readBody reads the body of a request whose route has one. A request of another route has none; that of GET doesn't
-// count.
-func (a *asked) readBody(w http.ResponseWriter, found *route) error {
+// checkBody returns an error unless a request may have the body that it announces: only the route tells. That of GET
+// doesn't count.
+func (a *asked) checkBody(found *route) error {
 	switch {
 	case found.method == http.MethodGet:
 		return nil
@@ -30,8 +30,31 @@ func (a *asked) readBody(w http.ResponseWriter, found *route) error {
 	if kind, _, err := mime.ParseMediaType(a.Header.Get("Content-Type")); err != nil || kind != "application/json" {
 		return newProblem(http.StatusUnsupportedMediaType, "unsupported_media_type", "a body is application/json")
 	}
-	var err error
-	a.text, err = io.ReadAll(http.MaxBytesReader(w, a.Body, a.LongestBody))
+	return nil
+}
+
+// sizeOf is how many bytes the body takes, or 0 if it isn't read.
+func (a *asked) sizeOf(found *route) int {
+	switch {
+	case !found.hasBody || found.method == http.MethodGet:
+		return 0
+	case a.ContentLength < 0 || a.ContentLength > a.LongestBody:
+		return int(a.LongestBody)
+	}
+	return int(a.ContentLength)
+}
+
+// readBody reads the body of a request whose route has one.
+func (a *asked) readBody(w http.ResponseWriter, found *route) error {
+	if !found.hasBody || found.method == http.MethodGet {
+		return nil
+	}
+	var text bytes.Buffer
+	if a.ContentLength > 0 {
+		text.Grow(a.sizeOf(found) + bytes.MinRead) // with which it doesn't grow again
+	}
+	_, err := text.ReadFrom(http.MaxBytesReader(w, a.Body, a.LongestBody))
+	a.text = text.Bytes()
 	var tooLong *http.MaxBytesError
 	switch {
 	case errors.As(err, &tooLong):

@@ -1,0 +1,149 @@
+package budget
+
+import (
+	"fmt"
+	"sync"
+	"sync/atomic"
+	"testing"
+	"time"
+)
+
+const long = time.Minute // in which everything has to happen
+
+// taken counts how often a user gets an amount at once.
+func taken(b *Budget, user string, amount int) (count int) {
+	for b.Take(user, amount, 0) {
+		count++
+	}
+	return count
+}
+
+// Whatever users take, a further one gets its part.
+func TestAUserLeavesAsMuchFree(t *testing.T) {
+	b := New(120)
+	for number, want := range []int{60, 30, 15, 7, 4} {
+		if got := taken(b, fmt.Sprint(number), 1); got != want {
+			t.Errorf("got %d for user %d, want %d", got, number, want)
+		}
+	}
+	b.Give("0", 60)
+	if got := taken(b, "0", 1); got != 32 {
+		t.Errorf("got %d after all was given back, want half of what is free, 32", got)
+	}
+}
+
+// Of large parts, a user gets one whenever it is free.
+func TestTheFirstPartOfAUser(t *testing.T) {
+	b := New(100)
+	for user, want := range []int{1, 0} {
+		if got := taken(b, fmt.Sprint(user), 70); got != want {
+			t.Errorf("got %d for user %d, want %d", got, user, want)
+		}
+	}
+	b.Give("0", 70)
+	if got := taken(b, "1", 1000); got != 1 {
+		t.Errorf("got %d parts above the total, want 1, as the total", got)
+	}
+	b.Give("1", 1000)
+	if b.taken != 0 || len(b.of) != 0 {
+		t.Errorf("got %d taken by %v, want nothing", b.taken, b.of)
+	}
+}
+
+// Who waits gets its part once it is free. Nobody waits for another user, and those of one user come in their order.
+func TestWaiting(t *testing.T) {
+	b := New(4)
+	if got := taken(b, "one", 1); got != 2 {
+		t.Fatalf("got %d, want 2", got)
+	}
+	order := make(chan int, 2)
+	for number, amount := range []int{2, 1} {
+		number, amount := number, amount
+		go func() {
+			if b.Take("one", amount, long) {
+				order <- number
+			}
+		}()
+		waitFor(t, b, number+1)
+	}
+	if !b.Take("two", 1, 0) {
+		t.Error("another user waits")
+	}
+	b.Give("two", 1)
+	b.Give("one", 1)
+	b.Give("one", 1)
+	for want := 0; want < 2; want++ {
+		select {
+		case got := <-order:
+			if got != want {
+				t.Errorf("got number %d, want %d", got, want)
+			}
+			b.Give("one", 2-got)
+		case <-time.After(long):
+			t.Fatal("a part isn't given")
+		}
+	}
+}
+
+// Who waits for too long gets nothing, and holds up nobody any more.
+func TestWhoLeaves(t *testing.T) {
+	b := New(4)
+	taken(b, "one", 1)
+	if b.Take("one", 2, time.Millisecond) {
+		t.Error("got a part that isn't free")
+	}
+	if !b.Take("one", 0, 0) {
+		t.Error("got no part of 0")
+	}
+	if len(b.waiting) != 0 {
+		t.Errorf("got %d that wait, want 0", len(b.waiting))
+	}
+	b.Give("one", 1)
+	if !b.Take("one", 1, 0) {
+		t.Error("got nothing, want the part that is free")
+	}
+}
+
+// Many goroutines never have more than the total.
+func TestManyGoroutines(t *testing.T) {
+	const total = 10
+	b, all := New(total), sync.WaitGroup{}
+	var has, got atomic.Int64
+	for number := 0; number < 40; number++ {
+		user, amount := fmt.Sprint(number%3), number%4+1
+		all.Add(1)
+		go func() {
+			defer all.Done()
+			for count := 0; count < 50; count++ {
+				if !b.Take(user, amount, long) {
+					continue
+				}
+				if now := has.Add(int64(amount)); now > total {
+					t.Errorf("%d are taken, want at most %d", now, total)
+				}
+				got.Add(1)
+				has.Add(int64(-amount))
+				b.Give(user, amount)
+			}
+		}()
+	}
+	all.Wait()
+	if got.Load() != 40*50 || b.taken != 0 || len(b.of) != 0 || len(b.waiting) != 0 {
+		t.Errorf("got %d parts, want %d, and left is %+v", got.Load(), 40*50, b)
+	}
+}
+
+func waitFor(t *testing.T, b *Budget, count int) {
+	t.Helper()
+	for late := time.Now().Add(long); ; time.Sleep(time.Millisecond) {
+		b.mutex.Lock()
+		isSo := len(b.waiting) == count
+		b.mutex.Unlock()
+		if isSo {
+			return
+		}
+		if time.Now().After(late) {
+			t.Fatalf("not in time: %d wait", count)
+		}
+	}
+}
