@@ -51,6 +51,7 @@ type Failure struct {
 	//	                    abandoned the row
 	//	credentials_lost    the credentials of a binding couldn't be sealed; the binding isn't recorded ready
 	//	broker_unreached    the catalogue of a broker wasn't had; it is told once for each reason
+	//	other_store         a broker names another store than the one that is recorded: nothing is sent until that ends
 	//	broker_refuses      a broker has answered 401 or 403: nothing is sent until its catalogue is answered
 	Event     string
 	Broker    string // its name, or empty

@@ -244,8 +244,9 @@ func useVault(ctx context.Context, store platform.Store, opened *vault.Vault, wa
 // keyError says what to do if a vault can't be used over a store.
 func keyError(err error) error {
 	switch {
-	case errors.Is(err, vault.ErrOldPasswords):
-		return program.Unusable(fmt.Errorf("%w: somebody has written an old key's fingerprint into the store", err))
+	case errors.Is(err, vault.ErrOldPasswords), errors.Is(err, vault.ErrWrittenBack):
+		return program.Unusable(fmt.Errorf("%w. Restore the table with the fingerprint (osb_store in a file of SQLite, "+
+			"osb_platform in PostgreSQL), check the URLs of all brokers, and change their passwords", err))
 	case errors.Is(err, vault.ErrRotating):
 		return program.Unusable(fmt.Errorf("%w: run 'osb-platform rekey' again with the files that it was given. "+
 			"Until it has succeeded, name both: --key-file NEW --key-file OLD", err))

@@ -23,6 +23,7 @@ func TestUnreadableRow(t *testing.T) {
 			if _, err := orders.Create(ctx, platform.NewInstance{Plan: "small", ID: id}); err != nil {
 				return err
 			}
+			time.Sleep(2 * time.Millisecond) // a list orders them by the millisecond
 		}
 		return nil
 	})

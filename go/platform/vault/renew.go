@@ -12,6 +12,10 @@ import (
 // the names of the brokers alone.
 var ErrOldPasswords = errors.New("the passwords in the store are encrypted as version 0.3 did it")
 
+// ErrWrittenBack reports that a store has the fingerprint of version 0.3, and a password that was sealed since: somebody
+// has written the fingerprint back, so that old passwords are accepted again.
+var ErrWrittenBack = errors.New("somebody has written the fingerprint of version 0.3 back into the store")
+
 // formerContext is the context under which version 0.3 sealed the password of a broker.
 func formerContext(broker string) string { return "broker " + broker }
 
@@ -34,7 +38,8 @@ const renewals = 10
 //
 // A Renew that has ended in the middle is finished by the next one. Any number of processes may call it at once.
 //
-// Errors: ErrStoreKey and ErrRotating, as Fits; ErrWorkers, and then nothing has changed; those of the Store.
+// Errors: ErrStoreKey and ErrRotating, as Fits; ErrWorkers and ErrWrittenBack, and then nothing has changed; those of the
+// Store.
 func (v *Vault) Renew(ctx context.Context, store platform.Store) (all Renewed, err error) {
 	for n := 0; n < renewals; n++ {
 		written, err := store.Fingerprint(ctx, v.Fingerprint())
@@ -103,6 +108,9 @@ func (v *Vault) renew(
 		return err
 	}
 	if mark != written {
+		if err := v.checkFormer(ctx, store); err != nil {
+			return err
+		}
 		if err := replace(ctx, store, written, mark); err != nil {
 			return err
 		}
@@ -114,6 +122,17 @@ func (v *Vault) renew(
 		return err
 	}
 	return replace(ctx, store, mark, target)
+}
+
+// checkFormer returns ErrWrittenBack if a password of a store that isn't renewed yet has the form of this version.
+func (v *Vault) checkFormer(ctx context.Context, store platform.Store) error {
+	brokers, err := store.Brokers(ctx)
+	for _, it := range brokers {
+		if _, failed := v.Open(it.Password, platform.PasswordContext(it)); failed == nil && err == nil {
+			err = ErrWrittenBack
+		}
+	}
+	return err
 }
 
 func (v *Vault) renewPasswords(ctx context.Context, store platform.Store, all *Renewed) error {

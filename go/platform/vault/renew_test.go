@@ -117,6 +117,36 @@ func TestRenewOnce(t *testing.T) {
 	}
 }
 
+// A fingerprint of version 0.3 that is written back has no password accepted again, as long as one of this version is
+// there.
+func TestRenewWrittenBack(t *testing.T) {
+	store, path := storeOf03(t)
+	brokers, err := store.Brokers(background)
+	check(t, err)
+	v := newVault(t, one)
+	_, err = v.Renew(background, store)
+	check(t, err)
+	check(t, store.ChangeBroker(background, "shop", func(b platform.Broker) (*platform.Broker, error) {
+		b.Password, b.URL = brokers[2].Password, "http://127.0.0.1:2/evil"
+		return &b, nil
+	}))
+	execute(t, path, "UPDATE osb_store SET fingerprint = '"+former+"'")
+	done, err := v.Renew(background, store)
+	if !errors.Is(err, ErrWrittenBack) || len(done.Brokers) != 0 || writtenIn(t, store) != former {
+		t.Errorf("got %+v, %v, want %v", done, err, ErrWrittenBack)
+	}
+	if got := passwords(t, store, v); got["shop"] != "" {
+		t.Errorf("the passwords are %v", got)
+	}
+	execute(t, path, "UPDATE osb_store SET fingerprint = NULL")
+	if _, err := v.Renew(background, store); err != nil || writtenIn(t, store) != now {
+		t.Errorf("without a fingerprint: %v, %q", err, writtenIn(t, store))
+	}
+	if got := passwords(t, store, v); got["shop"] != "" {
+		t.Errorf("without a fingerprint the passwords are %v", got)
+	}
+}
+
 // A password that doesn't open stays as it is, and the others are sealed again. A URL that was changed before is the one
 // that the password is sealed for: nobody can know it.
 func TestRenewUnopened(t *testing.T) {
