@@ -19,8 +19,9 @@ type Target struct {
 	Bindable              bool
 	InstancesRetrievable  bool
 	BindingsRetrievable   bool
-	Catalogue             []byte // the body of the answer
-	HasCatalogue          bool   // whether the catalogue could be read
+	Catalogue             []byte      // the body of the answer
+	CatalogueHeader       http.Header // its header but the request's identity, if it could be read
+	HasCatalogue          bool        // whether the catalogue could be read
 }
 
 // Open asks for the catalogue, and chooses the plan to order, as Run does.
@@ -31,12 +32,17 @@ func (r *Runner) Open(ctx context.Context) (Target, error) {
 	if err := r.open(); err != nil {
 		return Target{}, err
 	}
-	return Target{
+	target := Target{
 		Service: r.target.service, Plan: r.target.plan, ServiceName: r.target.serviceName, PlanName: r.target.planName,
 		Bindable: r.target.bindable, InstancesRetrievable: r.target.instancesRetrievable,
 		BindingsRetrievable: r.target.bindingsRetrieved, Catalogue: []byte(r.fetched.text),
 		HasCatalogue: r.hasCatalogue(),
-	}, nil
+	}
+	if target.HasCatalogue {
+		target.CatalogueHeader = r.fetched.header.Clone()
+		target.CatalogueHeader.Del("X-Broker-API-Request-Identity") // it is that of this request
+	}
+	return target, nil
 }
 
 // hasCatalogue returns whether the catalogue could be read.

@@ -29,6 +29,8 @@ type Config struct {
 	Place func(instance, binding string) (Place, bool)
 	// Catalogue answers the requests for the catalogue in the broker's place, without faults.
 	Catalogue []byte
+	// CatalogueHeader is the header of that answer, or nil for one that has only the Content-Type.
+	CatalogueHeader http.Header
 	// ForwardsOthers has the requests for the catalogue, and those without a Place, reach the broker without faults.
 	ForwardsOthers bool
 	// RequestTime is how long the platform waits for an answer.
@@ -138,6 +140,15 @@ func (p *Proxy) accept() {
 	}
 }
 
+// catalogue is the answer to a request for the catalogue.
+func (p *Proxy) catalogue() *answer {
+	header := p.CatalogueHeader
+	if header == nil {
+		header = jsonHeader()
+	}
+	return &answer{status: http.StatusOK, header: header, body: p.Catalogue}
+}
+
 // serve carries the request of a connection.
 func (p *Proxy) serve(connection net.Conn) {
 	request, body, err := read(connection)
@@ -146,7 +157,7 @@ func (p *Proxy) serve(connection net.Conn) {
 	}
 	defer p.carrying()()
 	if strings.HasSuffix(request.URL.Path, "/v2/catalog") && !p.ForwardsOthers {
-		_, _ = connection.Write((&answer{status: http.StatusOK, header: jsonHeader(), body: p.Catalogue}).bytes())
+		_, _ = connection.Write(p.catalogue().bytes())
 		return
 	}
 	instance, binding := idsOf(request.URL)

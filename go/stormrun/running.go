@@ -40,7 +40,8 @@ func (s *Storm) startRun(ctx, deleting context.Context, folder string, source *f
 	var err error
 	r.proxy, err = faults.Listen(faults.Config{
 		Broker: s.address, Source: source, Journal: r.journal, Place: r.keys.place, Catalogue: s.target.Catalogue,
-		RequestTime: s.config.RequestTime, Late: s.config.Late, AnswerTime: s.config.Broker.RequestTime,
+		CatalogueHeader: s.target.CatalogueHeader,
+		RequestTime:     s.config.RequestTime, Late: s.config.Late, AnswerTime: s.config.Broker.RequestTime,
 		Restart: restart, Failed: func(err error) { r.fail("a restart of the broker failed: " + err.Error()) },
 	})
 	if err != nil {
