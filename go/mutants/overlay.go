@@ -41,12 +41,12 @@ func mutantAt(id int) {
 		return
 	}
 	file, err := os.OpenFile(mutantReached, os.O_WRONLY|os.O_CREATE|os.O_APPEND, 0o666)
-	if err != nil {
-		panic(err)
+	if err == nil {
+		_, err = file.WriteString(strconv.Itoa(id) + "\n")
+		_ = file.Close()
 	}
-	defer file.Close()
-	if _, err := file.WriteString(strconv.Itoa(id) + "\n"); err != nil {
-		panic(err)
+	if err != nil { // a test may keep its process from writing for a while
+		mutantsKnown.Delete(id)
 	}
 }
 `
