@@ -31,11 +31,22 @@ type server struct {
 	input    io.Closer
 }
 
-// startServer returns once the server answers.
-func startServer(ctx context.Context) (*server, error) {
+// startServer returns once the server answers. Another process may take its port first, and on a busy machine
+// pg_virtualenv waits for too short a time, so it is tried again.
+func startServer(ctx context.Context) (s *server, err error) {
 	if _, err := exec.LookPath("pg_virtualenv"); err != nil {
 		return nil, errNoPostgres
 	}
+	for tries := 0; tries < 3; tries++ {
+		if s, err = tryServer(ctx); err == nil {
+			return s, nil
+		}
+	}
+	return nil, err
+}
+
+// tryServer tries it once.
+func tryServer(ctx context.Context) (*server, error) {
 	secret := make([]byte, 16)
 	if _, err := rand.Read(secret); err != nil {
 		return nil, err
