@@ -221,9 +221,9 @@ func createMany(t *testing.T, r *rig, db *sql.DB, statements ...string) string {
 		loop += "EXECUTE format('" + strings.ReplaceAll(it, "%d", "%1$s") + "', n); "
 	}
 	count := 0
-	for ; count < 3*most; count += 1000 { // the server has some spare room
+	for ; count < 3*most; count += 100 { // the server has some spare room
 		_, err := conn.ExecContext(context.Background(),
-			fmt.Sprintf("DO $$ BEGIN FOR n IN %d..%d LOOP %sEND LOOP; END $$", count, count+999, loop))
+			fmt.Sprintf("DO $$ BEGIN FOR n IN %d..%d LOOP %sEND LOOP; END $$", count, count+99, loop))
 		if err != nil {
 			t.Fatal(err)
 		}

@@ -194,6 +194,28 @@ func TestPoliciesOnManyTables(t *testing.T) {
 	}
 }
 
+// What a binding owns in the database of another customer goes, although it has become a part of an extension.
+func TestPartsOfAnExtension(t *testing.T) {
+	r := newRig(t)
+	d := r.open()
+	of, other := created(t, d), created(t, d)
+	bind, binding := bound(t, d, of.request.Key)
+	others := postgres.NameOf(other.request.Key)
+	pgtest.Exec(t, r.customer(other.request.Key),
+		"GRANT ALL ON DATABASE "+others+" TO "+postgres.NameOf(of.request.Key))
+	hold(t, r.login(binding.Username, binding.Password, others), "CREATE SCHEMA s", "CREATE EXTENSION hstore SCHEMA s",
+		"SET ROLE NONE", `CREATE TABLE s."a table" ()`, `ALTER EXTENSION hstore ADD TABLE s."a table"`,
+		"CREATE FUNCTION s.f(integer[]) RETURNS integer LANGUAGE sql AS 'SELECT 1'",
+		"ALTER EXTENSION hstore ADD FUNCTION s.f(integer[])")
+	if err := d.DeleteBinding(bind.ctx, bind.request); err != nil {
+		t.Errorf("DeleteBinding: %v", err)
+	}
+	if err := d.Delete(of.ctx, of.request); err != nil {
+		t.Errorf("Delete: %v", err)
+	}
+	r.wantNothing(of.request.Key)
+}
+
 const manyLargeObjects = `SELECT lo_create(0) FROM generate_series(1,
 	3 * current_setting('max_locks_per_transaction')::integer * current_setting('max_connections')::integer)`
 

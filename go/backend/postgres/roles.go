@@ -95,7 +95,7 @@ func (d *Databases) enterAndDisown(ctx context.Context, conn *sql.Conn, database
 
 // disown takes away what a role owns, and its rights, in the database of a session. In the database of another customer,
 // what that customer has made to depend on it goes too: otherwise the role could never be dropped. One transaction takes
-// all away, unless that needs too many locks.
+// all away, unless that needs too many locks, or an extension needs what the role owns.
 func disown(ctx context.Context, db *sql.DB, database, role string, inherit bool) error {
 	statements, heir := []string{"DROP OWNED BY " + quote(role) + " CASCADE"}, ""
 	if inherit {
@@ -104,7 +104,7 @@ func disown(ctx context.Context, db *sql.DB, database, role string, inherit bool
 	}
 	atOnce := func(tx *sql.Tx) (bool, error) { return true, execAll(ctx, tx, statements...) }
 	err := inTransaction(ctx, db, atOnce)
-	if !session.IsCode(err, outOfMemory) {
+	if !session.IsCode(err, outOfMemory, session.DependentObjects) {
 		return err
 	}
 	if err := disownByParts(ctx, db, role, heir); err != nil {
@@ -117,8 +117,17 @@ func disown(ctx context.Context, db *sql.DB, database, role string, inherit bool
 // (out_of_memory).
 const outOfMemory = "53200"
 
-// Schemas come first: an heir needs a right in the schema of a relation. A sequence of a column goes with its table.
+// Members of an extension come first: they aren't dropped without it. Schemas come before relations: an heir needs a right
+// in the schema of a relation. A sequence of a column goes with its table.
 const (
+	selectMembers = `
+SELECT string_agg(format('ALTER EXTENSION %I DROP %s %s', extname, i.type, i.identity), ';')
+FROM (SELECT s.classid, s.objid, e.extname FROM pg_shdepend AS s
+    JOIN pg_depend AS d ON d.classid = s.classid AND d.objid = s.objid AND d.deptype = 'e'
+    JOIN pg_extension AS e ON e.oid = d.refobjid
+    WHERE $2 = '' AND s.deptype = 'o' AND s.refclassid = 'pg_authid'::regclass AND s.refobjid = $1::text::regrole
+        AND s.dbid = (SELECT oid FROM pg_database WHERE datname = current_database()) LIMIT 500) AS m,
+    pg_identify_object(m.classid, m.objid, 0) AS i`
 	selectSchemas = `
 SELECT string_agg(format('ALTER SCHEMA %I OWNER TO %I', nspname, $2::text), ';')
 FROM (SELECT nspname FROM pg_namespace WHERE nspowner = $1::text::regrole AND $2 <> '' LIMIT 500) AS s`
@@ -148,10 +157,10 @@ FROM (SELECT polname, polrelid, (SELECT string_agg(quote_ident(rolname), ', ') F
 )
 
 // disownByParts takes away what a role may have a lot of, a few at a time: the relations, large objects, routines, types
-// and schemas that it owns, and its part in policies. Relations become the heir's. All else is the heir's by REASSIGN
+// and schemas that it owns, and its part in policies and extensions. Relations become the heir's. All else is the heir's by REASSIGN
 // OWNED, which needs no lock for it. Without an heir all of it is dropped.
 func disownByParts(ctx context.Context, db *sql.DB, role, heir string) error {
-	for _, query := range []string{selectSchemas, selectRelations, selectObjects, selectPolicies} {
+	for _, query := range []string{selectMembers, selectSchemas, selectRelations, selectObjects, selectPolicies} {
 		for {
 			var statements sql.NullString
 			if err := db.QueryRowContext(ctx, query, quote(role), heir).Scan(&statements); err != nil {
