@@ -22,13 +22,15 @@ from pathlib import Path
 
 from binding.cells import Way
 from binding.model import Order, Rules
-from binding.walks import RULES, Walk, services
+from binding.walks import MADE, RULES, Walk, services
 from binding.ways import ALL
 from network.walks import Step
 
 FOLDER = Path(__file__).resolve().parent.parent.parent / "crates" / "service_cases"
 # The walk in the files of the crate.
 SEED, STEPS = 8, 260
+# A Bind that is accepted, and whose answer is taken: the platform gives up a binding that can't be fetched.
+ACCEPTED = ("binding 1 create", "binding 1 arrive 1", "binding 1 end done", "binding 1 take 0")
 
 
 # ---- the lines of a way
@@ -54,6 +56,14 @@ def of_ways() -> Iterator[list[str]]:
         if not (way.rules.platform and way.rules.broker):
             own = RULES._replace(platform=way.rules.platform, broker=way.rules.broker)
             yield [f"# {name}: the rules of the sides that satisfy them in this way", *lines_of(own, way)]
+
+
+def of_unfetched() -> Iterator[list[str]]:
+    """The lines of a binding that can't be fetched, and has its rounds before it is created: it still can't be."""
+    for rounds in ("settle 1", "remove 1"):
+        service = Walk(random.Random(0), RULES, Order("sync"), Order("async", retrievable=False)).begun.line
+        events = [f"instance {event}" for event in MADE["sync", False]]
+        yield [f"# a binding that can't be fetched: {rounds}", service, *events, rounds, *ACCEPTED, rounds]
 
 
 # ---- what is written of lines
@@ -109,7 +119,8 @@ def written_of(lines: list[str]) -> Iterator[str]:
 
 def stdin() -> list[str]:
     walk = islice(services(random.Random(SEED), RULES), STEPS)
-    return [*(line for way in of_ways() for line in way), "# a walk", *(step.line for _, step in walk)]
+    told = [*of_ways(), *of_unfetched()]
+    return [*(line for lines in told for line in lines), "# a walk", *(step.line for _, step in walk)]
 
 
 def main(arguments: list[str]) -> int:

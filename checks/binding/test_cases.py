@@ -2,10 +2,10 @@
 
 from __future__ import annotations
 
-from binding.cases import FOLDER, of_ways, written_of
+from binding.cases import FOLDER, of_unfetched, of_ways, written_of
 
 # The events that an instance by itself doesn't have, and rounds without a fault.
-EVENTS = {"settle", "remove", "binding fetch", "binding take-fetched", "binding forget"}
+EVENTS = {"settle", "remove", "settle 1", "remove 1", "binding fetch", "binding take-fetched", "binding forget"}
 
 
 def lines_of(name: str) -> list[str]:
@@ -28,7 +28,14 @@ def test_written() -> None:
 def test_ways() -> None:
     """Each way is there, as it is."""
     text = "\n".join(lines_of("stdin"))
-    assert not [way[0] for way in of_ways() if "\n".join(way) not in text]
+    assert not [way[0] for way in (*of_ways(), *of_unfetched()) if "\n".join(way) not in text]
+
+
+def test_a_binding_that_cant_be_fetched_is_given_up() -> None:
+    """Also after rounds that it has before it is created."""
+    for _, *lines in of_unfetched():
+        taken = next(line for line in written_of(lines) if line.startswith("binding 1 take 0"))
+        assert taken.partition(" | ")[2].startswith("cleaning - 1; making")
 
 
 def test_events() -> None:

@@ -19,6 +19,8 @@ EVENT is one of these:
   its rules, nothing happens.
 - `remove`: three such rounds of the instance, three of each binding, in which it is removed, and then three of the
   instance, in which it is removed. If the platform doesn't keep its rules, nothing happens.
+- `settle NUMBER` and `remove NUMBER`: three such rounds of one binding, whether it was created or not. If there is no
+  binding with this number, or the platform doesn't keep its rules, nothing happens.
 
 E is an event of checks/network, with Bind for Provision and Unbind for Deprovision, or one of a binding's own:
 
@@ -74,21 +76,32 @@ MADE = {
 }
 
 
+def three_rounds(tied: Tied, life: Life, removing: bool) -> None:
+    """An instance that was settled is gone after two removing rounds; a third changes nothing."""
+    for number in range(3):
+        tied.allow()
+        life.round(removing)
+        assert life is not tied.instance or not removing or number == 0 or life.state in (None, "gone")
+
+
 def settle(tied: Tied) -> None:
     for _ in range(3):
         tied.round()
 
 
 def remove(tied: Tied) -> None:
-    """Five rounds are enough, as the last assertion says; a sixth changes nothing."""
+    """Five rounds are enough."""
     for life, removing in ((tied.instance, False), *((it, True) for it in tied.bindings), (tied.instance, True)):
-        for number in range(3):
-            tied.allow()
-            life.round(removing)
-            assert life is not tied.instance or not removing or number == 0 or life.state in (None, "gone")
+        three_rounds(tied, life, removing)
 
 
 ROUNDS = {"settle": settle, "remove": remove}
+
+
+def has_rounds(line: str) -> bool:
+    """Whether a line lets rounds without a fault pass."""
+    return line.partition(" ")[0] in ROUNDS
+
 
 DISTURBING = {"put-off", "crash-broker", "crash-platform", "timeout", "gateway", "garbled"}
 
@@ -111,15 +124,24 @@ class Walk:
         self.begun = Step(line, f"new: {self.tied.words()}")
 
     def happen(self, line: str) -> Step:
-        if line in ROUNDS:
-            happens = self.tied.rules.platform
-            if happens:
-                ROUNDS[line](self.tied)
-            return Step(line, f"{line.rstrip('e') + 'ed' if happens else 'skipped'}: {self.tied.words()}")
+        if has_rounds(line):
+            what = self.let_pass(line)
+            return Step(line, f"{what}: {self.tied.words()}")
         life, _ = self.tied.named(line)
         given = len(life.given)
         what = "applied" if self.tied.happen(line) else "skipped"
         return Step(line, f"{what}: {self.tied.words()} # {'; '.join(life.more_words(given))}")
+
+    def let_pass(self, line: str) -> str:
+        """Lets the rounds of a line pass. Returns whether they do, as a word."""
+        word, _, number = line.partition(" ")
+        if not self.tied.rules.platform or number and int(number) > len(self.tied.bindings):
+            return "skipped"
+        if number:
+            three_rounds(self.tied, self.tied.bindings[int(number) - 1], word == "remove")
+        else:
+            ROUNDS[word](self.tied)
+        return f"{word}d"
 
     def is_over(self) -> bool:
         """Whether nothing is recorded any more but what is gone."""
@@ -129,8 +151,11 @@ class Walk:
 
     def next(self) -> str:
         """An event, which is likely to apply."""
-        if self.draw.random() < 0.01:
+        rounds = self.draw.random()
+        if rounds < 0.01:
             return "remove" if self.draw.random() < 0.1 else "settle"
+        if rounds < 0.02:
+            return f"{self.draw.choice(list(ROUNDS))} {self.draw.randint(1, len(self.tied.bindings) + 1)}"
         self.tied.allow()
         some = self.draw.random() < 0.1
         found = []

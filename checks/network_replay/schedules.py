@@ -7,7 +7,7 @@ from collections.abc import Iterator
 
 from binding.cells import ORDERS
 from binding.model import Order, new_binding
-from binding.walks import MADE, ROUNDS, Walk
+from binding.walks import MADE, Walk, has_rounds
 from network_replay.language import LONGEST_LINE, NUMBERS
 from network_replay.reference import RULES
 
@@ -113,7 +113,7 @@ class Instance:
         if not self.made and many < 3 and self.draw.random() < (0.02 if many else 0.3):
             return self.take_in()
         line = f"instance {self.made.pop(0)}" if self.made else self.walk.next()
-        while line in ROUNDS or " gateway " in line and not 500 <= int(line.rpartition(" ")[2]) <= 599:
+        while has_rounds(line) or " gateway " in line and not 500 <= int(line.rpartition(" ")[2]) <= 599:
             line = self.walk.next()
         self.walk.tied.happen(line)
         whose, _, event = line.partition(" ")

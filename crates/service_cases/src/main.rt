@@ -5,6 +5,7 @@
 //! - `EVENT` happens (`events.rt`).
 //! - `settle`: the instance converges, and then each binding.
 //! - `remove`: the instance converges, each binding is removed, and then the instance.
+//! - `settle NUMBER` and `remove NUMBER`: the binding with this number alone, from 1.
 //! - `run SIDES: ORDER; ORDER ..: EVENT, EVENT ..` begins anew, and lets all of these events happen in one call.
 //!
 //! The line is written again. Behind it, after two blanks, stand what became of the event, and all that exists then
@@ -71,6 +72,24 @@ fn remove(alloc: Global, service: &mut Service) -> Result<&'static str> {
     }
 }
 
+// Lets three rounds without a fault pass of one binding.
+fn settle_one(alloc: Global, service: &mut Service, number: &str) -> Result<&'static str> {
+    let number = number.parse().ok().context("no number")?;
+    match service.lives.settle_binding(alloc, id_of(number))? {
+        Step::Applied => Ok("settled"),
+        Step::Skipped => Ok("skipped"),
+    }
+}
+
+// Lets three rounds pass in which one binding is removed.
+fn remove_one(alloc: Global, service: &mut Service, number: &str) -> Result<&'static str> {
+    let number = number.parse().ok().context("no number")?;
+    match service.lives.remove_binding(alloc, id_of(number))? {
+        Step::Applied => Ok("removed"),
+        Step::Skipped => Ok("skipped"),
+    }
+}
+
 // Lets an event happen that a line names.
 fn happen(alloc: Global, service: &mut Service, line: &str) -> Result<&'static str> {
     if line == "settle" {
@@ -78,6 +97,12 @@ fn happen(alloc: Global, service: &mut Service, line: &str) -> Result<&'static s
     }
     if line == "remove" {
         return remove(alloc, service);
+    }
+    if let Some(number) = line.strip_prefix("settle ") {
+        return settle_one(alloc, service, number);
+    }
+    if let Some(number) = line.strip_prefix("remove ") {
+        return remove_one(alloc, service, number);
     }
     let step = service.lives.step(alloc, events::event(line)?)?;
     Ok(step_word(step))
