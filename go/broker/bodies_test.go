@@ -110,3 +110,22 @@ func TestParsedAtOnce(t *testing.T) {
 		t.Errorf("got %v, want an error that names 999 bytes", err)
 	}
 }
+
+func TestBodiesAtOnce(t *testing.T) {
+	for longest, want := range map[int]int{1: 16 << 20, 256 << 10: 16 << 20, 4 << 20: 16 << 20, 5 << 20: 20 << 20} {
+		if got := broker.BodiesAtOnce(longest); got != want {
+			t.Errorf("%d: got %d, want %d", longest, got, want)
+		}
+	}
+}
+
+// The memory of a large body is returned once the body was parsed, and its request is carried out.
+func TestALargeBody(t *testing.T) {
+	s := twoUsers(t)
+	s.LongestBody = 64 << 10
+	s.SetBudgets(1<<20, 64<<10)
+	body := bodyOf(now, `,"parameters":{"a":"`+strings.Repeat("a", 40<<10)+`"}`)
+	for _, want := range []int{201, 200} {
+		s.expect(t, want, "PUT", instances+"i", body)
+	}
+}
