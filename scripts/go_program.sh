@@ -27,11 +27,14 @@ run_go_program() {
     exec "$program" "$@" || fail "can't run $program"
 }
 
-# is_current: whether the program is built from the sources as they stand. It sets $digest to theirs.
+# is_current: whether the program is the one that was built here, from the sources as they stand. It sets $digest to
+# theirs. The file .digest has that, and the digest of the program itself.
 is_current() {
-    local was
+    local was itself
     digest=$(digest_of_program) && digest=${digest%% *} || fail "can't read the sources in go/"
-    [ -x "$program" ] && read -r was 2>/dev/null <"$program.digest" && [ "$was" = "$digest" ]
+    [ -x "$program" ] && { read -r was && read -r itself; } 2>/dev/null <"$program.digest" &&
+        [ "$was" = "$digest" ] || return
+    [ "$itself" = "$(sha256sum <"$program")" ] || { say "$program isn't what was built here" && return 1; }
 }
 
 # digest_of_program: prints a SHA-256 over the sources of the program but their tests, over each archive of the library
@@ -88,7 +91,8 @@ compile() {
     LIBOSB_FOLDER=$1 setpriv --pdeathsig TERM "$top/scripts/go" build -trimpath -o "$new" \
         -tags 'libsqlite3 netgo osusergo sqlite_omit_load_extension' -ldflags "-buildid= $static" "./cmd/$who" \
         </dev/null >"$program.log" 2>&1 9<&- || { cat "$program.log" >&2 && return 1; }
-    mv -f "$new" "$program" && echo "$digest" >"$new.digest" && mv -f "$new.digest" "$program.digest"
+    { echo "$digest" && sha256sum <"$new"; } >"$new.digest" && mv -f "$new" "$program" &&
+        mv -f "$new.digest" "$program.digest"
 }
 
 # can_link_statically: whether the C compiler finds an archive of each library. The build overwrites what it links.

@@ -192,7 +192,7 @@ KINDS: dict[str, Schema] = {
             ingress=several(
                 fields("from ports", **{"from": several(fields("", namespaceSelector=LABELS))}, ports=POLICY_PORTS)
             ),
-            egress=several(fields("ports", ports=POLICY_PORTS)),
+            egress=several(fields("ports", to=several(fields("", namespaceSelector=LABELS)), ports=POLICY_PORTS)),
         ),
     ),
     "Kustomization": fields(

@@ -382,3 +382,12 @@ def test_the_broker_starts_over_its_store_only() -> None:
     (broker,) = workloads("osb-broker")
     assert "--existing" in program(broker)["args"]
     assert option(program(broker), "first-poll") is None
+
+
+@pytest.mark.parametrize("folder", ["osb-broker", "osb-platform"])
+def test_dns_is_that_of_the_cluster(folder: str) -> None:
+    """A pod reaches port 53 in one namespace, and not at every address."""
+    (policy,) = yaml.safe_load_all((KUBERNETES / folder / "networkpolicy.yaml").read_text())
+    rules = [it for it in policy["spec"]["egress"] if any(port["port"] == 53 for port in it["ports"])]
+    (rule,) = rules
+    assert rule["to"] == [{"namespaceSelector": {"matchLabels": {"kubernetes.io/metadata.name": "kube-system"}}}]

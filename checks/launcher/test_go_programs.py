@@ -86,6 +86,17 @@ def test_built_again(repository: GoRepository, change: Callable[[GoRepository], 
     assert len(repository.go_builds()) == 2
 
 
+def test_another_program_in_its_place(repository: GoRepository) -> None:
+    """It isn't run: the launcher reports it, and builds the program again."""
+    serve(repository)
+    repository.program.write_text("#!/bin/sh\necho foreign\n")
+    reported = f"{repository.name}: {repository.program} isn't what was built here\n"
+    status, out, err = serve(repository)
+    assert (status, out) == (9, says("first"))
+    assert err == reported * err.count(reported) + builds(repository) and reported in err
+    assert serve(repository) == (9, says("first"), "")
+
+
 def test_what_changes_no_source_builds_nothing(repository: GoRepository) -> None:
     """A test, and the place of the checkout. The program needs nothing else of the checkout."""
     serve(repository)
