@@ -16,10 +16,15 @@ _SILENT = 120  # more connections than the page has at once
 
 
 def test_silent_connections(storm: Shown) -> None:
-    """They keep nobody from the page for long, and are closed."""
+    """They keep nobody from the page for long, and are closed. They come from six addresses, since each may have a
+    quarter of the page's connections.
+    """
     host, _, port = storm.url[len("http://") : -1].rpartition(":")
     with contextlib.ExitStack() as stack:
-        silent = [stack.enter_context(socket.create_connection((host, int(port)), 30.0)) for _ in range(_SILENT)]
+        silent = [
+            stack.enter_context(socket.create_connection((host, int(port)), 30.0, (f"127.0.0.{2 + number % 6}", 0)))
+            for number in range(_SILENT)
+        ]
         began = time.monotonic()
         assert get(storm.url).status == 200
         assert all(it.recv(1) == b"" for it in silent)
