@@ -1,6 +1,7 @@
 package broker_test
 
 import (
+	"context"
 	"io"
 	"net/http"
 	"strings"
@@ -106,7 +107,7 @@ func TestParsedAtOnce(t *testing.T) {
 	s := twoUsers(t)
 	config := s.Config
 	config.ParsedAtOnce = config.LongestBody - 1
-	if _, err := broker.NewHandler(nil, nil, config); err == nil || !strings.Contains(err.Error(), "999 bytes") {
+	if _, err := broker.NewHandler(context.Background(), nil, config); err == nil || !strings.Contains(err.Error(), "999 bytes") {
 		t.Errorf("got %v, want an error that names 999 bytes", err)
 	}
 }

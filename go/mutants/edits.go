@@ -44,7 +44,7 @@ func readEdit(path string) (edit, error) {
 	head, body, isWhole := strings.Cut("\n"+string(text), "\nold:")
 	old, new, isChanged := strings.Cut(body, "\nnew:")
 	if !isWhole || !isChanged {
-		return edit{}, fmt.Errorf("%s: it needs the lines old: and new:", path)
+		return edit{}, fmt.Errorf("%s: it needs the lines `old:` and `new:`", path)
 	}
 	e.old, e.new = strings.Trim(old, " \n"), strings.Trim(new, " \n")
 	for _, line := range strings.Split(head, "\n") {

@@ -264,7 +264,7 @@ func TestEmptyDatabase(t *testing.T) {
 	}
 	t.Setenv(passwordVariable, "")
 	for _, arguments := range ofExistingStores(t) {
-		check(t, address, []line{{arguments, 2, ``, noStore}})
+		check(t, address, []line{{arguments, 78, ``, noStore}})
 	}
 	var relations int
 	query := "SELECT count(*) FROM pg_class WHERE relnamespace = '" + schema + "'::regnamespace"

@@ -2,7 +2,6 @@ package api
 
 import (
 	"encoding/json"
-	"fmt"
 	"reflect"
 	"strings"
 	"testing"
@@ -70,7 +69,7 @@ func TestPrintable(t *testing.T) {
 	if got := string(printable([]byte("\"\x9b\xff\""))); got != `"\ufffd\ufffd"` {
 		t.Errorf("bytes that aren't UTF-8: got %q", got)
 	}
-	if got := fmt.Sprintf("%s", printable([]byte("{\n \"\u00e4\": 1\t}\n"))); got != "{\n \"\u00e4\": 1\t}\n" {
+	if got := string(printable([]byte("{\n \"\u00e4\": 1\t}\n"))); got != "{\n \"\u00e4\": 1\t}\n" {
 		t.Errorf("what is printable has changed: %q", got)
 	}
 }

@@ -35,9 +35,8 @@ func (r *recorder) Failed(failure broker.Failure) {
 	r.failures = append(r.failures, failure)
 }
 
-// rejected returns the statuses of the exchanges, which have to be of the address 127.0.0.1, once there are so many: an
-// answer is sent before the observer is told.
-func (r *recorder) rejected(t *testing.T, count int) []int {
+// answered returns the exchanges, once there are so many: an answer is sent before the observer is told.
+func (r *recorder) answered(t *testing.T, count int) []broker.Exchange {
 	t.Helper()
 	waitUntil(t, "what the observer is told", func() bool {
 		r.mutex.Lock()
@@ -46,8 +45,14 @@ func (r *recorder) rejected(t *testing.T, count int) []int {
 	})
 	r.mutex.Lock()
 	defer r.mutex.Unlock()
+	return append([]broker.Exchange(nil), r.exchanges...)
+}
+
+// rejected returns the statuses of the exchanges, which have to be of the address 127.0.0.1, once there are so many.
+func (r *recorder) rejected(t *testing.T, count int) []int {
+	t.Helper()
 	var statuses []int
-	for _, exchange := range r.exchanges {
+	for _, exchange := range r.answered(t, count) {
 		if exchange.Route != "other" || exchange.Address != "127.0.0.1" {
 			t.Errorf("an exchange of route %q and address %q", exchange.Route, exchange.Address)
 		}

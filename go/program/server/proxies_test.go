@@ -176,7 +176,7 @@ func TestBadPROXYHeaders(t *testing.T) {
 			if got := statusesIn(client.rest()); !reflect.DeepEqual(got, []string{"400"}) {
 				t.Errorf("got the answers %v, want 400", got)
 			}
-			if got := observer.exchanges; len(got) != 1 || got[0].Status != 400 {
+			if got := observer.answered(t, 1); len(got) != 1 || got[0].Status != 400 {
 				t.Errorf("the observer got %v, want 400", got)
 			}
 		})
