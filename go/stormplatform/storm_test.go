@@ -44,7 +44,9 @@ func stormed(t *testing.T, config Config, wrong mistakes, isListed bool) *Report
 	m.folder = lists
 	m.write()
 	ctx, cancel := context.WithCancel(context.Background())
-	sending, stop := context.WithTimeout(ctx, config.Time)
+	// The last life has ended when the faults end. A request after that could come once the storm has seen that all is
+	// settled.
+	sending, stop := context.WithTimeout(ctx, config.Time*7/10)
 	m.run(ctx, sending)
 	report := storm.Run(context.Background())
 	stop()
