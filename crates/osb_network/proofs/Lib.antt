@@ -13,3 +13,4 @@ pub mod Many
 pub mod PartWay
 pub mod Says
 pub mod Alone
+pub mod Gone

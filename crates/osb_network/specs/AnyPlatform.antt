@@ -223,6 +223,10 @@ pub record IsPromised (cell : AnyCell) : Type 0 where
   -- a resource exists only if the broker holds a row or pending work
   pub held : cell.held.row ≡ None → cell.held.work ≡ None → cell.resource ≡ Absent
 
+-- what was reported gone counts for good: so of such an instance there is nothing, ever again
+abbrev pub StaysGone : AnyCell → AnyCell → Type 0
+StaysGone before after = before.told.gone ≡ true → after.told.gone ≡ true
+
 -- ---- what can come about
 
 -- the row's plan is on sale, and a synchronous plan's row is ready

@@ -1,7 +1,7 @@
 //! A broker alone, and any platform.
-ghost use Rattle.std.specs.Prelude.{◌≡◌, All, Ok, true, false, IfOk, IsOk, OnOk, OnErr};
-ghost use Rattle.osb_network.specs.AnyPlatform.{IsAlone, IsPromised, any_applies, any_empty, any_step, any_steps};
-ghost use Rattle.osb_network.specs.AnyPlatform.{any_takes_memory};
+ghost use Rattle.std.specs.Prelude.{◌≡◌, ℕ, All, Ok, true, false, IfOk, IsOk, OnOk, OnErr, take};
+ghost use Rattle.osb_network.specs.AnyPlatform.{IsAlone, IsPromised, StaysGone, any_applies, any_empty, any_step};
+ghost use Rattle.osb_network.specs.AnyPlatform.{any_steps, any_takes_memory};
 ghost use Rattle.osb_network.specs.Steps.{step_of};
 
 use crate::any_parts::AnyParts;
@@ -17,7 +17,7 @@ pub struct Told {
     /// It is ready: a Provision was answered with 200 or 201, or a Poll with `succeeded` while no Deprovision was
     /// accepted; and no Deprovision has arrived since.
     pub ready: bool,
-    /// It is gone: a Deprovision was answered with 200 or 410, or a Poll with 410 after one was accepted.
+    /// It is gone: a Deprovision was answered with 200 or 410, or a Poll with 410 after one was accepted. This stays so.
     pub gone: bool,
     /// A Deprovision was accepted: answered with 202.
     pub leaving: bool,
@@ -69,9 +69,10 @@ pub enum BrokerEvent {
 /// One instance at a broker, and any platform: what the broker sells and holds, the resource in the backend, and what
 /// the broker has reported (this project's choice, and so are its calls).
 ///
-/// Whatever happens, the promises hold (`IsPromised`, in `specs/AnyPlatform.antt`): what was reported ready is whole
-/// until a Deprovision arrives; of what was reported gone there is no resource, no row and no pending work; with the
-/// rule of the first Poll, a resource of an asynchronous plan exists only if the instance was polled.
+/// Whatever happens, the promises hold (`IsPromised` and `StaysGone`, in `specs/AnyPlatform.antt`): what was reported
+/// ready is whole until a Deprovision arrives; of what was reported gone there is no resource, no row and no pending
+/// work, ever again; with the rule of the first Poll, a resource of an asynchronous plan exists only if the instance was
+/// polled.
 #[derive(Drop)]
 pub struct AnyPlatform {
     parts: AnyParts,
@@ -113,6 +114,7 @@ impl AnyPlatform {
         ensures err { OnErr result (self.new ≡ self.old) }
         ensures no_memory { any_takes_memory event ≡ false → IsOk result }
         ensures promised { IsPromised self.new }
+        ensures stays_gone { StaysGone self.old self.new }
     {
         self.parts.step(alloc, event)
     }
@@ -147,7 +149,8 @@ impl AnyPlatform {
 }
 
 /// What becomes of an instance at a broker once these events have happened, one after another. For every list of events
-/// the promises hold, also if memory runs out (this project's choice).
+/// the promises hold, and what was reported gone after the first few of them still counts after all, also if memory runs
+/// out (this project's choice).
 ///
 /// # Errors
 ///
@@ -162,6 +165,9 @@ pub fn run_any(
     ensures no_memory { All (λ event. any_takes_memory event ≡ false) events.now → IsOk result }
     ensures promised { IfOk result (λ any. IsPromised any) }
     ensures always { IsPromised (any_steps (any_empty catalogue first_poll) events.now) }
+    ensures stays_gone { (count : ℕ) → StaysGone
+        (any_steps (any_empty catalogue first_poll) (take count events.now))
+        (any_steps (any_empty catalogue first_poll) events.now) }
 {
     let mut any = AnyPlatform::new(catalogue, first_poll);
     for event in events {
