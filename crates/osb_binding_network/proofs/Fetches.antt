@@ -129,18 +129,29 @@ pub lived_well : {T E : Type 0} (x : Result T E) (c n : BindingCell) (e : Event)
 lived_well (Ok y) c n e v ok err h = subst IsWell (sym ok) (well_lived c e v h)
 lived_well (Err y) c n e v ok err h = subst IsWell (sym err) h
 
--- ---- no tombstone is deleted
+-- ---- no tombstone is deleted, and the binding can be fetched if it could be
 
-pub same_forgotten : (t : Bool) (a c : BindingCell) → a.forgotten ≡ c.forgotten → (if t then a else c).forgotten ≡ c.forgotten
-same_forgotten true a c e = e
-same_forgotten false a c e = refl
+pub same_in : {A : Type 0} (part : BindingCell → A) (t : Bool) (a c : BindingCell) → part a ≡ part c
+    → part (if t then a else c) ≡ part c
+same_in part true a c e = e
+same_in part false a c e = refl
 
 pub taken_forgotten : (c : BindingCell) (at : ℕ) (x : Option ℕ) → (taken_with c at x).forgotten ≡ c.forgotten
 taken_forgotten c at None = refl
-taken_forgotten c at (Some x) = same_forgotten (needs_fetch c.life at) _ c refl
+taken_forgotten c at (Some x) = same_in (λ (x : BindingCell). x.forgotten) (needs_fetch c.life at) _ c refl
 
 pub fetched_forgotten : (c d n : BindingCell) (at of : ℕ) → d ≡ fetch_arrived c
     → n ≡ taken_with d at (slice_get d.fetched of) → n.forgotten ≡ c.forgotten
 fetched_forgotten c d n at of arrived taken =
     ap (λ (x : BindingCell). x.forgotten) taken ∙ taken_forgotten d at (slice_get d.fetched of)
-    ∙ ap (λ (x : BindingCell). x.forgotten) arrived ∙ same_forgotten (is_fetchable c.life.held) _ c refl
+    ∙ ap (λ (x : BindingCell). x.forgotten) arrived ∙ same_in (λ (x : BindingCell). x.forgotten) (is_fetchable c.life.held) _ c refl
+
+taken_retrievable : (c : BindingCell) (at : ℕ) (x : Option ℕ) → (taken_with c at x).retrievable ≡ c.retrievable
+taken_retrievable c at None = refl
+taken_retrievable c at (Some x) = same_in (λ (x : BindingCell). x.retrievable) (needs_fetch c.life at) _ c refl
+
+pub fetched_retrievable : (c d n : BindingCell) (at of : ℕ) → d ≡ fetch_arrived c
+    → n ≡ taken_with d at (slice_get d.fetched of) → n.retrievable ≡ c.retrievable
+fetched_retrievable c d n at of arrived taken =
+    ap (λ (x : BindingCell). x.retrievable) taken ∙ taken_retrievable d at (slice_get d.fetched of)
+    ∙ ap (λ (x : BindingCell). x.retrievable) arrived ∙ same_in (λ (x : BindingCell). x.retrievable) (is_fetchable c.life.held) _ c refl

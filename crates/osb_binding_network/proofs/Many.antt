@@ -36,7 +36,7 @@ use Rattle.osb_binding_network.specs.Well.{IsWell}
 use Rattle.osb_binding_network.proofs.Bindings.{kept_step_binding}
 use Rattle.osb_binding_network.proofs.Credentials.{credentials_agree, well_empty, well_step}
 use Rattle.osb_binding_network.proofs.Ended.{ended_by, tombstone_stays}
-use Rattle.osb_binding_network.proofs.Fetches.{same_forgotten, taken_forgotten}
+use Rattle.osb_binding_network.proofs.Fetches.{same_in, taken_forgotten}
 use Rattle.osb_binding_network.proofs.Kept.{instance_after, kept_instance, related_empty}
 use Rattle.osb_binding_network.proofs.PutOff.{puts_off_rightly}
 use Rattle.osb_binding_network.proofs.Rounds.{All, IsByEvents, KeepsBinding, KeepsInstance}
@@ -127,7 +127,7 @@ forgotten_after : (create work ended : Bool) (b : BindingCell) (e : BindingEvent
 forgotten_after create work ended b (BindingEvent.Life e x) P now was gone =
     was (sym (forgotten_lived b (of_binding create work b.forgotten b.retrievable b.life e) x) ∙ gone)
 forgotten_after create work ended b BindingEvent.Fetch P now was gone =
-    was (sym (same_forgotten (is_fetchable b.life.held) _ b refl) ∙ gone)
+    was (sym (same_in (λ (x : BindingCell). x.forgotten) (is_fetchable b.life.held) _ b refl) ∙ gone)
 forgotten_after create work ended b (BindingEvent.TakeFetched at of) P now was gone =
     was (sym (taken_forgotten b at (slice_get b.fetched of)) ∙ gone)
 forgotten_after create work ended b BindingEvent.Forget P now was gone =

@@ -13,6 +13,8 @@ pub record IsSettledTo {T E : Type 0} (result : Result T E) (old new : BindingCe
   pub err : OnErr result (IsPartWay settling_events old.life new.life)
   -- a tombstone is deleted in none of them
   pub forgotten : new.forgotten ≡ old.forgotten
+  -- and the binding can be fetched if it could be
+  pub retrievable : new.retrievable ≡ old.retrievable
   -- it has converged then
   pub settled : HasNumbers 3 old.life → OnOk result (IsSettled new.life)
 
@@ -28,7 +30,9 @@ pub record IsRemovedTo {T E : Type 0} (result : Result T E) (old new : BindingCe
   pub err : OnErr result (IsPartWay removing_events old.life new.life)
   -- a tombstone is deleted in none of them
   pub forgotten : new.forgotten ≡ old.forgotten
-  -- it is gone then
+  -- and the binding can be fetched if it could be
+  pub retrievable : new.retrievable ≡ old.retrievable
+  -- the platform records it gone then, or nothing
   pub removed : HasNumbers 3 old.life → OnOk result (IsRemoved new.life)
 
 -- a binding that is there is removed; without one nothing happens
@@ -46,7 +50,8 @@ HasFiveRounds s =
 
 -- what five rounds make of an instance and its bindings, whatever state they are in
 pub record AreRemovedInFive (s : ServiceCells) : Type 0 where
-  -- in three, the instance is settled, and each binding is removed: it is gone then, and lets the instance be removed
+  -- in three, the instance is settled, and each binding is removed: the platform records it gone then, or nothing, and it
+  -- lets the instance be removed
   pub gone : (id : ℕ) → IfSome (map.get s.bindings id) (λ b. IsRemoved (removed_cell b.life))
   pub may : (id : ℕ) → IfSome (map.get s.bindings id) (λ b. may_remove s.rules (removed_cell b.life) ≡ true)
   -- in two more, the instance is removed

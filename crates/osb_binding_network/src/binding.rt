@@ -75,6 +75,7 @@ impl ServiceBinding {
         ensures err { OnErr result (IsPartWay settling_events self.old.life self.new.life) }
         ensures well { IsWell self.new }
         ensures forgotten { self.new.forgotten ≡ self.old.forgotten }
+        ensures retrievable { self.new.retrievable ≡ self.old.retrievable }
         ensures settled { HasNumbers 3 self.old.life → OnOk result (IsSettled self.new.life) }
     {
         self.agreement();
@@ -87,6 +88,7 @@ impl ServiceBinding {
         ensures err { OnErr result (IsPartWay removing_events self.old.life self.new.life) }
         ensures well { IsWell self.new }
         ensures forgotten { self.new.forgotten ≡ self.old.forgotten }
+        ensures retrievable { self.new.retrievable ≡ self.old.retrievable }
         ensures removed { HasNumbers 3 self.old.life → OnOk result (IsRemoved self.new.life) }
     {
         self.agreement();

@@ -253,6 +253,7 @@ impl BindingParts {
         ensures err { OnErr result (self.new.life ≡ self.old.life) }
         ensures well { IsWell self.old → IsWell self.new }
         ensures forgotten { self.new.forgotten ≡ self.old.forgotten }
+        ensures retrievable { self.new.retrievable ≡ self.old.retrievable }
     {
         self.live(alloc, event, chosen)?;
         Ok(())
@@ -264,6 +265,7 @@ impl BindingParts {
         ensures err { OnErr result (self.new.life ≡ self.old.life) }
         ensures well { IsWell self.old → IsWell self.new }
         ensures forgotten { self.new.forgotten ≡ self.old.forgotten }
+        ensures retrievable { self.new.retrievable ≡ self.old.retrievable }
     {
         let event = self.life.good_work();
         self.lives(alloc, event, self.resource)
@@ -275,6 +277,7 @@ impl BindingParts {
         ensures err { OnErr result (IsPartWay work_events self.old.life self.new.life) }
         ensures well { IsWell self.old → IsWell self.new }
         ensures forgotten { self.new.forgotten ≡ self.old.forgotten }
+        ensures retrievable { self.new.retrievable ≡ self.old.retrievable }
     {
         self.go_well(alloc)?;
         let outcome = WorkOutcome::Done;
@@ -287,6 +290,7 @@ impl BindingParts {
         ensures err { OnErr result (IsPartWay operation_events self.old.life self.new.life) }
         ensures well { IsWell self.old → IsWell self.new }
         ensures forgotten { self.new.forgotten ≡ self.old.forgotten }
+        ensures retrievable { self.new.retrievable ≡ self.old.retrievable }
     {
         self.go_well(alloc)?;
         self.lives(alloc, Event::Finish { ok: true }, 0)
@@ -298,6 +302,7 @@ impl BindingParts {
         ensures err { OnErr result (self.new.life ≡ self.old.life) }
         ensures well { IsWell self.old → IsWell self.new }
         ensures forgotten { self.new.forgotten ≡ self.old.forgotten }
+        ensures retrievable { self.new.retrievable ≡ self.old.retrievable }
     {
         let event = self.life.arrival();
         self.lives(alloc, event, 0)
@@ -317,6 +322,7 @@ impl BindingParts {
         ensures err { OnErr result (self.new.life ≡ self.old.life) }
         ensures well { IsWell self.old → IsWell self.new }
         ensures forgotten { self.new.forgotten ≡ self.old.forgotten }
+        ensures retrievable { self.new.retrievable ≡ self.old.retrievable }
     {
         self.life.agreement();
         self.fetch()?;
@@ -331,6 +337,7 @@ impl BindingParts {
         ensures err { OnErr result (self.new.life ≡ self.old.life) }
         ensures well { IsWell self.old → IsWell self.new }
         ensures forgotten { self.new.forgotten ≡ self.old.forgotten }
+        ensures retrievable { self.new.retrievable ≡ self.old.retrievable }
     {
         let at = self.life.given().len().saturating_sub(1);
         if needs_fetch(&self.life, at) {
@@ -345,6 +352,7 @@ impl BindingParts {
         ensures err { OnErr result (IsPartWay free_events self.old.life self.new.life) }
         ensures well { IsWell self.old → IsWell self.new }
         ensures forgotten { self.new.forgotten ≡ self.old.forgotten }
+        ensures retrievable { self.new.retrievable ≡ self.old.retrievable }
     {
         self.work_well(alloc)?;
         self.operate_well(alloc)?;
@@ -360,6 +368,7 @@ impl BindingParts {
         ensures err { OnErr result (IsPartWay round_events self.old.life self.new.life) }
         ensures well { IsWell self.old → IsWell self.new }
         ensures forgotten { self.new.forgotten ≡ self.old.forgotten }
+        ensures retrievable { self.new.retrievable ≡ self.old.retrievable }
     {
         self.lives(alloc, Event::Timeout, 0)?;
         self.go_free(alloc)
@@ -371,6 +380,7 @@ impl BindingParts {
         ensures err { OnErr result (IsPartWay removing_round_events self.old.life self.new.life) }
         ensures well { IsWell self.old → IsWell self.new }
         ensures forgotten { self.new.forgotten ≡ self.old.forgotten }
+        ensures retrievable { self.new.retrievable ≡ self.old.retrievable }
     {
         self.lives(alloc, Event::Timeout, 0)?;
         self.lives(alloc, Event::Remove, 0)?;
@@ -383,6 +393,7 @@ impl BindingParts {
         ensures err { OnErr result (IsPartWay settling_events self.old.life self.new.life) }
         ensures well { IsWell self.old → IsWell self.new }
         ensures forgotten { self.new.forgotten ≡ self.old.forgotten }
+        ensures retrievable { self.new.retrievable ≡ self.old.retrievable }
     {
         self.round(alloc)?;
         self.round(alloc)?;
@@ -396,6 +407,7 @@ impl BindingParts {
         ensures err { OnErr result (IsPartWay removing_events self.old.life self.new.life) }
         ensures well { IsWell self.old → IsWell self.new }
         ensures forgotten { self.new.forgotten ≡ self.old.forgotten }
+        ensures retrievable { self.new.retrievable ≡ self.old.retrievable }
     {
         self.removing_round(alloc)?;
         self.removing_round(alloc)?;

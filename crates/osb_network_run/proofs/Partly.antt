@@ -56,7 +56,11 @@ instance_partly false old new skipped part = (skipped refl).1
 
 binding_same : (platform : Bool) (o : Option BindingCell) → IsPartlySettledBy platform o o
 binding_same true None = tt
-binding_same true (Some b) = record { life = no_event settling_events b.life b.life refl; forgotten = refl }
+binding_same true (Some b) = record {
+  life = no_event settling_events b.life b.life refl;
+  forgotten = refl;
+  retrievable = refl;
+}
 binding_same false o = refl
 
 binding_settled : (platform : Bool) (old new : Option BindingCell) → IsSettledBy platform old new
@@ -65,6 +69,7 @@ binding_settled true None None h = tt
 binding_settled true (Some old) (Some new) h = record {
   life = each_event settling_events old.life new.life (h.life ∙ settles_by_events old.life);
   forgotten = h.forgotten;
+  retrievable = h.retrievable;
 }
 binding_settled true None (Some new) h = h
 binding_settled true (Some old) None h = h
@@ -77,6 +82,7 @@ binding_partly y true None None skipped here = tt
 binding_partly y true (Some old) (Some new) skipped here = record {
   life = some_events settling_events old.life new.life (here refl).err;
   forgotten = (here refl).forgotten;
+  retrievable = (here refl).retrievable;
 }
 binding_partly y true None (Some new) skipped here = here refl
 binding_partly y true (Some old) None skipped here = here refl

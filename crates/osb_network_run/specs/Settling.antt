@@ -48,10 +48,11 @@ abbrev pub IsPartlySettledIf : Bool → Cell → Cell → Type 0
 IsPartlySettledIf true old new = IsAfterSome settling_events old new
 IsPartlySettledIf false old new = new ≡ old
 
--- the first few events of the three rounds of a binding, and no tombstone was deleted
+-- the first few events of the three rounds of a binding, no tombstone was deleted, and it can be fetched if it could be
 pub record IsPartlySettledTo (old new : BindingCell) : Type 0 where
   pub life : IsAfterSome settling_events old.life new.life
   pub forgotten : new.forgotten ≡ old.forgotten
+  pub retrievable : new.retrievable ≡ old.retrievable
 
 -- of a binding, if there is one and the platform keeps its rules, and else nothing
 abbrev pub IsPartlySettledBy : Bool → Option BindingCell → Option BindingCell → Type 0
