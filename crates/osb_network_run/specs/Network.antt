@@ -3,7 +3,7 @@ use Rattle.std.specs.Prelude.{ℕ, Bool, false, Option, Some, None, option_map, 
 use Rattle.std.specs.FinMap as map
 use Rattle.std.specs.Ordering.{nat_cmp}
 use Rattle.osb_binding_network.specs.Binding.{BindingCell}
-use Rattle.osb_binding_network.specs.Happening.{service_applies}
+use Rattle.osb_binding_network.specs.Happening.{service_applies, service_takes_memory}
 use Rattle.osb_binding_network.specs.Service.{ServiceCells, binding_after, instance_by, ordered}
 use Rattle.osb_binding_network.specs.declared.event.ServiceEvent.{ServiceEvent}
 use Rattle.osb_binding_network.specs.declared.rules.Rules.{Rules}
@@ -63,3 +63,14 @@ some_applies (Some service) event = service_applies service event
 abbrev pub network_applies : Services → NetworkEvent → Bool
 network_applies services (NetworkEvent.Instance order rules) = is_none (map.get services order.id)
 network_applies services (NetworkEvent.Happening id event) = some_applies (map.get services id) event
+
+-- ---- whether it may ask for memory
+
+abbrev pub some_takes_memory : Option ServiceCells → ServiceEvent → Bool
+some_takes_memory None event = false
+some_takes_memory (Some service) event = service_takes_memory service event
+
+-- an instance that is taken in asks for some, and the event of one that was taken in if it does there
+abbrev pub network_takes_memory : Services → NetworkEvent → Bool
+network_takes_memory services (NetworkEvent.Instance order rules) = is_none (map.get services order.id)
+network_takes_memory services (NetworkEvent.Happening id event) = some_takes_memory (map.get services id) event

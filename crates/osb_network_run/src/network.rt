@@ -1,10 +1,11 @@
 //! The instances that were taken in, each with its bindings.
-ghost use Rattle.std.specs.Prelude.{◌≡◌, ◌≢◌, ℕ, IfOk, OnErr, OnOk, IfSome, None, option_copied, option_map, is_none};
+ghost use Rattle.std.specs.Prelude.{◌≡◌, ◌≢◌, ℕ, false, IfOk, IsOk, OnErr, OnOk, IfSome, None, option_copied, option_map};
+ghost use Rattle.std.specs.Prelude.{is_none};
 ghost use Rattle.std.specs.BTreeMap as tree;
 ghost use Rattle.std.specs.FinMap as finite;
 ghost use Rattle.std.specs.Ordering.{nat_cmp};
 ghost use Rattle.osb_binding_network.specs.Agreement.{ServiceAgrees};
-ghost use Rattle.osb_binding_network.specs.Happening.{service_applies};
+ghost use Rattle.osb_binding_network.specs.Happening.{service_applies, service_takes_memory};
 ghost use Rattle.osb_network.specs.Steps.{step_of};
 ghost use Rattle.osb_network_run.specs.Network as spec;
 ghost use Rattle.osb_network_run.specs.Settling.{SettlesEach, SettlesPartly};
@@ -50,6 +51,7 @@ fn step_service(
     ensures service { OnOk result (service.new ≡ spec.service_by service.old event) }
     ensures applied { IfOk result (λ s. s ≡ step_of (service_applies service.old event)) }
     ensures err { OnErr result (service.new ≡ service.old) }
+    ensures no_memory { service_takes_memory service.old event ≡ false → IsOk result }
 {
     service.step(alloc, event)
 }
@@ -67,6 +69,7 @@ fn step_at(
         → tree.get nat_cmp services.new other ≡ tree.get nat_cmp services.old other }
     ensures applied { IfOk result (λ s. s ≡ step_of (spec.some_applies (tree.get nat_cmp services.old id) event)) }
     ensures err { OnErr result (tree.get nat_cmp services.new id ≡ tree.get nat_cmp services.old id) }
+    ensures no_memory { spec.some_takes_memory (tree.get nat_cmp services.old id) event ≡ false → IsOk result }
 {
     let Some(service) = services.get_mut(&id) else {
         return Ok(Step::Skipped);
@@ -117,6 +120,7 @@ impl Network {
         ensures network { OnOk result (self.new ≡ spec.with_instance self.old order rules) }
         ensures applied { IfOk result (λ s. s ≡ step_of (is_none (finite.get self.old order.id))) }
         ensures err { OnErr result (self.new ≡ self.old) }
+        ensures no_memory { is_none (finite.get self.old order.id) ≡ false → IsOk result }
     {
         if self.services.get(&order.id).is_some() {
             return Ok(Step::Skipped);
@@ -133,6 +137,7 @@ impl Network {
         ensures network { OnOk result (self.new ≡ spec.with_event self.old id event) }
         ensures applied { IfOk result (λ s. s ≡ step_of (spec.some_applies (finite.get self.old id) event)) }
         ensures err { OnErr result (self.new ≡ self.old) }
+        ensures no_memory { spec.some_takes_memory (finite.get self.old id) event ≡ false → IsOk result }
     {
         step_at(&mut self.services, alloc, id, event)
     }
@@ -142,11 +147,13 @@ impl Network {
     ///
     /// # Errors
     ///
-    /// [`Memory`] if an allocation failed. The network is then as before.
+    /// [`Memory`] if an allocation failed. Only these ask for memory: an instance that is taken in, and an event of a known
+    /// one at which [`ServiceInstance::step`] asks for some. The network is then as before.
     pub fn step(&mut self, alloc: Global, event: NetworkEvent) -> Result<Step, Memory>
         ensures network { OnOk result (self.new ≡ spec.network_by self.old event) }
         ensures applied { IfOk result (λ s. s ≡ step_of (spec.network_applies self.old event)) }
         ensures err { OnErr result (self.new ≡ self.old) }
+        ensures no_memory { spec.network_takes_memory self.old event ≡ false → IsOk result }
     {
         match event {
             NetworkEvent::Instance { order, rules } => self.take_in(alloc, order, rules),
