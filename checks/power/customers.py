@@ -11,7 +11,7 @@ from typing import Any, NamedTuple
 
 SERVICE = "00000000-0000-0000-0000-0000000000a0"
 AT_ONCE, BY_WORKER = "00000000-0000-0000-0000-0000000000b1", "00000000-0000-0000-0000-0000000000b2"
-PASSWORD = "secret"
+PASSWORD = "secret of the customers"
 _HEADERS = {
     "Authorization": "Basic " + base64.b64encode(f"platform:{PASSWORD}".encode()).decode(),
     "X-Broker-API-Version": "2.17",
