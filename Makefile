@@ -42,7 +42,7 @@ one: ## one test by its name or file: make one T=test_locks, make one T=... A="-
 mutants: SEED = 1
 mutants: COUNT = 100
 mutants: ## change the Go code in some places, and print the changes that no test notices: make mutants SEED=1 COUNT=100
-	scripts/go build -o $(CURDIR)/build/mutants/mutants ./mutants
+	scripts/go build -o $(CURDIR)/build/mutants/mutants ./internal/mutants
 	scripts/go $(CURDIR)/build/mutants/mutants draw -seed $(SEED) -count $(COUNT) -folder $(CURDIR)/build/mutants $(PACKAGES)
 
 prebuilt: ## prove and build the library and osb-replay, and write prebuilt/

@@ -240,7 +240,7 @@ def assert_found(ran: Ran, slip: Slip) -> None:
 def test_planted_stale_answers(audit: Audit, platform: Path, tmp_path: Path) -> None:
     """The first Poll of a deletion is answered as the last one of the creation."""
     at = free_address()
-    with serving(built(STALE, tmp_path, file="broker/journaled/store.go"), tmp_path, at):
+    with serving(built(STALE, tmp_path, file="broker/journal/store.go"), tmp_path, at):
         it = Platform(platform, tmp_path, at)
         it.once()  # it asks for the catalogue
         with it.working():
@@ -263,7 +263,7 @@ def test_planted_without_locks(audit: Audit, broker: Path, platform: Path, tmp_p
     sells.write_text(SLOW.format(shlex.quote(str(TOP / "examples" / "broker" / "databases"))))
     sells.chmod(0o755)
     sold = "--backend", f"command:{sells}", "--catalog", str(TOP / "examples" / "broker" / "own-catalogue.json")
-    program = built(UNLOCKED, tmp_path, file="broker/filelock/locks.go") if is_planted else broker
+    program = built(UNLOCKED, tmp_path, file="internal/filelock/locks.go") if is_planted else broker
     with serving(program, tmp_path, at, *sold, "--sweep-seconds", "0.1"):
         it = Platform(platform, tmp_path, at)
         it.once()  # it asks for the catalogue

@@ -155,6 +155,6 @@ def test_options_of_the_broker() -> None:
 
 def test_metrics_of_the_broker() -> None:
     """The guide names each metric of the program with its labels, and no other."""
-    program = re.findall(r"^//\t(osb_broker_\S+)", read("go/program/metrics/metrics.go"), re.MULTILINE)
+    program = re.findall(r"^//\t(osb_broker_\S+)", read("go/cmd/osb-broker/metrics/metrics.go"), re.MULTILINE)
     assert len(program) > 10
     assert sorted(re.findall(r"^\| `(osb_broker_\S+)` \|", read(BROKER), re.MULTILINE)) == sorted(program)

@@ -270,9 +270,7 @@ def test_queries_of_lists() -> None:
 
 def sources() -> str:
     """What the platform is made of, without its tests."""
-    parts = [
-        TOP / "go" / it for it in ("cmd/osb-platform", "platform", "program/health", "program/server", "program/logs")
-    ]
+    parts = [TOP / "go" / it for it in ("cmd/osb-platform", "platform", "internal/httpserver", "internal/logs")]
     files: list[Path] = sorted(it for part in parts for it in part.rglob("*.go") if not it.name.endswith("_test.go"))
     return "".join(it.read_text(encoding="utf-8") for it in files)
 

@@ -84,13 +84,13 @@ BROKER = "pippinterm/broker"
 CRASHES = "crashpoints"
 """The build tag of a program that can be killed at each crash point."""
 
-ALONE = "pippinterm/backend/postgres"
+ALONE = "pippinterm/broker/backend/postgres"
 """The package whose tests fill the server's table of locks, so that no other tests may use that server meanwhile."""
 
-BY_THE_CLOCK = "pippinterm/stormrun", "pippinterm/stormplatform"
+BY_THE_CLOCK = "pippinterm/storm/run", "pippinterm/storm/run/platform"
 """The packages whose tests are storms of a few seconds, in which a busy machine loses requests by itself."""
 
-TIMED = "pippinterm/faults", "pippinterm/platform/client", "pippinterm/program/server"
+TIMED = "pippinterm/storm/fault", "pippinterm/platform/client", "pippinterm/internal/httpserver"
 """The packages whose tests are about how long something takes."""
 
 
@@ -125,7 +125,7 @@ def reaches_all(packages: Packages, folder: Path, *these: str) -> None:
 @pytest.mark.long(40)
 @pytest.mark.xdist_group("stormrun")
 def test_storms(packages: Packages) -> None:
-    """The tests of stormrun and stormplatform."""
+    """The tests of storm/run and storm/run/platform."""
     packages.test(*BY_THE_CLOCK, race=True)
 
 
@@ -140,7 +140,7 @@ def test_tests_of_times(packages: Packages) -> None:
 @pytest.mark.long(60)
 @pytest.mark.postgres
 def test_tests_that_fill_a_server(packages: Packages, tmp_path: Path) -> None:
-    """The tests of backend/postgres. Each process of pytest has a server of its own."""
+    """The tests of broker/backend/postgres. Each process of pytest has a server of its own."""
     reaches_all(packages, tmp_path, ALONE)
 
 

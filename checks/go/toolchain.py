@@ -121,7 +121,7 @@ class Packages:
         """Runs the mutants in these files, with PostgreSQL servers of their own, and returns what is printed."""
         program = str(folder / "mutants")
         with building():
-            self._run("build", "-o", program, "./mutants", GOFLAGS=_flags("", False))
+            self._run("build", "-o", program, "./internal/mutants", GOFLAGS=_flags("", False))
         return self._run(program, "check", "-workers", "2", "-folder", str(folder), *map(str, edits))
 
     def _compile(self, *these: str, flags: str, race: bool = False) -> None:

@@ -20,10 +20,10 @@ LIST = Path(__file__).resolve().parent / "unreached.txt"
 
 ROOT = "pippinterm/"
 PACKAGES = (
-    *(f"backend/{it}" for it in ("command", "folders", "postgres")),
-    *(f"broker{it}" for it in ("", "/filelock", "/journaled", "/postgres", "/postgres/session", "/sqlite")),
-    *(f"platform{it}" for it in ("", "/journaled", "/postgres", "/sqlite", "/vault")),
-    "program/sqlite",
+    *(f"broker{it}" for it in ("", "/journal", "/postgres", "/sqlite")),
+    *(f"broker/backend/{it}" for it in ("command", "folders", "postgres")),
+    *(f"internal/{it}" for it in ("filelock", "pg", "sqlitefile")),
+    *(f"platform{it}" for it in ("", "/journal", "/postgres", "/sqlite", "/vault")),
 )
 """The broker, the platform, their stores, backends and locks, and the vault."""
 

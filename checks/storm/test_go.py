@@ -10,7 +10,7 @@ TAGS = "storm"
 
 
 def test_tests(packages: Packages) -> None:
-    packages.test("./storm", tags=TAGS, race=True)
+    packages.test("./storm/without", tags=TAGS, race=True)
 
 
 @pytest.mark.long(15)

@@ -6,7 +6,7 @@ import (
 	"errors"
 	"fmt"
 
-	"pippinterm/broker/crash"
+	"pippinterm/internal/crash"
 	"pippinterm/osb"
 )
 

@@ -3,7 +3,7 @@ package broker
 import (
 	"time"
 
-	"pippinterm/budget"
+	"pippinterm/internal/budget"
 )
 
 // SetPatience sets how long a request waits until it may do work.

@@ -15,7 +15,7 @@ import (
 	"sync/atomic"
 	"time"
 
-	"pippinterm/budget"
+	"pippinterm/internal/budget"
 	"pippinterm/osb"
 )
 

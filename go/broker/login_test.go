@@ -9,7 +9,7 @@ import (
 	"testing"
 	"time"
 
-	"pippinterm/program/limiter"
+	"pippinterm/internal/httpserver/limiter"
 )
 
 // few lets some logins fail, and delays each later one.

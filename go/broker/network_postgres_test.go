@@ -8,10 +8,10 @@ import (
 	"fmt"
 	"testing"
 
-	databases "pippinterm/backend/postgres"
 	"pippinterm/broker"
+	databases "pippinterm/broker/backend/postgres"
 	"pippinterm/broker/postgres"
-	"pippinterm/broker/postgres/pgtest"
+	"pippinterm/internal/pg/pgtest"
 )
 
 // TestAnyNetworkOverPostgreSQL has the store in PostgreSQL. The locks are those of sessions, which can be lost, so each

@@ -13,7 +13,7 @@ import (
 	"time"
 
 	"pippinterm/broker"
-	"pippinterm/broker/crash"
+	"pippinterm/internal/crash"
 	"pippinterm/osb"
 )
 

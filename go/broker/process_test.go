@@ -8,8 +8,8 @@ import (
 	"path/filepath"
 
 	"pippinterm/broker"
-	"pippinterm/broker/filelock"
 	"pippinterm/broker/sqlite"
+	"pippinterm/internal/filelock"
 )
 
 // A process is a broker as a process of its own has it: a service with its own connections and locks. The store and the

@@ -8,7 +8,7 @@ import (
 	"net/http"
 	"time"
 
-	"pippinterm/broker/crash"
+	"pippinterm/internal/crash"
 	"pippinterm/osb"
 )
 

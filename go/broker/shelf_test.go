@@ -13,7 +13,7 @@ import (
 	"testing"
 
 	"pippinterm/broker"
-	"pippinterm/broker/crash"
+	"pippinterm/internal/crash"
 	"pippinterm/osb"
 )
 

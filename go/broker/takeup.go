@@ -7,7 +7,7 @@ import (
 	"net/http"
 	"time"
 
-	"pippinterm/broker/crash"
+	"pippinterm/internal/crash"
 	"pippinterm/osb"
 )
 

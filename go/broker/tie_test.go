@@ -9,8 +9,8 @@ import (
 	"testing"
 	"time"
 
-	"pippinterm/backend/folders"
 	"pippinterm/broker"
+	"pippinterm/broker/backend/folders"
 	"pippinterm/broker/sqlite"
 	"pippinterm/osb"
 )

@@ -8,7 +8,7 @@ import (
 	"runtime/debug"
 	"syscall"
 
-	"pippinterm/broker/crash"
+	"pippinterm/internal/crash"
 	"pippinterm/osb"
 )
 

@@ -2,7 +2,7 @@
 
 package platform
 
-import "pippinterm/broker/crash"
+import "pippinterm/internal/crash"
 
 var usualHook = crash.Hook
 

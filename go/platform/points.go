@@ -5,7 +5,7 @@ import (
 	"os"
 	"strings"
 
-	"pippinterm/broker/crash"
+	"pippinterm/internal/crash"
 )
 
 // Points are the names of the platform's crash points, in the order in which an order comes to them.

@@ -9,8 +9,8 @@ import (
 
 	"pippinterm/broker"
 	"pippinterm/broker/postgres"
-	"pippinterm/broker/postgres/pgtest"
-	"pippinterm/broker/postgres/session"
+	"pippinterm/internal/pg"
+	"pippinterm/internal/pg/pgtest"
 	"pippinterm/osb"
 )
 
@@ -47,7 +47,7 @@ func TestServerThatIsAway(t *testing.T) {
 		t.Fatal(err)
 	}
 	proxy.Cut("COMMIT\x00")
-	if err := change("lost"); !errors.Is(err, broker.ErrAway) || !errors.Is(err, session.ErrUnknownCommit) {
+	if err := change("lost"); !errors.Is(err, broker.ErrAway) || !errors.Is(err, pg.ErrUnknownCommit) {
 		t.Errorf("without an answer to the COMMIT, Change returned %v", err)
 	}
 	proxy.Cut("")

@@ -21,7 +21,7 @@ import (
 // this one ends. So no Change of an instance runs beside one of its bindings, whether the instance has a row or not. If
 // step writes nothing, the inserted row is rolled back. A row that was inserted for a binding has the zero Holding.
 //
-// Errors: broker.ErrLostLock, those of step, the context's and the server's; and session.ErrUnknownCommit if nobody
+// Errors: broker.ErrLostLock, those of step, the context's and the server's; and pg.ErrUnknownCommit if nobody
 // knows whether the change is written. After any other error it isn't. A panic of step is an error. If the server can't
 // be used now, the error is broker.ErrAway too.
 func (s *Store) Change(ctx context.Context, key broker.Key, fence int64, step broker.Step) error {

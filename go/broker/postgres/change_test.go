@@ -10,8 +10,8 @@ import (
 
 	"pippinterm/broker"
 	"pippinterm/broker/postgres"
-	"pippinterm/broker/postgres/pgtest"
-	"pippinterm/broker/postgres/session"
+	"pippinterm/internal/pg"
+	"pippinterm/internal/pg/pgtest"
 )
 
 // describe writes a description, and counts its calls.
@@ -69,7 +69,7 @@ func TestACommitThatFails(t *testing.T) {
 			trigger(t, url, "DEFERRABLE INITIALLY DEFERRED", it.statement)
 			key, calls := broker.InstanceKey(id(1)), 0
 			err := store.Change(context.Background(), key, 0, describe("x", &calls))
-			if err == nil || errors.Is(err, session.ErrUnknownCommit) != it.isUnknown || calls != 1 {
+			if err == nil || errors.Is(err, pg.ErrUnknownCommit) != it.isUnknown || calls != 1 {
 				t.Errorf("after %d calls: %v", calls, err)
 			}
 			if got := described(t, store, key); got != "" && !it.isUnknown {
@@ -86,7 +86,7 @@ func TestACommitWhoseAnswerIsLost(t *testing.T) {
 	proxy.Cut("COMMIT\x00")
 	key, calls := broker.InstanceKey(id(1)), 0
 	err := store.Change(context.Background(), key, 0, describe("x", &calls))
-	if !errors.Is(err, session.ErrUnknownCommit) || calls != 1 { // once more could write it twice
+	if !errors.Is(err, pg.ErrUnknownCommit) || calls != 1 { // once more could write it twice
 		t.Errorf("after %d calls: %v", calls, err)
 	}
 	proxy.Cut("")
@@ -119,7 +119,7 @@ func TestConflicts(t *testing.T) {
 				it.code+"'; END IF;")
 			key, calls := broker.InstanceKey(id(1)), 0
 			err = store.Change(context.Background(), key, 0, describe("x", &calls))
-			if (err == nil) != it.isWritten || !it.isWritten && !session.IsCode(err, it.code) || calls != it.calls {
+			if (err == nil) != it.isWritten || !it.isWritten && !pg.IsCode(err, it.code) || calls != it.calls {
 				t.Errorf("after %d calls: %v", calls, err)
 			}
 			if got := described(t, store, key); (got == "x") != it.isWritten {

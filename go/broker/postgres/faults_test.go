@@ -6,9 +6,9 @@ import (
 
 	"pippinterm/broker"
 	"pippinterm/broker/postgres"
-	"pippinterm/broker/postgres/pgtest"
 	"pippinterm/broker/storetest"
-	"pippinterm/storefaults"
+	"pippinterm/internal/pg/pgtest"
+	"pippinterm/internal/storefaults"
 )
 
 // What every store must do if one of its statements fails.

@@ -6,7 +6,7 @@ import (
 	"sync"
 
 	"pippinterm/broker"
-	"pippinterm/broker/postgres/session"
+	"pippinterm/internal/pg"
 )
 
 // The statements of reads and changes, which the server parses and plans once for each session.
@@ -87,10 +87,10 @@ func (s *Store) statements(ctx context.Context) (prepared, error) {
 
 // preparedFor is statements, for a server that may be silent.
 func (s *Store) preparedFor(ctx context.Context) (prepared, error) {
-	within, cancel := session.Within(ctx, session.Answer)
+	within, cancel := pg.Within(ctx, pg.Answer)
 	defer cancel()
 	all, err := s.statements(within)
-	return all, session.Unanswered(ctx, err)
+	return all, pg.Unanswered(ctx, err)
 }
 
 // finding is the text that finds the row of a key.

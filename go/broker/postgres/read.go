@@ -6,7 +6,7 @@ import (
 	"errors"
 
 	"pippinterm/broker"
-	"pippinterm/broker/postgres/session"
+	"pippinterm/internal/pg"
 	"pippinterm/osb"
 )
 
@@ -30,16 +30,16 @@ func (s *Store) Read(outer context.Context, key broker.Key) (held broker.Held, e
 }
 
 // reading calls with the prepared statements, for those that are transactions of their own. A server that doesn't answer
-// isn't waited for longer than session.Answer: its sessions would be used up.
+// isn't waited for longer than pg.Answer: its sessions would be used up.
 func (s *Store) reading(ctx context.Context, call func(context.Context, prepared) error) error {
 	return s.query(func(*sql.DB) error {
-		within, cancel := session.Within(ctx, session.Answer)
+		within, cancel := pg.Within(ctx, pg.Answer)
 		defer cancel()
 		statements, err := s.statements(within)
 		if err == nil {
 			err = call(within, statements)
 		}
-		return session.Unanswered(ctx, err)
+		return pg.Unanswered(ctx, err)
 	})
 }
 
@@ -83,7 +83,7 @@ func (s *Store) Unfinished(ctx context.Context) (keys []broker.Key, err error) {
 // HeldBindings returns the bindings of an instance that are held, in no order.
 func (s *Store) HeldBindings(ctx context.Context, instance osb.ID) (ids []osb.ID, err error) {
 	const held = "SELECT binding FROM osb_bindings WHERE instance = $1 AND held"
-	within, cancel := session.Within(ctx, session.Answer)
+	within, cancel := pg.Within(ctx, pg.Answer)
 	defer cancel()
 	err = s.each(within, held, []any{instance}, func(rows *sql.Rows) error {
 		var id osb.ID
@@ -91,7 +91,7 @@ func (s *Store) HeldBindings(ctx context.Context, instance osb.ID) (ids []osb.ID
 		ids = append(ids, id)
 		return err
 	})
-	return ids, away(session.Unanswered(ctx, err))
+	return ids, away(pg.Unanswered(ctx, err))
 }
 
 // each calls with each row of a query.

@@ -6,7 +6,7 @@ import (
 	"testing"
 
 	"pippinterm/broker"
-	"pippinterm/broker/postgres/pgtest"
+	"pippinterm/internal/pg/pgtest"
 )
 
 // However many rows have ended, the unfinished ones are counted by the indexes that have them alone.

@@ -14,7 +14,7 @@ import (
 	"time"
 
 	"pippinterm/broker"
-	"pippinterm/broker/postgres/session"
+	"pippinterm/internal/pg"
 )
 
 const (
@@ -50,12 +50,12 @@ type Store struct {
 //
 // A step of Change must not call the store: with all connections taken, both would wait for each other.
 //
-// Errors: session.ErrBadAddress, session.ErrNotDurable, and those of the connection and of the server.
+// Errors: pg.ErrBadAddress, pg.ErrNotDurable, and those of the connection and of the server.
 func Open(ctx context.Context, url string, most int, observer broker.Observer) (*Store, error) {
 	if most < 1 {
 		return nil, fmt.Errorf("the store needs at least 1 connection, and not %d", most)
 	}
-	db, err := session.Open(url, session.Options{Most: most, Lock: longest, Statement: longest, Idle: idle})
+	db, err := pg.Open(url, pg.Options{Most: most, Lock: longest, Statement: longest, Idle: idle})
 	if err != nil {
 		return nil, fmt.Errorf("the store: %w", err)
 	}
@@ -74,7 +74,7 @@ func (s *Store) prepare(ctx context.Context) error {
 		return err
 	}
 	if encoding != "UTF8" && encoding != "SQL_ASCII" {
-		return session.Lasting(fmt.Errorf("the encoding of the database is %s. Create one with: CREATE DATABASE .. "+
+		return pg.Lasting(fmt.Errorf("the encoding of the database is %s. Create one with: CREATE DATABASE .. "+
 			"ENCODING 'UTF8' TEMPLATE template0", encoding))
 	}
 	return s.migrate(ctx)
@@ -87,7 +87,7 @@ func (s *Store) Close() error {
 	s.isClosed = true
 	s.turn.Unlock()
 	s.running.Wait()
-	return session.Close(s.db)
+	return pg.Close(s.db)
 }
 
 // enter begins a call that Close waits for, unless the store is closed. The caller calls s.running.Done at the end.
@@ -112,26 +112,26 @@ func (s *Store) query(call func(*sql.DB) error) error {
 
 // away is the error, as broker.ErrAway too if the server can't be used now.
 func away(err error) error {
-	if session.IsAway(err) {
+	if pg.IsAway(err) {
 		return broker.Away(err)
 	}
 	return err
 }
 
-// transaction is session.Transaction on a connection of the store. It is tried again if it couldn't begin, since the
+// transaction is pg.Transaction on a connection of the store. It is tried again if it couldn't begin, since the
 // server may have closed each connection that was idle, and if another transaction has undone it.
 func (s *Store) transaction(ctx context.Context, key *broker.Key, work func(*sql.Tx) (bool, error)) error {
 	if err := s.enter(); err != nil {
 		return err
 	}
 	defer s.running.Done()
-	until := time.Now().Add(session.Answer) // so that a silent server isn't waited for on one idle session after the other
+	until := time.Now().Add(pg.Answer) // so that a silent server isn't waited for on one idle session after the other
 	for unbegun, undone := 0, 0; ; {
 		err := s.attempt(ctx, work)
 		switch {
-		case errors.Is(err, session.ErrNotBegun) && unbegun < s.most && time.Now().Before(until):
+		case errors.Is(err, pg.ErrNotBegun) && unbegun < s.most && time.Now().Before(until):
 			unbegun++
-		case session.IsConflict(err) && undone < conflicts:
+		case pg.IsConflict(err) && undone < conflicts:
 			undone++
 			s.tellRetry(key, err)
 		default:
@@ -149,15 +149,15 @@ func (s *Store) attempt(ctx context.Context, work func(*sql.Tx) (bool, error)) e
 		return err
 	}
 	defer conn.Close()
-	return session.Transaction(ctx, conn, work)
+	return pg.Transaction(ctx, conn, work)
 }
 
 // conn waits for a connection, and no longer than for a server that answers.
 func (s *Store) conn(ctx context.Context) (*sql.Conn, error) {
-	within, cancel := session.Within(ctx, session.Answer)
+	within, cancel := pg.Within(ctx, pg.Answer)
 	defer cancel()
 	conn, err := s.db.Conn(within)
-	return conn, session.Unanswered(ctx, err)
+	return conn, pg.Unanswered(ctx, err)
 }
 
 func (s *Store) tellRetry(key *broker.Key, err error) {

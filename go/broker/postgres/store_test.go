@@ -8,8 +8,8 @@ import (
 
 	"pippinterm/broker"
 	"pippinterm/broker/postgres"
-	"pippinterm/broker/postgres/pgtest"
 	"pippinterm/broker/storetest"
+	"pippinterm/internal/pg/pgtest"
 )
 
 // schemas gives each test a schema of its own.

@@ -10,7 +10,7 @@ import (
 
 	"pippinterm/broker"
 	"pippinterm/broker/postgres"
-	"pippinterm/broker/postgres/pgtest"
+	"pippinterm/internal/pg/pgtest"
 	"pippinterm/osb"
 )
 

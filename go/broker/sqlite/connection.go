@@ -9,8 +9,8 @@ import (
 	"time"
 
 	"pippinterm/broker"
+	"pippinterm/internal/sqlitefile"
 	"pippinterm/osb"
-	"pippinterm/program/sqlite"
 )
 
 // A connection is one of SQLite, with its statements. One goroutine at a time uses it.

@@ -9,7 +9,7 @@ import (
 
 	"pippinterm/broker"
 	"pippinterm/broker/storetest"
-	"pippinterm/storefaults"
+	"pippinterm/internal/storefaults"
 )
 
 // What every store must do if one of its statements fails.

@@ -8,8 +8,8 @@ import (
 	"time"
 
 	"pippinterm/broker"
+	"pippinterm/internal/sqlitefile"
 	"pippinterm/osb"
-	"pippinterm/program/sqlite"
 )
 
 const (

@@ -6,7 +6,7 @@ import (
 	"fmt"
 	"time"
 
-	"pippinterm/program/sqlite"
+	"pippinterm/internal/sqlitefile"
 )
 
 // The tables. Those of version 0.2 had the first three columns of holdings, and no bindings. The columns that came

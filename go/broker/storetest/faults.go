@@ -9,8 +9,8 @@ import (
 	"testing"
 
 	"pippinterm/broker"
+	"pippinterm/internal/storefaults"
 	"pippinterm/osb"
-	"pippinterm/storefaults"
 )
 
 // Faulty opens stores over the database of a test, as the function open of Run does.

@@ -7,10 +7,10 @@ import (
 	"strings"
 
 	"pippinterm/broker"
-	"pippinterm/program"
-	"pippinterm/program/logs"
-	"pippinterm/program/secrets"
-	"pippinterm/program/server"
+	"pippinterm/internal/cli"
+	"pippinterm/internal/httpserver"
+	"pippinterm/internal/logs"
+	"pippinterm/internal/secrets"
 )
 
 // An access is how platforms reach the broker. Its files can be read again while it is in use.
@@ -18,8 +18,8 @@ type access struct {
 	settings     *settings
 	log          *logs.Logger
 	users        *broker.Users
-	short        []string             // the users whose passwords could be guessed at the start
-	certificates *server.Certificates // nil without TLS
+	short        []string                 // the users whose passwords could be guessed at the start
+	certificates *httpserver.Certificates // nil without TLS
 }
 
 // accessOf reads the passwords and the certificates of the settings.
@@ -27,19 +27,19 @@ func accessOf(s *settings, log *logs.Logger) (*access, error) {
 	a := &access{settings: s, log: log}
 	passwords, err := a.passwords()
 	if err != nil {
-		return nil, program.Unusable(err)
+		return nil, cli.Unusable(err)
 	}
 	a.short = secrets.Short(passwords)
 	if a.users, err = broker.NewUsers(passwords); err != nil {
-		return nil, program.Unusable(err)
+		return nil, cli.Unusable(err)
 	}
 	if s.certificate == "" && s.key == "" && s.clientCA == "" {
 		return a, nil
 	}
-	a.certificates, err = server.LoadCertificates(server.CertificateFiles{
+	a.certificates, err = httpserver.LoadCertificates(httpserver.CertificateFiles{
 		Certificate: s.certificate, Key: s.key, ClientCA: s.clientCA,
 	})
-	return a, program.Unusable(err)
+	return a, cli.Unusable(err)
 }
 
 // reloadAt reads the files again for each signal, until ctx is done. What can't be read stays as it was.

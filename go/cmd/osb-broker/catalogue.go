@@ -8,8 +8,8 @@ import (
 	"regexp"
 
 	"pippinterm/broker"
+	"pippinterm/internal/cli"
 	"pippinterm/osb"
-	"pippinterm/program"
 )
 
 // The catalogue that is served if no other is named: one service with a plan of each kind.
@@ -27,13 +27,13 @@ func catalogueOf(file, sells string, sellsBindings bool) (*broker.Catalogue, err
 	if file != "" {
 		var err error
 		if document, err = os.ReadFile(file); err != nil {
-			return nil, program.Unusable(fmt.Errorf("the catalogue can't be read: %w", err))
+			return nil, cli.Unusable(fmt.Errorf("the catalogue can't be read: %w", err))
 		}
 		name = file
 	}
 	catalogue, err := broker.NewCatalogue(document, sellsBindings)
 	if err != nil {
-		return nil, program.Unusable(fmt.Errorf("%s can't be the catalogue: %w", name, err))
+		return nil, cli.Unusable(fmt.Errorf("%s can't be the catalogue: %w", name, err))
 	}
 	return catalogue, nil
 }

@@ -16,8 +16,8 @@ import (
 
 	"github.com/spf13/pflag"
 
-	"pippinterm/program/health"
-	"pippinterm/program/logs"
+	"pippinterm/internal/httpserver/health"
+	"pippinterm/internal/logs"
 )
 
 // An inside is a broker in the process of the test, without a server.

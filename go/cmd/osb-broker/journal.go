@@ -5,11 +5,11 @@ import (
 	"fmt"
 
 	"pippinterm/broker"
-	"pippinterm/broker/journaled"
-	"pippinterm/broker/postgres/session"
-	"pippinterm/program"
-	"pippinterm/program/journal"
-	"pippinterm/program/sqlite"
+	"pippinterm/broker/journal"
+	"pippinterm/internal/cli"
+	"pippinterm/internal/journalfile"
+	"pippinterm/internal/pg"
+	"pippinterm/internal/sqlitefile"
 )
 
 // serviceParts are what a service is made of, and the journal of its requests, or nil.
@@ -26,23 +26,23 @@ func (r *running) journaled(catalogue *broker.Catalogue) (serviceParts, error) {
 	if s.journal == "" {
 		return with, nil
 	}
-	started, err := journaled.Started(program.Version(), catalogue.Document(), s.rules(), r.parts.locks.CanBeLost())
+	started, err := journal.Started(cli.Version(), catalogue.Document(), s.rules(), r.parts.locks.CanBeLost())
 	if err != nil {
 		return with, err
 	}
-	r.journal, err = journal.Open(journal.Options{
+	r.journal, err = journalfile.Open(journalfile.Options{
 		Path: s.journal, Side: "broker", Most: int64(s.journalSize) << 20, Started: started, Failed: r.journalFailed,
 	})
 	if err != nil {
 		return with, ofFiles("--journal", err)
 	}
-	to := journaled.New(r.journal, isDoubtful)
+	to := journal.New(r.journal, isDoubtful)
 	return serviceParts{store: to.Store(with.store), backend: to.Backend(with.backend), journal: to}, nil
 }
 
 // isDoubtful is whether a change that has failed with an error may have been committed.
 func isDoubtful(err error) bool {
-	return errors.Is(err, session.ErrUnknownCommit) || errors.Is(err, sqlitefile.ErrUnknownCommit)
+	return errors.Is(err, pg.ErrUnknownCommit) || errors.Is(err, sqlitefile.ErrUnknownCommit)
 }
 
 func (r *running) journalFailed(err error) {

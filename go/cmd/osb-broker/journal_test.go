@@ -12,9 +12,9 @@ import (
 	"golang.org/x/sys/unix"
 
 	"pippinterm/broker"
-	"pippinterm/broker/postgres/session"
-	"pippinterm/program/journal"
-	"pippinterm/program/sqlite"
+	"pippinterm/internal/journalfile"
+	"pippinterm/internal/pg"
+	"pippinterm/internal/sqlitefile"
 )
 
 // eventsIn are the events of all files of a folder with journals, one text for each file, by name.
@@ -128,7 +128,7 @@ func TestNoJournal(t *testing.T) {
 			t.Fatal(err)
 		}
 		_ = given.Body.Close()
-		if got := given.Header.Get(journal.Header); given.StatusCode != 201 || (got == "") != (arguments == nil) {
+		if got := given.Header.Get(journalfile.Header); given.StatusCode != 201 || (got == "") != (arguments == nil) {
 			t.Errorf("%v: %d, %q", arguments, given.StatusCode, got)
 		}
 	}
@@ -173,8 +173,8 @@ func TestJournalOfAFullStore(t *testing.T) {
 // Which failed changes may have been committed.
 func TestDoubtful(t *testing.T) {
 	for err, want := range map[error]bool{
-		session.ErrUnknownCommit: true, sqlitefile.ErrUnknownCommit: true,
-		broker.ErrLostLock: false, broker.ErrLostWork: false, sqlitefile.ErrBusy: false, session.ErrNotBegun: false,
+		pg.ErrUnknownCommit: true, sqlitefile.ErrUnknownCommit: true,
+		broker.ErrLostLock: false, broker.ErrLostWork: false, sqlitefile.ErrBusy: false, pg.ErrNotBegun: false,
 	} {
 		if got := isDoubtful(broker.Away(fmt.Errorf("it has failed: %w", err))); got != want {
 			t.Errorf("%v: %v", err, got)

@@ -9,11 +9,11 @@ import (
 
 	"github.com/spf13/cobra"
 
-	"pippinterm/backend/postgres"
 	"pippinterm/broker"
-	"pippinterm/broker/postgres/session"
+	"pippinterm/broker/backend/postgres"
+	"pippinterm/internal/cli"
+	"pippinterm/internal/pg"
 	"pippinterm/osb"
-	"pippinterm/program"
 )
 
 // passwordCommand prints what 0.2 printed: the password of the role that owns the database of an instance.
@@ -28,7 +28,7 @@ password: each binding has a role and a password of its own.`,
 		RunE: func(c *cobra.Command, arguments []string) error {
 			id, err := osb.IDOfText(arguments[0])
 			if err != nil {
-				return program.Unusable(fmt.Errorf("%q can't be the id of an instance: %w", arguments[0], err))
+				return cli.Unusable(fmt.Errorf("%q can't be the id of an instance: %w", arguments[0], err))
 			}
 			key, err := keyOf(file, nil)
 			if err != nil {
@@ -44,7 +44,7 @@ password: each binding has a role and a password of its own.`,
 
 // keyCommand makes a key.
 func keyCommand() *cobra.Command {
-	return program.KeyCommand("Make a new key for the passwords of the databases",
+	return cli.KeyCommand("Make a new key for the passwords of the databases",
 		`Make a new random key for the passwords of the databases. It is printed, or written to the new file that --to
 names.`,
 		`  osb-broker key --to key`)
@@ -70,14 +70,14 @@ first. Passwords that the platform has of bindings stop working: unbind and bind
 }
 
 func rekey(ctx context.Context, out io.Writer, backend, file, newFile string) error {
-	if !session.IsAddress(backend) {
-		return program.Unusable(errors.New("--backend has to be a URL postgresql://.. of the server that is sold"))
+	if !pg.IsAddress(backend) {
+		return cli.Unusable(errors.New("--backend has to be a URL postgresql://.. of the server that is sold"))
 	}
 	if err := withoutPassword(backend); err != nil {
 		return err
 	}
 	if newFile == "" {
-		return program.Unusable(errors.New("--new-key-file is missing"))
+		return cli.Unusable(errors.New("--new-key-file is missing"))
 	}
 	key, err := keyOf(file, nil)
 	if err != nil {

@@ -7,13 +7,13 @@ import (
 
 	"github.com/spf13/cobra"
 
-	"pippinterm/program"
+	"pippinterm/internal/cli"
 )
 
 func main() {
 	outcome := &outcome{}
-	status := program.Run(context.Background(), rootCommand(outcome))
-	if status == program.StatusDone {
+	status := cli.Run(context.Background(), rootCommand(outcome))
+	if status == cli.StatusDone {
 		status = outcome.status
 	}
 	os.Exit(status)
@@ -26,7 +26,7 @@ func rootCommand(o *outcome) *cobra.Command {
 	root := &cobra.Command{
 		Use:     "osb-broker",
 		Short:   "A broker under the Open Service Broker API 2.17",
-		Version: program.Version(),
+		Version: cli.Version(),
 		Long: `A broker under the Open Service Broker API 2.17, for instances and their bindings.
 
 Only a password is needed: 'osb-broker serve' then sells folders below the state folder, and keeps its

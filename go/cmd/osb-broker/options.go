@@ -11,7 +11,7 @@ import (
 	"github.com/spf13/pflag"
 
 	"pippinterm/broker"
-	"pippinterm/program"
+	"pippinterm/internal/cli"
 )
 
 // Settings are the options of `osb-broker serve`.
@@ -93,7 +93,7 @@ func stateFolder() string {
 }
 
 func (s *settings) addPlaces(flags *pflag.FlagSet) {
-	flags.Var(program.Address(&s.listen, "127.0.0.1:8080"), "listen",
+	flags.Var(cli.Address(&s.listen, "127.0.0.1:8080"), "listen",
 		"where to listen; port 0 is any free port")
 	flags.StringVar(&s.healthListen, "health-listen", "",
 		"a second `host:port` for /healthz, /readyz and /metrics, which a full first one doesn't block")
@@ -103,14 +103,14 @@ func (s *settings) addPlaces(flags *pflag.FlagSet) {
 		"the `folder` with what --store and --backend don't place elsewhere")
 	flags.BoolVar(&s.existing, "existing", false, "start only over a store that has been used before")
 	flags.StringVar(&s.catalogue, "catalog", "", "the `file` with the document of GET /v2/catalog")
-	flags.Var(program.Place(&s.store, ""), "store", "where to keep holdings: a `file` of SQLite, or postgresql://..")
-	flags.Var(program.Place(&s.backend, ""), "backend",
+	flags.Var(cli.Place(&s.store, ""), "store", "where to keep holdings: a `file` of SQLite, or postgresql://..")
+	flags.Var(cli.Place(&s.backend, ""), "backend",
 		"what to sell: a `folder` for folders, postgresql://.. for databases, or command:PROGRAM")
 	flags.StringVar(&s.customers, "customer-address", "",
 		"the `host:port` at which applications reach the databases, if it isn't that of --backend")
 	flags.StringVar(&s.template, "template", "",
 		"for --backend postgresql://..: the `database` to copy. Default: template_osb if it exists, or else template0")
-	program.JournalFlags(flags, &s.journal, &s.journalSize)
+	cli.JournalFlags(flags, &s.journal, &s.journalSize)
 }
 
 func (s *settings) addAccess(flags *pflag.FlagSet) {
@@ -129,34 +129,34 @@ func (s *settings) addAccess(flags *pflag.FlagSet) {
 func (s *settings) addRules(flags *pflag.FlagSet) {
 	flags.BoolVar(&s.firstPoll, "first-poll", true,
 		"create the instances and bindings of asynchronous plans only once the platform has polled")
-	flags.Var(program.Seconds(&s.waitForPoll, 10*time.Minute), "wait-for-poll",
+	flags.Var(cli.Seconds(&s.waitForPoll, 10*time.Minute), "wait-for-poll",
 		"after so many seconds without the first poll, a creation has failed")
-	flags.Var(program.Count(&s.idsReturnAfter, 0, int(broker.ShortestReturn.Seconds()), most), "ids-return-after",
+	flags.Var(cli.Count(&s.idsReturnAfter, 0, int(broker.ShortestReturn.Seconds()), most), "ids-return-after",
 		"let an id be created again so many `seconds` after its deletion has ended, at least 300; without this option, "+
 			"never. No request may be under way for that long: docs/broker-guide.md says what breaks otherwise")
 }
 
 func (s *settings) addLimits(flags *pflag.FlagSet) {
-	flags.Var(program.Count(&s.threads, 64, 1, most), "threads", "requests that are carried out at once")
-	flags.Var(program.Count(&s.workers, 4, 1, most), "workers",
+	flags.Var(cli.Count(&s.threads, 64, 1, most), "threads", "requests that are carried out at once")
+	flags.Var(cli.Count(&s.workers, 4, 1, most), "workers",
 		"operations and pending work at once, besides requests; up to twice as many if some are slow or have failed before")
-	flags.Var(program.Count(&s.connections, 800, 1, most), "connections", "connections of clients at once")
-	flags.Var(program.Count(&s.perAddress, 0, 1, most), "connections-per-address",
+	flags.Var(cli.Count(&s.connections, 800, 1, most), "connections", "connections of clients at once")
+	flags.Var(cli.Count(&s.perAddress, 0, 1, most), "connections-per-address",
 		"`number` of connections of each client's address at once (default: a quarter of --connections)")
-	flags.Var(program.Networks(&s.trustedProxies), "trusted-proxy",
+	flags.Var(cli.Networks(&s.trustedProxies), "trusted-proxy",
 		"the `network` of a proxy that names its clients, by the PROXY protocol or by X-Forwarded-For: an address, or "+
 			"such as 10.1.0.0/16. May be given several times")
-	flags.Var(program.Count(&s.longestBody, 256<<10, 1, most/4), "longest-body",
+	flags.Var(cli.Count(&s.longestBody, 256<<10, 1, most/4), "longest-body",
 		"the greatest length of a body, in bytes")
-	flags.Var(program.Count(&s.parsedAtOnce, 0, 1, most), "parsed-at-once",
+	flags.Var(cli.Count(&s.parsedAtOnce, 0, 1, most), "parsed-at-once",
 		"`bytes` of bodies that are parsed at once, at least --longest-body (default: 4 times --longest-body). Each byte "+
 			"takes up to 85 bytes of memory. Others wait")
-	flags.Var(program.Seconds(&s.requestTime, 30*time.Second), "request-seconds", "in which a request has to arrive")
-	flags.Var(program.Seconds(&s.sweepTime, 5*time.Second), "sweep-seconds", "between two looks for unfinished work")
-	flags.Var(program.Seconds(&s.longestPause, broker.DefaultLongestPause), "longest-pause",
+	flags.Var(cli.Seconds(&s.requestTime, 30*time.Second), "request-seconds", "in which a request has to arrive")
+	flags.Var(cli.Seconds(&s.sweepTime, 5*time.Second), "sweep-seconds", "between two looks for unfinished work")
+	flags.Var(cli.Seconds(&s.longestPause, broker.DefaultLongestPause), "longest-pause",
 		"in seconds, between two tries of work that fails again and again")
-	flags.Var(program.Seconds(&s.stopTime, 30*time.Second), "stop-seconds", "for running work to end after SIGTERM")
-	flags.Var(program.Seconds(&s.commandTime, 5*time.Minute), "command-seconds", "for one run of --backend command:..")
-	flags.Var(program.Count(&s.perInstance, 20, 1, most), "connections-per-instance",
+	flags.Var(cli.Seconds(&s.stopTime, 30*time.Second), "stop-seconds", "for running work to end after SIGTERM")
+	flags.Var(cli.Seconds(&s.commandTime, 5*time.Minute), "command-seconds", "for one run of --backend command:..")
+	flags.Var(cli.Count(&s.perInstance, 20, 1, most), "connections-per-instance",
 		"connections of each role; a database that is sold has a role, and each of its bindings has one")
 }

@@ -2,7 +2,7 @@
 
 package main
 
-import "pippinterm/program/pages"
+import "pippinterm/internal/cli/pages"
 
 // With the build tag pages this isn't the program, but what writes its manual pages (release/). SOURCE_DATE_EPOCH is
 // their date.

@@ -11,18 +11,18 @@ import (
 	"strconv"
 	"strings"
 
-	"pippinterm/backend/command"
-	"pippinterm/backend/folders"
-	"pippinterm/backend/postgres"
 	"pippinterm/broker"
-	"pippinterm/broker/filelock"
+	"pippinterm/broker/backend/command"
+	"pippinterm/broker/backend/folders"
+	"pippinterm/broker/backend/postgres"
 	pgstore "pippinterm/broker/postgres"
-	"pippinterm/broker/postgres/session"
 	"pippinterm/broker/sqlite"
-	"pippinterm/program"
-	"pippinterm/program/logs"
-	"pippinterm/program/secrets"
-	"pippinterm/program/sqlite"
+	"pippinterm/internal/cli"
+	"pippinterm/internal/filelock"
+	"pippinterm/internal/logs"
+	"pippinterm/internal/pg"
+	"pippinterm/internal/secrets"
+	"pippinterm/internal/sqlitefile"
 )
 
 // parts are what a broker is made of.
@@ -36,7 +36,7 @@ type parts struct {
 
 // partsOf opens what the settings name. If it fails, nothing stays open.
 //
-// Errors: program.Unusable for what an operator has to change; program.Unavailable for a server that is away, a full
+// Errors: cli.Unusable for what an operator has to change; cli.Unavailable for a server that is away, a full
 // disk, and a file of SQLite that another process has kept.
 func partsOf(ctx context.Context, s *settings, log *logs.Logger, observer broker.Observer) (p *parts, err error) {
 	p = &parts{}
@@ -63,14 +63,14 @@ func partsOf(ctx context.Context, s *settings, log *logs.Logger, observer broker
 	}
 	err = broker.Tie(ctx, p.store, p.backend, s.existing)
 	if errors.Is(err, broker.ErrParted) {
-		return p, program.Unusable(fmt.Errorf("%w. %s", err, p.remedy(ctx, s)))
+		return p, cli.Unusable(fmt.Errorf("%w. %s", err, p.remedy(ctx, s)))
 	}
 	return p, away("the store and the backend can't be used together", err)
 }
 
 // warnOfFolder logs a warning if other accounts can write to the state folder: they can replace the store.
 func warnOfFolder(folder string, log *logs.Logger) {
-	if mode, isOpen := program.IsOpen(folder); isOpen {
+	if mode, isOpen := cli.IsOpen(folder); isOpen {
 		log.Warning("folder_open").Str("folder", folder).Str("mode", fmt.Sprintf("%04o", mode)).Send()
 	}
 }
@@ -115,11 +115,11 @@ func (p *parts) openBackend(ctx context.Context, s *settings, log *logs.Logger) 
 		p.backend, err = command.New(ctx, name, options)
 		var called *command.CallError
 		if errors.As(err, &called) && called.MayPass {
-			return program.Unavailable(wrapped("the backend can't be used", err))
+			return cli.Unavailable(wrapped("the backend can't be used", err))
 		}
 		return ofFiles("the backend can't be used", err)
 	}
-	if session.IsAddress(s.backend) {
+	if pg.IsAddress(s.backend) {
 		p.sells = "database"
 		return p.openDatabases(ctx, s, log)
 	}
@@ -147,7 +147,7 @@ func (p *parts) openDatabases(ctx context.Context, s *settings, log *logs.Logger
 		Key: key, ConnectionsPerInstance: s.perInstance, Sessions: s.atOnce(), Template: s.template,
 	}
 	if options.Host, options.Port, err = customersOf(s.customers, s.backend); err != nil {
-		return program.Unusable(fmt.Errorf("--customer-address: %w", err))
+		return cli.Unusable(fmt.Errorf("--customer-address: %w", err))
 	}
 	databases, err := postgres.Open(ctx, s.backend, options)
 	if err != nil {
@@ -169,7 +169,7 @@ func (p *parts) openDatabases(ctx context.Context, s *settings, log *logs.Logger
 // No application on another machine reaches a socket of this one.
 func customersOf(address, backend string) (string, int, error) {
 	if address == "" {
-		host, _, err := session.HostAndPort(backend)
+		host, _, err := pg.HostAndPort(backend)
 		if err == nil && strings.HasPrefix(host, "/") {
 			err = errors.New("--backend names a socket of this machine. Give the address at which applications reach " +
 				"the server")
@@ -186,7 +186,7 @@ func customersOf(address, backend string) (string, int, error) {
 
 // openStore opens where the holdings are.
 func (p *parts) openStore(ctx context.Context, s *settings, observer broker.Observer) error {
-	if session.IsAddress(s.store) {
+	if pg.IsAddress(s.store) {
 		if err := withoutPassword(s.store); err != nil {
 			return err
 		}
@@ -234,7 +234,7 @@ func (p *parts) openLocks(s *settings) (err error) {
 func keyOf(file string, log *logs.Logger) ([]byte, error) {
 	key, warning, err := secrets.Secret("OSB_BACKEND_KEY", file)
 	if err != nil {
-		return nil, program.Unusable(fmt.Errorf("the key of the databases' passwords: %w", err))
+		return nil, cli.Unusable(fmt.Errorf("the key of the databases' passwords: %w", err))
 	}
 	if warning != "" && log != nil {
 		log.Warning("secret").Str("warning", warning).Send()
@@ -246,7 +246,7 @@ func keyOf(file string, log *logs.Logger) ([]byte, error) {
 func longKeyOf(file string, log *logs.Logger) ([]byte, error) {
 	key, err := keyOf(file, log)
 	if err == nil && len(key) < postgres.ShortestKey {
-		err = program.Unusable(fmt.Errorf(
+		err = cli.Unusable(fmt.Errorf(
 			"the key of the databases' passwords has %d bytes, and needs at least %d. Make one with: osb-broker key",
 			len(key), postgres.ShortestKey))
 	}
@@ -255,12 +255,12 @@ func longKeyOf(file string, log *logs.Logger) ([]byte, error) {
 
 // withoutPassword refuses a URL with a password, which everybody could read who lists processes.
 func withoutPassword(url string) error {
-	has, err := session.HasPassword(url)
+	has, err := pg.HasPassword(url)
 	if err != nil {
-		return program.Unusable(fmt.Errorf("the URL of PostgreSQL can't be read: %w", err))
+		return cli.Unusable(fmt.Errorf("the URL of PostgreSQL can't be read: %w", err))
 	}
 	if has {
-		return program.Unusable(errors.New(
+		return cli.Unusable(errors.New(
 			"a URL must not have a password: put it into PGPASSWORD, or into a file that PGPASSFILE names"))
 	}
 	return nil
@@ -270,24 +270,24 @@ func withoutPassword(url string) error {
 func ofFiles(what string, err error) error {
 	err = wrapped(what, err)
 	if sqlitefile.MayPass(err) {
-		return program.Unavailable(err)
+		return cli.Unavailable(err)
 	}
-	return program.Unusable(err)
+	return cli.Unusable(err)
 }
 
 // away is the error of a server: it may be back later, unless an operator has to change something.
 func away(what string, err error) error {
-	remedy, isLasting := session.Remedy(err)
+	remedy, isLasting := pg.Remedy(err)
 	err = wrapped(what, err)
 	switch {
 	case isLasting && remedy != "":
-		return program.Unusable(fmt.Errorf("%w. %s", err, remedy))
+		return cli.Unusable(fmt.Errorf("%w. %s", err, remedy))
 	case isLasting || errors.Is(err, postgres.ErrWrongKey):
-		return program.Unusable(err)
+		return cli.Unusable(err)
 	case isOfNetwork(err):
-		return program.Unavailable(fmt.Errorf("%w. Check that the server runs, and the host and port of the URL", err))
+		return cli.Unavailable(fmt.Errorf("%w. Check that the server runs, and the host and port of the URL", err))
 	}
-	return program.Unavailable(err)
+	return cli.Unavailable(err)
 }
 
 // isOfNetwork returns whether a connection failed before the server has answered.

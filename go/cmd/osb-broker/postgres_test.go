@@ -9,7 +9,7 @@ import (
 	"testing"
 	"time"
 
-	"pippinterm/broker/postgres/pgtest"
+	"pippinterm/internal/pg/pgtest"
 )
 
 // postgresql is where the tests' server is, for a broker: its URL has no password.

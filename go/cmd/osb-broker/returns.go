@@ -4,7 +4,7 @@ import (
 	"time"
 
 	"pippinterm/broker"
-	"pippinterm/program/logs"
+	"pippinterm/internal/logs"
 )
 
 // returns is an observer that logs ids that return, too (this project's choice):

@@ -13,15 +13,15 @@ import (
 	"time"
 
 	"pippinterm/broker"
-	"pippinterm/broker/crash"
-	"pippinterm/program"
-	"pippinterm/program/health"
-	"pippinterm/program/journal"
-	"pippinterm/program/limiter"
-	"pippinterm/program/logs"
-	"pippinterm/program/metrics"
-	"pippinterm/program/notify"
-	"pippinterm/program/server"
+	"pippinterm/cmd/osb-broker/metrics"
+	"pippinterm/internal/cli"
+	"pippinterm/internal/cli/notify"
+	"pippinterm/internal/crash"
+	"pippinterm/internal/httpserver"
+	"pippinterm/internal/httpserver/health"
+	"pippinterm/internal/httpserver/limiter"
+	"pippinterm/internal/journalfile"
+	"pippinterm/internal/logs"
 )
 
 // A running is a broker that serves, or is about to.
@@ -31,21 +31,21 @@ type running struct {
 	observer broker.Observer
 	metrics  *metrics.Metrics
 	parts    *parts
-	main     *server.Listener
+	main     *httpserver.Listener
 	handler  *broker.Handler
 	health   *health.Handler
 	sweeper  *broker.Sweeper
 	access   *access
-	journal  *journal.Writer // or nil
-	isCut    bool            // whether work goes on once serve has returned
-	work     context.Context // of the work, which endWork breaks off
+	journal  *journalfile.Writer // or nil
+	isCut    bool                // whether work goes on once serve has returned
+	work     context.Context     // of the work, which endWork breaks off
 	endWork  context.CancelFunc
 }
 
 // serve serves until SIGTERM or SIGINT. It writes the log to standard error.
 func serve(ctx context.Context, s *settings, stderr io.Writer) error {
 	if err := crash.Check(); err != nil {
-		return program.Unusable(err)
+		return cli.Unusable(err)
 	}
 	debug.SetGCPercent(250) // it has little in memory, and makes much that is short-lived
 	syscall.Umask(0o077)
@@ -89,7 +89,7 @@ func (r *running) open(ctx, stop context.Context, queue *logs.Queue) (err error)
 	r.metrics = metrics.New(metrics.Options{
 		DroppedLines: queue.Dropped, LostJournalLines: r.lostLines, Connections: r.connections,
 	})
-	r.observer = returns{program.Observers(logs.Observer(r.log), r.metrics), r.log}
+	r.observer = returns{cli.Observers(logs.Observer(r.log), r.metrics), r.log}
 	if r.parts, err = partsOf(stop, s, r.log, r.observer); err != nil {
 		return err
 	}
@@ -109,7 +109,7 @@ func (r *running) open(ctx, stop context.Context, queue *logs.Queue) (err error)
 		return away("the id of the store can't be read", err)
 	}
 	if catalogue, err = catalogue.OfStore(id); err != nil {
-		return program.Unusable(err)
+		return cli.Unusable(err)
 	}
 	if ids := inUpperCase(catalogue.Document()); len(ids) > 0 {
 		r.log.Warning("guid_in_upper_case").Strs("ids", ids).Send()
@@ -134,7 +134,7 @@ func (r *running) openService(ctx context.Context, catalogue *broker.Catalogue) 
 		Users: r.access.users, LongestBody: s.longestBody, ParsedAtOnce: s.parsedAtOnce, AtOnce: s.threads,
 		Limiter: limiter.New(), Touch: r.sweeper.Touch, Observer: r.observer, Journal: with.journal,
 	})
-	return program.Unusable(err)
+	return cli.Unusable(err)
 }
 
 func (s *settings) rules() broker.Rules {
@@ -166,7 +166,7 @@ func (r *running) serve(ctx, stop context.Context) error {
 		r.sweeper.Run(r.work, sweeping, r.settings.workers, r.settings.sweepTime)
 	}()
 	var stopped time.Time
-	served := server.Server{
+	served := httpserver.Server{
 		Sites: sites, Request: r.settings.requestTime, Stop: r.settings.stopTime, Stopping: func() {
 			stopped = time.Now()
 			r.log.Info("stopping").AnErr("notify_error", notify.Stopping()).Send()
@@ -179,7 +179,7 @@ func (r *running) serve(ctx, stop context.Context) error {
 	r.log.Info("serving").Str("url", r.main.URL()).AnErr("notify_error", notify.Ready()).Send()
 	failed := served.Serve(stop)
 	hasEnded := r.wait(swept, time.Until(stopped.Add(r.settings.stopTime)))
-	isCut := errors.Is(failed, server.ErrCut)
+	isCut := errors.Is(failed, httpserver.ErrCut)
 	r.log.Info("stopped").Bool("all_work_ended", hasEnded && !isCut).Send()
 	if isCut || !hasEnded { // the work uses them still. It is taken up at the next start, as after a crash
 		r.parts.close, r.isCut = nil, true
@@ -222,35 +222,35 @@ func (r *running) wait(ended <-chan struct{}, within time.Duration) bool {
 }
 
 // sites are where it listens, and what answers there.
-func (r *running) sites(ctx context.Context) ([]server.Site, error) {
+func (r *running) sites(ctx context.Context) ([]httpserver.Site, error) {
 	s, certificates := r.settings, r.access.certificates
 	var err error
-	r.main, err = server.Listen(ctx, s.listen, server.Options{
+	r.main, err = httpserver.Listen(ctx, s.listen, httpserver.Options{
 		Connections: s.connections, PerAddress: s.perAddress, TrustedProxies: s.trustedProxies, Share: s.sharePort,
 		Certificates: certificates, Observer: r.observer,
 	})
 	if err != nil {
-		return nil, program.Unusable(fmt.Errorf("--listen %s: %w", s.listen, err))
+		return nil, cli.Unusable(fmt.Errorf("--listen %s: %w", s.listen, err))
 	}
 	r.access.warn(r.access.short)
 	if certificates == nil && !isLoopback(r.main.Addr()) {
 		r.log.Warning("no_tls").Str("listen", s.listen).Send()
 	}
-	if err := server.CheckFiles(s.files()); err != nil {
-		return nil, program.Unusable(err)
+	if err := httpserver.CheckFiles(s.files()); err != nil {
+		return nil, cli.Unusable(err)
 	}
 	options := health.Options{Ready: r.parts.store.Ready, Metrics: r.metrics.Handler(), Observer: r.observer}
 	if s.healthListen != "" {
 		r.health = health.New(ctx, options)
-		other, err := server.Listen(ctx, s.healthListen, server.Options{Connections: 100, Observer: r.observer})
+		other, err := httpserver.Listen(ctx, s.healthListen, httpserver.Options{Connections: 100, Observer: r.observer})
 		if err != nil {
-			return nil, program.Unusable(fmt.Errorf("--health-listen %s: %w", s.healthListen, err))
+			return nil, cli.Unusable(fmt.Errorf("--health-listen %s: %w", s.healthListen, err))
 		}
-		return []server.Site{{Listener: r.main, Handler: r.handler}, {Listener: other, Handler: r.health}}, nil
+		return []httpserver.Site{{Listener: r.main, Handler: r.handler}, {Listener: other, Handler: r.health}}, nil
 	}
 	options.Next = r.handler
 	r.health = health.New(ctx, options)
-	return []server.Site{{Listener: r.main, Handler: r.health}}, nil
+	return []httpserver.Site{{Listener: r.main, Handler: r.health}}, nil
 }
 
 // Of the files that may be open at once:

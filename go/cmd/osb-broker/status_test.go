@@ -14,8 +14,8 @@ import (
 	"github.com/mattn/go-sqlite3"
 	"github.com/spf13/cobra"
 
-	"pippinterm/program"
-	"pippinterm/program/sqlite"
+	"pippinterm/internal/cli"
+	"pippinterm/internal/sqlitefile"
 )
 
 // statusOf is the status of a program that ends with an error.
@@ -23,7 +23,7 @@ func statusOf(err error) int {
 	root := &cobra.Command{Use: "test", RunE: func(*cobra.Command, []string) error { return err }}
 	root.SetArgs([]string{})
 	root.SetErr(&bytes.Buffer{})
-	return program.Run(context.Background(), root)
+	return cli.Run(context.Background(), root)
 }
 
 // A full disk, and a file that another process has kept, end it with status 75. An operator need not change anything.

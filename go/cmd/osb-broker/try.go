@@ -14,11 +14,11 @@ import (
 	"github.com/spf13/cobra"
 	"github.com/spf13/pflag"
 
-	"pippinterm/backend/postgres"
 	"pippinterm/broker"
+	"pippinterm/broker/backend/postgres"
 	"pippinterm/broker/try"
-	"pippinterm/program"
-	"pippinterm/program/logs"
+	"pippinterm/internal/cli"
+	"pippinterm/internal/logs"
 )
 
 const tryHelp = `Test a backend without a broker and without a store.
@@ -100,7 +100,7 @@ func (t *tried) add(flags *pflag.FlagSet) {
 // run tries the backend, and writes a line for each call. It returns the exit status.
 func (t *tried) run(ctx context.Context, out, stderr io.Writer) (status int, err error) {
 	if err := t.checkParameters(); err != nil {
-		return 0, program.Unusable(err)
+		return 0, cli.Unusable(err)
 	}
 	syscall.Umask(0o077) // as serve does: the program inherits it
 	queue := logs.NewQueue(stderr)
@@ -122,7 +122,7 @@ func (t *tried) run(ctx context.Context, out, stderr io.Writer) (status int, err
 		forget() // a second signal ends the process
 	}()
 	if err := t.openState(); err != nil {
-		return 0, program.Unusable(err)
+		return 0, cli.Unusable(err)
 	}
 	report := &tryReport{out: out}
 	err = t.tryAll(stop, logs.New(queue), report)
@@ -173,7 +173,7 @@ func (t *tried) end(report *tryReport, failed error) (status int, err error) {
 	if !report.isClean() {
 		return statusFailedCalls, nil
 	}
-	return program.StatusDone, nil
+	return cli.StatusDone, nil
 }
 
 // tryAll opens the backend as serve does, and tries each plan that is asked for.
@@ -199,7 +199,7 @@ func (t *tried) tryAll(ctx context.Context, log *logs.Logger, report *tryReport)
 	}
 	plans, err := t.chosen(catalogue.Document())
 	if err != nil {
-		return program.Unusable(err)
+		return cli.Unusable(err)
 	}
 	for _, plan := range plans {
 		if err := t.tryPlan(ctx, p, plan, report); err != nil {
@@ -218,7 +218,7 @@ func hasOwner(ctx context.Context, backend broker.Backend) error {
 	}
 	owner, err := databases.Owner(ctx)
 	if err == nil && owner == "" {
-		return program.Unusable(errors.New("no broker has used this server yet. Start 'osb-broker serve' over it once"))
+		return cli.Unusable(errors.New("no broker has used this server yet. Start 'osb-broker serve' over it once"))
 	}
 	return away("the backend can't be used", err)
 }

@@ -13,7 +13,7 @@ import (
 	"testing"
 	"time"
 
-	"pippinterm/broker/postgres/pgtest"
+	"pippinterm/internal/pg/pgtest"
 )
 
 const examples = "../../../examples/broker/"

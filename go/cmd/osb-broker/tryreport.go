@@ -5,9 +5,9 @@ import (
 	"fmt"
 	"io"
 
-	"pippinterm/backend/command"
+	"pippinterm/broker/backend/command"
 	"pippinterm/broker/try"
-	"pippinterm/program"
+	"pippinterm/internal/cli"
 )
 
 // statusFailedCalls is the exit status if a call of the backend failed, or not all was tried or deleted.
@@ -22,7 +22,7 @@ type tryReport struct {
 
 // line writes a line that begins with a word.
 func (r *tryReport) line(word, text string) {
-	if _, err := fmt.Fprintf(r.out, "%-8s%s\n", word, program.OneLine(text)); r.err == nil {
+	if _, err := fmt.Fprintf(r.out, "%-8s%s\n", word, cli.OneLine(text)); r.err == nil {
 		r.err = err
 	}
 }

@@ -9,11 +9,11 @@ import (
 
 	"github.com/spf13/cobra"
 
-	pgsession "pippinterm/broker/postgres/session"
+	"pippinterm/internal/cli"
+	pgsession "pippinterm/internal/pg"
+	"pippinterm/internal/sqlitefile"
 	"pippinterm/platform"
 	"pippinterm/platform/vault"
-	"pippinterm/program"
-	"pippinterm/program/sqlite"
 )
 
 // The exit statuses besides those of package program.
@@ -27,12 +27,12 @@ const (
 type app struct {
 	places  places
 	journal journalSettings // of a command that changes records
-	status  int             // that of the error of the command, or 0 for that of program.Run
+	status  int             // that of the error of the command, or 0 for that of cli.Run
 }
 
-// exit is the exit status, by that of program.Run.
+// exit is the exit status, by that of cli.Run.
 func (a *app) exit(status int) int {
-	if a.status != 0 && status == program.StatusFailed {
+	if a.status != 0 && status == cli.StatusFailed {
 		return a.status
 	}
 	return status
@@ -46,14 +46,14 @@ func (a *app) judged(err error) error {
 	case errors.As(err, &ended):
 		a.status = ended.status
 	case errors.As(err, &fault) && fault.Kind == platform.Invalid:
-		return program.Unusable(err)
+		return cli.Unusable(err)
 	case errors.As(err, &fault):
 		a.status = statusRejected
 	case pgsession.IsCode(err, pgsession.QueryCanceled, pgsession.LockNotAvailable):
-		return program.Unavailable(fmt.Errorf("the store hasn't answered in time: %w. Another session may have locked a "+
+		return cli.Unavailable(fmt.Errorf("the store hasn't answered in time: %w. Another session may have locked a "+
 			"table, for example by VACUUM FULL: see pg_stat_activity, and try again", err))
 	case errors.Is(err, platform.ErrAway), sqlitefile.MayPass(err):
-		return program.Unavailable(err)
+		return cli.Unavailable(err)
 	}
 	return err
 }

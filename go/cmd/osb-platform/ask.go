@@ -8,9 +8,9 @@ import (
 
 	"github.com/spf13/cobra"
 
+	"pippinterm/internal/cli"
 	"pippinterm/platform"
 	"pippinterm/platform/client"
-	"pippinterm/program"
 )
 
 // askCommand asks a broker for the last operation of one row.
@@ -62,7 +62,7 @@ func (s session) asking(files client.Files, allowHTTP bool, warn func(string)) (
 		Password: passwordsOf(own, client.NewPasswords(s.vault, warn, s.keys...)), TLS: files, AllowHTTP: allowHTTP,
 		CatalogueTime: askTime,
 	})
-	return asking, program.Unusable(err)
+	return asking, cli.Unusable(err)
 }
 
 // A question is a row that a broker is asked about.
@@ -89,7 +89,7 @@ func (s session) question(ctx context.Context, id string) (question, error) {
 	}
 	broker, err := brokerOf(ctx, s.store, entry.Broker)
 	if err == nil && broker.Password != nil && s.vault == nil {
-		err = program.Unusable(errors.New("name the file with the key that encrypted the broker's password: " +
+		err = cli.Unusable(errors.New("name the file with the key that encrypted the broker's password: " +
 			"--key-file FILE"))
 	}
 	return question{entry: entry, broker: broker}, err

@@ -14,10 +14,10 @@ import (
 	"github.com/spf13/cobra"
 	"github.com/spf13/pflag"
 
+	"pippinterm/internal/cli"
+	"pippinterm/internal/secrets"
 	"pippinterm/platform"
 	"pippinterm/platform/client"
-	"pippinterm/program"
-	"pippinterm/program/secrets"
 )
 
 const passwordVariable = "OSB_PLATFORM_PASSWORD"
@@ -106,10 +106,10 @@ func (l *login) password(stdin io.Reader, vault platform.Vault, warn func(string
 		return nil, nil
 	}
 	if l.passwordFile != "" {
-		return nil, program.Unusable(errors.New("give --password-file or --store-password, and not both"))
+		return nil, cli.Unusable(errors.New("give --password-file or --store-password, and not both"))
 	}
 	if vault == nil {
-		return nil, program.Unusable(errors.New("--store-password: name the file with the key that encrypts the " +
+		return nil, cli.Unusable(errors.New("--store-password: name the file with the key that encrypts the " +
 			"password: --key-file FILE, here and for 'run'. 'osb-platform key' makes a key"))
 	}
 	if os.Getenv(passwordVariable) != "" {
@@ -117,10 +117,10 @@ func (l *login) password(stdin io.Reader, vault platform.Vault, warn func(string
 		if warning != "" {
 			warn(warning)
 		}
-		return []byte(text), program.Unusable(err)
+		return []byte(text), cli.Unusable(err)
 	}
 	if isTerminal(stdin) {
-		return nil, program.Unusable(fmt.Errorf("set %s, or write the password to standard input by <FILE: a terminal "+
+		return nil, cli.Unusable(fmt.Errorf("set %s, or write the password to standard input by <FILE: a terminal "+
 			"would show it", passwordVariable))
 	}
 	line, err := bufio.NewReader(io.LimitReader(stdin, 64<<10)).ReadString('\n')
@@ -129,7 +129,7 @@ func (l *login) password(stdin io.Reader, vault platform.Vault, warn func(string
 		return nil, err
 	}
 	if line == "" {
-		return nil, program.Unusable(fmt.Errorf("set %s, or write the password to standard input", passwordVariable))
+		return nil, cli.Unusable(fmt.Errorf("set %s, or write the password to standard input", passwordVariable))
 	}
 	return []byte(line), nil
 }
@@ -140,7 +140,7 @@ func absolute(file string) (string, error) {
 		return "", nil
 	}
 	if _, _, err := secrets.Secret("", file); err != nil {
-		return "", program.Unusable(fmt.Errorf("--password-file: %w", err))
+		return "", cli.Unusable(fmt.Errorf("--password-file: %w", err))
 	}
 	return filepath.Abs(file)
 }
@@ -234,7 +234,7 @@ instances have come into another store, 'broker list' prints the --accept-store 
 		Args: wants("NAME"),
 		RunE: a.over(needsKey, func(ctx context.Context, c *cobra.Command, s session, arguments []string) error {
 			if !l.isGiven() && accepts == "" {
-				return program.Unusable(errors.New("give an option that says what to change (see " +
+				return cli.Unusable(errors.New("give an option that says what to change (see " +
 					"osb-platform broker set --help)"))
 			}
 			warn := warner(c.ErrOrStderr())

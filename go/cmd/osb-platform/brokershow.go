@@ -10,9 +10,9 @@ import (
 
 	"github.com/spf13/cobra"
 
+	"pippinterm/internal/cli"
 	"pippinterm/platform"
 	"pippinterm/platform/client"
-	"pippinterm/program"
 )
 
 // showBrokerCommand shows a broker and what it sells.
@@ -137,7 +137,7 @@ func (l *login) client(vault platform.Vault, keys []string, warn func(string)) (
 	asking, err := client.New(client.Options{
 		Password: client.NewPasswords(vault, warn, keys...).Of, TLS: l.tls, AllowHTTP: l.allowHTTP, CatalogueTime: askTime,
 	})
-	return asking, program.Unusable(err)
+	return asking, cli.Unusable(err)
 }
 
 // askCatalogue asks a broker for its catalogue once, and keeps it, so that orders can name its services at once. If the

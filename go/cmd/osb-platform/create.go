@@ -9,8 +9,8 @@ import (
 	"github.com/spf13/cobra"
 	"github.com/spf13/pflag"
 
+	"pippinterm/internal/cli"
 	"pippinterm/platform"
-	"pippinterm/program"
 )
 
 // mostTries is the most for --tries.
@@ -60,7 +60,7 @@ If the creation fails for a reason that may pass, such as a timeout or a 503, it
 const printsLastTry = "Standard error gets the id at once, and standard output the id of the last try at the end"
 
 func addTries(flags *pflag.FlagSet, tries *int) {
-	flags.Var(program.Count(tries, 0, 1, mostTries), "tries", fmt.Sprintf("how often it is tried at most, under another "+
+	flags.Var(cli.Count(tries, 0, 1, mostTries), "tries", fmt.Sprintf("how often it is tried at most, under another "+
 		"id each time (default: %d, or 1 with --id)", platform.DefaultTries))
 }
 
@@ -91,7 +91,7 @@ has the ids of all tries.`,
 		Args: wants("INSTANCE"),
 		RunE: a.over(needsKey, func(ctx context.Context, c *cobra.Command, s session, arguments []string) error {
 			if s.vault == nil {
-				return program.Unusable(errors.New("name the file with the key that encrypts the credentials: " +
+				return cli.Unusable(errors.New("name the file with the key that encrypts the credentials: " +
 					"--key-file FILE, here and for 'run'. 'osb-platform key' makes a key"))
 			}
 			wanted.Instance = arguments[0]

@@ -6,8 +6,8 @@ import (
 
 	"github.com/spf13/cobra"
 
+	"pippinterm/internal/cli"
 	"pippinterm/platform"
-	"pippinterm/program"
 )
 
 // credentialsCommand prints the credentials of a binding.
@@ -26,7 +26,7 @@ whose member credentials has the credentials. Nothing of it stands in a log.`,
 				return err
 			}
 			if s.vault == nil && entry.Key.IsBinding {
-				return program.Unusable(errors.New("name the file with the key that encrypted the credentials: " +
+				return cli.Unusable(errors.New("name the file with the key that encrypted the credentials: " +
 					"--key-file FILE"))
 			}
 			object, err := s.orders.Credentials(ctx, entry.Key)
@@ -38,7 +38,7 @@ whose member credentials has the credentials. Nothing of it stands in a log.`,
 				_, err = c.OutOrStdout().Write(text)
 				return err
 			}
-			return program.WriteSecret(name, text)
+			return cli.WriteSecret(name, text)
 		}),
 	}
 	made.Flags().StringVar(&name, "to", "", "a new `file` to write them to, that only its owner can read (mode 0600)")

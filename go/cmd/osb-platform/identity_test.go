@@ -6,7 +6,7 @@ import (
 	"strings"
 	"testing"
 
-	"pippinterm/program/logs"
+	"pippinterm/internal/logs"
 )
 
 // A logged is a line of a log, as far as it counts here.

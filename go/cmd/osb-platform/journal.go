@@ -6,18 +6,18 @@ import (
 
 	"github.com/spf13/pflag"
 
+	"pippinterm/internal/cli"
+	"pippinterm/internal/journalfile"
+	"pippinterm/internal/sqlitefile"
 	"pippinterm/platform"
-	"pippinterm/platform/journaled"
-	"pippinterm/program"
-	"pippinterm/program/journal"
-	"pippinterm/program/sqlite"
+	"pippinterm/platform/journal"
 )
 
 // A platformJournal is the journal of a process, if --journal names one. The zero platformJournal wraps nothing.
 type platformJournal struct {
 	failed func(platform.Failure)
-	writer *journal.Writer // or nil
-	to     *journaled.Journal
+	writer *journalfile.Writer // or nil
+	to     *journal.Journal
 }
 
 // journalSettings are the options of a journal.
@@ -26,7 +26,7 @@ type journalSettings struct {
 	size int // in MiB
 }
 
-func (s *journalSettings) add(flags *pflag.FlagSet) { program.JournalFlags(flags, &s.path, &s.size) }
+func (s *journalSettings) add(flags *pflag.FlagSet) { cli.JournalFlags(flags, &s.path, &s.size) }
 
 // open opens the journal that the settings name, if they name one, for a worker of this name, or for none. vault seals the
 // credentials of the store, or is nil.
@@ -34,9 +34,9 @@ func (j *platformJournal) open(s journalSettings, worker string, vault platform.
 	if s.path == "" {
 		return nil
 	}
-	j.writer, err = journal.Open(journal.Options{
+	j.writer, err = journalfile.Open(journalfile.Options{
 		Path: s.path, Side: "platform", Most: int64(s.size) << 20,
-		Started: journaled.Started(program.Version(), worker),
+		Started: journal.Started(cli.Version(), worker),
 		Failed: func(err error) {
 			j.failed(platform.Failure{Event: "journal_failed", Err: fmt.Errorf("lines are lost: %w", err)})
 		},
@@ -44,7 +44,7 @@ func (j *platformJournal) open(s journalSettings, worker string, vault platform.
 	if err != nil {
 		return journalError(err)
 	}
-	j.to = journaled.New(j.writer, vault, isDoubtful)
+	j.to = journal.New(j.writer, vault, isDoubtful)
 	return nil
 }
 
@@ -54,9 +54,9 @@ func journalError(err error) error {
 	mayPass := sqlitefile.MayPass(err)
 	err = fmt.Errorf("--journal: %w", err)
 	if mayPass {
-		return program.Unavailable(err)
+		return cli.Unavailable(err)
 	}
-	return program.Unusable(err)
+	return cli.Unusable(err)
 }
 
 // isDoubtful is whether a transaction that has failed with an error may have been committed.

@@ -14,9 +14,9 @@ import (
 	"testing"
 	"time"
 
+	"pippinterm/internal/journalfile"
+	"pippinterm/internal/sqlitefile"
 	"pippinterm/platform"
-	"pippinterm/program/journal"
-	"pippinterm/program/sqlite"
 )
 
 // eventsIn are the events of all files of a folder with journals, one text for each file, by name.
@@ -179,9 +179,9 @@ func inFrontOf(t *testing.T, s *site, given string) (front string, received chan
 	proxy := httputil.NewSingleHostReverseProxy(behind)
 	proxy.ModifyResponse = func(of *http.Response) error {
 		if strings.Contains(of.Request.URL.Path, "service_instances") {
-			received <- of.Request.Header.Get(journal.Header)
+			received <- of.Request.Header.Get(journalfile.Header)
 		}
-		of.Header.Set(journal.Header, given)
+		of.Header.Set(journalfile.Header, given)
 		return nil
 	}
 	server := httptest.NewServer(proxy)

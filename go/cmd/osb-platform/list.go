@@ -12,8 +12,8 @@ import (
 
 	"github.com/spf13/cobra"
 
+	"pippinterm/internal/cli"
 	"pippinterm/platform"
-	"pippinterm/program"
 )
 
 // readAtOnce is how many rows are read at once.
@@ -103,7 +103,7 @@ func (l *listing) prepare() error {
 			return nil
 		}
 	}
-	return program.Unusable(fmt.Errorf("--state %q: want one of %s", l.state, joined(allStates)))
+	return cli.Unusable(fmt.Errorf("--state %q: want one of %s", l.state, joined(allStates)))
 }
 
 // listTo prints the rows. It is no error if the reader of the output has gone, such as head after enough lines.

@@ -9,9 +9,9 @@ import (
 	"github.com/rs/zerolog"
 
 	"pippinterm/broker"
+	"pippinterm/internal/logs"
 	"pippinterm/platform"
 	"pippinterm/platform/api"
-	"pippinterm/program/logs"
 )
 
 // The levels of the log, the least first.

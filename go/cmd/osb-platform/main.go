@@ -9,15 +9,15 @@ import (
 
 	"github.com/spf13/cobra"
 
+	"pippinterm/internal/cli"
 	"pippinterm/platform"
-	"pippinterm/program"
 )
 
 func main() {
 	syscall.Umask(0o077)
 	debug.SetGCPercent(400) // it has little in memory, and makes much that is short-lived
 	a := &app{}
-	os.Exit(a.exit(program.Run(context.Background(), rootCommand(a))))
+	os.Exit(a.exit(cli.Run(context.Background(), rootCommand(a))))
 }
 
 const environment = `
@@ -40,7 +40,7 @@ func rootCommand(a *app) *cobra.Command {
 	root := &cobra.Command{
 		Use:     "osb-platform",
 		Short:   "A platform under the Open Service Broker API 2.17",
-		Version: program.Version(),
+		Version: cli.Version(),
 		Long: `A platform under the Open Service Broker API 2.17. It creates instances and bindings of any number of
 brokers, and deletes them.
 
@@ -53,7 +53,7 @@ moment and start it again.
 
 docs/platform-guide.md says how to run it.
 ` + environment,
-		PersistentPreRunE: func(*cobra.Command, []string) error { return program.Unusable(platform.CheckPoint()) },
+		PersistentPreRunE: func(*cobra.Command, []string) error { return cli.Unusable(platform.CheckPoint()) },
 	}
 	root.AddGroup(
 		&cobra.Group{ID: "orders", Title: "Instances and bindings:"}, &cobra.Group{ID: "run", Title: "The program:"},

@@ -12,9 +12,9 @@ import (
 	"testing"
 	"time"
 
+	"pippinterm/internal/cli"
 	"pippinterm/platform"
 	"pippinterm/platform/sqlite"
-	"pippinterm/program"
 )
 
 // deadline is how long a test waits for something that must happen.
@@ -50,7 +50,7 @@ func callWith(t *testing.T, stdin string, arguments ...string) called {
 	root.SetIn(strings.NewReader(stdin))
 	root.SetOut(&out)
 	root.SetErr(&failed)
-	status := a.exit(program.Run(context.Background(), root))
+	status := a.exit(cli.Run(context.Background(), root))
 	return called{status: status, out: out.String(), failed: failed.String()}
 }
 

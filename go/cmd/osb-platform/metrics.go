@@ -12,8 +12,8 @@ import (
 	"github.com/prometheus/client_golang/prometheus/collectors"
 	"github.com/prometheus/client_golang/prometheus/promhttp"
 
+	"pippinterm/internal/latest"
 	"pippinterm/platform"
-	"pippinterm/program/latest"
 )
 
 const prefix = "osb_platform_"

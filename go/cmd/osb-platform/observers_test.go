@@ -10,9 +10,9 @@ import (
 	"testing"
 	"time"
 
+	"pippinterm/internal/logs"
 	"pippinterm/osb"
 	"pippinterm/platform"
-	"pippinterm/program/logs"
 )
 
 // happened tells an observer of one event of each kind.

@@ -12,16 +12,16 @@ import (
 	"net/netip"
 	"time"
 
+	"pippinterm/internal/cli"
+	"pippinterm/internal/httpserver"
+	"pippinterm/internal/httpserver/health"
+	"pippinterm/internal/httpserver/limiter"
+	"pippinterm/internal/secrets"
 	"pippinterm/platform"
 	"pippinterm/platform/api"
 	"pippinterm/platform/api/apiclient"
 	"pippinterm/platform/page"
 	"pippinterm/platform/vault"
-	"pippinterm/program"
-	"pippinterm/program/health"
-	"pippinterm/program/limiter"
-	"pippinterm/program/secrets"
-	"pippinterm/program/server"
 )
 
 // How many connections may be open to each part at once.
@@ -44,8 +44,8 @@ type part struct {
 	connections     int
 	perAddress      int // of them, or 0 for a quarter
 	trusted         []netip.Prefix
-	silence         time.Duration        // how long a new connection may send nothing, or 0 for the usual
-	certificates    *server.Certificates // or nil for HTTP
+	silence         time.Duration            // how long a new connection may send nothing, or 0 for the usual
+	certificates    *httpserver.Certificates // or nil for HTTP
 	make            func() (http.Handler, error)
 	url             *string // where it is, once it listens
 }
@@ -198,7 +198,7 @@ func (r *running) checkKeyOfAPI(ctx context.Context) error {
 }
 
 // warnOf warns of a part that others than this machine reach, and that isn't protected.
-func (r *running) warnOf(of part, listener *server.Listener) {
+func (r *running) warnOf(of part, listener *httpserver.Listener) {
 	address, isTCP := listener.Addr().(*net.TCPAddr)
 	if of.url == &r.healthURL || isTCP && address.IP.IsLoopback() {
 		return
@@ -214,7 +214,7 @@ func (r *running) warnOf(of part, listener *server.Listener) {
 // serveSites serves the parts, until the function that it returns is called.
 func (r *running) serveSites(work, stop context.Context) (end func(), err error) {
 	var stops []func()
-	var sites []server.Site
+	var sites []httpserver.Site
 	for _, it := range r.parts(work, func(call func()) { stops = append(stops, call) }) {
 		if it.address == "" {
 			continue
@@ -224,7 +224,7 @@ func (r *running) serveSites(work, stop context.Context) (end func(), err error)
 			for _, open := range sites {
 				_ = open.Listener.Close()
 			}
-			return nil, program.Unusable(fmt.Errorf("%s %s: %w", it.option, it.address, err))
+			return nil, cli.Unusable(fmt.Errorf("%s %s: %w", it.option, it.address, err))
 		}
 		sites = append(sites, site)
 	}
@@ -235,25 +235,25 @@ func (r *running) serveSites(work, stop context.Context) (end func(), err error)
 }
 
 // site listens for a part.
-func (r *running) site(work context.Context, of part) (server.Site, error) {
+func (r *running) site(work context.Context, of part) (httpserver.Site, error) {
 	handler, err := of.make()
 	if err != nil {
-		return server.Site{}, err
+		return httpserver.Site{}, err
 	}
-	listener, err := server.Listen(work, of.address, server.Options{
+	listener, err := httpserver.Listen(work, of.address, httpserver.Options{
 		Connections: of.connections, PerAddress: of.perAddress, TrustedProxies: of.trusted, Silent: of.silence,
 		Write: slowest, Certificates: of.certificates, Observer: serverObserver{to: r.observer},
 	})
 	if err != nil {
-		return server.Site{}, err
+		return httpserver.Site{}, err
 	}
 	*of.url = listener.URL()
 	r.warnOf(of, listener)
-	return server.Site{Listener: listener, Handler: handler}, nil
+	return httpserver.Site{Listener: listener, Handler: handler}, nil
 }
 
 // serveAll serves the sites until the function that it returns is called. After stop it calls the functions stops.
-func (r *running) serveAll(work, stop context.Context, sites []server.Site, stops []func()) (end func()) {
+func (r *running) serveAll(work, stop context.Context, sites []httpserver.Site, stops []func()) (end func()) {
 	ctx, cancel := context.WithCancel(work)
 	served, noticed := make(chan struct{}), make(chan struct{})
 	go func() {
@@ -268,8 +268,8 @@ func (r *running) serveAll(work, stop context.Context, sites []server.Site, stop
 	}()
 	go func() {
 		defer close(served)
-		err := server.Server{Sites: sites, Stop: r.lastAnswers()}.Serve(ctx)
-		if err != nil && !errors.Is(err, server.ErrCut) {
+		err := httpserver.Server{Sites: sites, Stop: r.lastAnswers()}.Serve(ctx)
+		if err != nil && !errors.Is(err, httpserver.ErrCut) {
 			r.log.at(errorLevel, "serving_failed").Err(err).Send()
 			r.notServed <- err
 		}

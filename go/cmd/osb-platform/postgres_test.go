@@ -12,8 +12,8 @@ import (
 	"testing"
 	"time"
 
-	"pippinterm/broker/postgres/pgtest"
-	pgsession "pippinterm/broker/postgres/session"
+	pgsession "pippinterm/internal/pg"
+	"pippinterm/internal/pg/pgtest"
 )
 
 // A wire stands between a worker and PostgreSQL, and may hang: then nothing that the server answers comes through.

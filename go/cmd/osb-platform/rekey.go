@@ -8,9 +8,9 @@ import (
 
 	"github.com/spf13/cobra"
 
+	"pippinterm/internal/cli"
 	"pippinterm/platform"
 	"pippinterm/platform/vault"
-	"pippinterm/program"
 )
 
 // rekeySessions is how many connections to a database rekey has.
@@ -45,15 +45,15 @@ you keep backups of the store.`,
 
 func rekey(ctx context.Context, p places, file string, to io.Writer, warn func(string)) (err error) {
 	if file == "" {
-		return program.Unusable(errors.New("--new-key-file is missing"))
+		return cli.Unusable(errors.New("--new-key-file is missing"))
 	}
 	old := p.keys()
 	if len(old) == 0 {
-		return program.Unusable(errors.New("name the file with the present key: --key-file FILE"))
+		return cli.Unusable(errors.New("name the file with the present key: --key-file FILE"))
 	}
 	keys, warnings, err := vault.FromFiles(append([]string{file}, old...)...)
 	if err != nil {
-		return program.Unusable(fmt.Errorf("the key: %w", err))
+		return cli.Unusable(fmt.Errorf("the key: %w", err))
 	}
 	for _, it := range warnings {
 		warn(it)
@@ -96,15 +96,15 @@ func rekeyError(err error) error {
 		return &platform.Fault{Kind: platform.Conflict, Text: err.Error() +
 			": stop all workers and every 'serve', and run this again. Nothing was changed"}
 	case errors.Is(err, vault.ErrSameKey):
-		return program.Unusable(errors.New("--new-key-file has the same key as --key-file: " +
+		return cli.Unusable(errors.New("--new-key-file has the same key as --key-file: " +
 			"make a new one with 'osb-platform key'"))
 	case errors.Is(err, vault.ErrStoreKey):
-		return program.Unusable(fmt.Errorf("%w: name its file with --key-file", err))
+		return cli.Unusable(fmt.Errorf("%w: name its file with --key-file", err))
 	case errors.Is(err, vault.ErrRotating):
-		return program.Unusable(fmt.Errorf("%w by another new key: name that file with --new-key-file, or with a "+
+		return cli.Unusable(fmt.Errorf("%w by another new key: name that file with --new-key-file, or with a "+
 			"further --key-file", err))
 	case errors.Is(err, vault.ErrUnopened):
-		return program.Unusable(fmt.Errorf("%w. Everything else is encrypted again. Name the file with the key that "+
+		return cli.Unusable(fmt.Errorf("%w. Everything else is encrypted again. Name the file with the key that "+
 			"encrypted it by a further --key-file, and run this again. If no key opens a binding's credentials, unbind it "+
 			"first. If none opens a broker's password, set it again: osb-platform broker set NAME --store-password",
 			err))

@@ -7,8 +7,8 @@ import (
 
 	"github.com/spf13/cobra"
 
+	"pippinterm/internal/cli"
 	"pippinterm/platform"
-	"pippinterm/program"
 )
 
 // removeCommand has an instance deleted.
@@ -55,7 +55,7 @@ If the creation was tried again under other ids, the last try is removed. Standa
 			id := arguments[0]
 			key, err := platform.ParseKey(id)
 			if err == nil && !key.IsBinding {
-				err = program.Unusable(fmt.Errorf("%q is an instance: want INSTANCE/BINDING, or use remove", id))
+				err = cli.Unusable(fmt.Errorf("%q is an instance: want INSTANCE/BINDING, or use remove", id))
 			}
 			if err != nil {
 				return err
@@ -184,7 +184,7 @@ resource exists, so first ask the operator of the broker to look. 'list' keeps t
 		Args:    wants("ID"),
 		RunE: a.over(needsStore, func(ctx context.Context, _ *cobra.Command, s session, arguments []string) error {
 			if text == "" {
-				return program.Unusable(errors.New("--because is missing: give the reason, for whoever reads the " +
+				return cli.Unusable(errors.New("--because is missing: give the reason, for whoever reads the " +
 					"record later"))
 			}
 			entry, err := readEntry(ctx, s.store, arguments[0])

@@ -9,14 +9,14 @@ import (
 	"syscall"
 	"time"
 
-	pgsession "pippinterm/broker/postgres/session"
+	"pippinterm/internal/cli"
+	"pippinterm/internal/cli/notify"
+	"pippinterm/internal/httpserver"
+	"pippinterm/internal/logs"
+	pgsession "pippinterm/internal/pg"
 	"pippinterm/platform"
 	"pippinterm/platform/client"
 	"pippinterm/platform/vault"
-	"pippinterm/program"
-	"pippinterm/program/logs"
-	"pippinterm/program/notify"
-	"pippinterm/program/server"
 )
 
 const (
@@ -41,7 +41,7 @@ type running struct {
 	opened   chan struct{} // is closed once the store is open
 	reload   []reloading   // what SIGHUP does
 	// apiTLS are the certificates of the API, or nil for HTTP.
-	apiTLS *server.Certificates
+	apiTLS *httpserver.Certificates
 	// notServed has why the sites are served no more.
 	notServed chan error
 	// These are where it listens, or empty.
@@ -112,7 +112,7 @@ func (r *running) warnOfFolder() {
 		return
 	}
 	folder := filepath.Dir(r.places.store)
-	if mode, isOpen := program.IsOpen(folder); isOpen {
+	if mode, isOpen := cli.IsOpen(folder); isOpen {
 		r.log.at(warningLevel, "folder_open").Str("folder", folder).Str("mode", fmt.Sprintf("%04o", mode)).Send()
 	}
 }
@@ -204,12 +204,12 @@ func (r *running) open(ctx context.Context) (err error) {
 		}
 		r.log.at(infoLevel, "no_key").Str("consequence", consequence).Send()
 	}
-	if err := server.CheckFiles(r.files()); err != nil {
-		return program.Unusable(err)
+	if err := httpserver.CheckFiles(r.files()); err != nil {
+		return cli.Unusable(err)
 	}
 	if r.settings.sites.isTLS() {
-		if r.apiTLS, err = server.LoadCertificates(r.settings.sites.apiTLS); err != nil {
-			return program.Unusable(fmt.Errorf("--api-tls-..: %w", err))
+		if r.apiTLS, err = httpserver.LoadCertificates(r.settings.sites.apiTLS); err != nil {
+			return cli.Unusable(fmt.Errorf("--api-tls-..: %w", err))
 		}
 		r.reload = append(r.reload, certificatesOf(r.apiTLS.Reload))
 	}
@@ -241,7 +241,7 @@ func (r *running) openEngine(ctx context.Context, own string) (err error) {
 		Connections: s.atOnce, AllowHTTP: s.allowHTTP,
 	})
 	if err != nil {
-		return program.Unusable(err)
+		return cli.Unusable(err)
 	}
 	if s.tls != (client.Files{}) {
 		r.reload = append(r.reload, certificatesOf(r.client.Reload))

@@ -10,9 +10,9 @@ import (
 	"github.com/spf13/cobra"
 	"github.com/spf13/pflag"
 
+	"pippinterm/internal/cli"
 	"pippinterm/platform"
 	"pippinterm/platform/client"
-	"pippinterm/program"
 )
 
 // defaultStop is the default of --stop-seconds.
@@ -78,16 +78,16 @@ The page and the API are served too, if --page and --api name where. GET /health
 
 func (s *runSettings) addWork(flags *pflag.FlagSet) {
 	flags.Var(&s.worker, "worker", "the `name` of this worker, that no other one over the store has")
-	flags.Var(program.Count(&s.atOnce, 16, 1, 1024), "at-once", "requests that are in flight at once")
-	flags.Var(program.Seconds(&s.seconds, time.Minute), "seconds", "for a request to be sent and answered")
+	flags.Var(cli.Count(&s.atOnce, 16, 1, 1024), "at-once", "requests that are in flight at once")
+	flags.Var(cli.Seconds(&s.seconds, time.Minute), "seconds", "for a request to be sent and answered")
 	flags.BoolVar(&s.once, "once", false,
 		"send what is due, wait for the answers, and end. The exit status is 1 if a broker isn't reached, or if rows that "+
 			"are due stay locked")
 	flags.Var(&s.unsettled, "unsettled", "what becomes of what is unsettled under an id that was made up here: "+
 		"remove deletes it, wait leaves it to you. What is unsettled already stays (`remove|wait`)")
 	flags.Var(&s.level, "log-level", "the least `level` that is logged: debug, info, warning, error")
-	flags.Var(program.Seconds(&s.look, time.Second), "look-seconds", "between two looks for what others have written")
-	flags.Var(program.Seconds(&s.stop, defaultStop), "stop-seconds",
+	flags.Var(cli.Seconds(&s.look, time.Second), "look-seconds", "between two looks for what others have written")
+	flags.Var(cli.Seconds(&s.stop, defaultStop), "stop-seconds",
 		"for requests in flight to be answered after SIGTERM")
 	addTLS(flags, &s.tls)
 	flags.BoolVar(&s.allowHTTP, "allow-http", false,
@@ -197,11 +197,11 @@ func (s *runSettings) check() error {
 	}
 	for at, name := range []string{"hold", "first-pace", "longest-pace", "longest-poll"} {
 		if s.set[at].changed {
-			return program.Unusable(fmt.Errorf("--%s is of a broker: osb-platform broker set NAME --%s", name, name))
+			return cli.Unusable(fmt.Errorf("--%s is of a broker: osb-platform broker set NAME --%s", name, name))
 		}
 	}
 	if s.passwordFile != "" || s.moved {
-		return program.Unusable(errors.New("--password-file and --moved go with --broker URL. " +
+		return cli.Unusable(errors.New("--password-file and --moved go with --broker URL. " +
 			"For other brokers use: osb-platform broker set"))
 	}
 	return nil

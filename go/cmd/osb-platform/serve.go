@@ -6,7 +6,7 @@ import (
 
 	"github.com/spf13/cobra"
 
-	"pippinterm/program"
+	"pippinterm/internal/cli"
 )
 
 // serveCommand serves the API and the page, and sends nothing.
@@ -32,7 +32,7 @@ GET /healthz, /readyz and /metrics of --health-listen need no password.`,
 	flags.BoolVar(&s.allowHTTP, "allow-http", false,
 		"let the API add brokers by http:// that aren't on this machine. 'run' needs it too")
 	flags.Var(&s.level, "log-level", "the least `level` that is logged: debug, info, warning, error")
-	flags.Var(program.Seconds(&s.stop, defaultStop), "stop-seconds", "for requests to be answered after SIGTERM")
+	flags.Var(cli.Seconds(&s.stop, defaultStop), "stop-seconds", "for requests to be answered after SIGTERM")
 	s.journal.add(flags)
 	return made
 }
@@ -40,7 +40,7 @@ GET /healthz, /readyz and /metrics of --health-listen need no password.`,
 // checkServe returns an error if there is nothing to serve.
 func (s *runSettings) checkServe() error {
 	if s.sites.page == "" && s.sites.api == "" {
-		return program.Unusable(errors.New("give --api HOST:PORT, or --page HOST:PORT, or both"))
+		return cli.Unusable(errors.New("give --api HOST:PORT, or --page HOST:PORT, or both"))
 	}
 	return nil
 }

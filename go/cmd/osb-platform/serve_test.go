@@ -26,9 +26,9 @@ import (
 	"testing"
 	"time"
 
+	"pippinterm/internal/logs"
 	"pippinterm/platform"
 	"pippinterm/platform/sqlite"
-	"pippinterm/program/logs"
 )
 
 const token = "0123456789abcdef0123456789abcdef" // of the API

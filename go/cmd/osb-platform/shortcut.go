@@ -8,10 +8,10 @@ import (
 	"reflect"
 	"strings"
 
+	"pippinterm/internal/cli"
+	"pippinterm/internal/secrets"
 	"pippinterm/platform"
 	"pippinterm/platform/client"
-	"pippinterm/program"
-	"pippinterm/program/secrets"
 )
 
 // defaultBroker is the name of the broker of `run --broker`, and of that of a store of version 0.2.
@@ -23,13 +23,13 @@ func takePassword() (string, error) {
 		return "", nil
 	}
 	text, _, err := secrets.Secret(passwordVariable, "")
-	return text, program.Unusable(err)
+	return text, cli.Unusable(err)
 }
 
 // putDefault writes the broker of `run --broker` into the store, unless it stands there as it is.
 func (s *runSettings) putDefault(ctx context.Context, store platform.Store, hasPassword bool) error {
 	if err := platform.CheckURL(s.url, s.allowHTTP); err != nil {
-		return program.Unusable(fmt.Errorf("--broker: %w", err))
+		return cli.Unusable(fmt.Errorf("--broker: %w", err))
 	}
 	file, err := absolute(s.passwordFile)
 	if err != nil {
@@ -48,14 +48,14 @@ func (s *runSettings) putDefault(ctx context.Context, store platform.Store, hasP
 	case file != "" || hasPassword:
 		after.Password, after.PasswordFile = nil, file
 	case after.Password == nil && after.PasswordFile == "":
-		return program.Unusable(fmt.Errorf("set %s, or name a file with --password-file", passwordVariable))
+		return cli.Unusable(fmt.Errorf("set %s, or name a file with --password-file", passwordVariable))
 	}
 	switch {
 	case !isNew && before.URL != after.URL && !s.moved:
-		return program.Unusable(fmt.Errorf("the broker default is at %s. If it has moved to another URL, add "+
+		return cli.Unusable(fmt.Errorf("the broker default is at %s. If it has moved to another URL, add "+
 			"--moved. For another broker use: osb-platform broker add NAME URL", before.URL))
 	case after.User == "" || strings.Contains(after.User, ":"):
-		return program.Unusable(errors.New("--user wants a name without a colon"))
+		return cli.Unusable(errors.New("--user wants a name without a colon"))
 	case !isNew && reflect.DeepEqual(before, after):
 		return nil
 	}

@@ -10,10 +10,10 @@ import (
 	"testing"
 	"time"
 
-	"pippinterm/backend/folders"
 	"pippinterm/broker"
-	"pippinterm/broker/filelock"
+	"pippinterm/broker/backend/folders"
 	"pippinterm/broker/sqlite"
+	"pippinterm/internal/filelock"
 	"pippinterm/osb"
 )
 

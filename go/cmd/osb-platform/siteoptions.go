@@ -7,9 +7,9 @@ import (
 
 	"github.com/spf13/pflag"
 
+	"pippinterm/internal/cli"
+	"pippinterm/internal/httpserver"
 	"pippinterm/platform/api"
-	"pippinterm/program"
-	"pippinterm/program/server"
 )
 
 // SiteSettings are the options of what is served besides the work.
@@ -19,7 +19,7 @@ type siteSettings struct {
 	pageHosts       []string
 	api, apiTokens  string
 	brokerHosts     []string
-	apiTLS          server.CertificateFiles
+	apiTLS          httpserver.CertificateFiles
 	perAddress      int // connections, or 0 for a quarter of those of the page or the API
 	trustedProxies  []netip.Prefix
 }
@@ -40,10 +40,10 @@ func (s *siteSettings) add(flags *pflag.FlagSet) {
 	flags.StringVar(&s.apiTLS.Certificate, "api-tls-certificate", "",
 		"a `file` with the certificates of the API, which is HTTPS then")
 	flags.StringVar(&s.apiTLS.Key, "api-tls-key", "", "the `file` with the key of --api-tls-certificate")
-	flags.Var(program.Count(&s.perAddress, 0, 1, apiConnections), "connections-per-address",
+	flags.Var(cli.Count(&s.perAddress, 0, 1, apiConnections), "connections-per-address",
 		"`number` of connections of each client's address at once, to the API and to the page (default: 64 and 25, a "+
 			"quarter of all)")
-	flags.Var(program.Networks(&s.trustedProxies), "trusted-proxy",
+	flags.Var(cli.Networks(&s.trustedProxies), "trusted-proxy",
 		"the `network` of a proxy before the API or the page that names its clients, by the PROXY protocol or by "+
 			"X-Forwarded-For: an address, or such as 10.1.0.0/16. May be given several times")
 }
@@ -52,19 +52,19 @@ func (s *siteSettings) add(flags *pflag.FlagSet) {
 func (s *siteSettings) check() error {
 	switch {
 	case s.page == "" && (len(s.pageHosts) > 0 || s.pageUsers != ""):
-		return program.Unusable(errors.New("--page-host and --page-users go with --page HOST:PORT"))
+		return cli.Unusable(errors.New("--page-host and --page-users go with --page HOST:PORT"))
 	case s.api == "" && (s.apiTokens != "" || s.isTLS() || len(s.brokerHosts) > 0):
-		return program.Unusable(errors.New("--api-tokens, --broker-hosts and --api-tls-.. go with --api HOST:PORT"))
+		return cli.Unusable(errors.New("--api-tokens, --broker-hosts and --api-tls-.. go with --api HOST:PORT"))
 	case s.api != "" && s.apiTokens == "":
-		return program.Unusable(errors.New("--api wants a file with tokens: --api-tokens FILE"))
+		return cli.Unusable(errors.New("--api wants a file with tokens: --api-tokens FILE"))
 	case s.page == "" && s.api == "" && (s.perAddress > 0 || len(s.trustedProxies) > 0):
-		return program.Unusable(errors.New("--connections-per-address and --trusted-proxy go with --page or --api"))
+		return cli.Unusable(errors.New("--connections-per-address and --trusted-proxy go with --page or --api"))
 	}
 	if _, err := api.ParseHosts(s.brokerHosts); err != nil {
-		return program.Unusable(fmt.Errorf("--broker-hosts: %w", err))
+		return cli.Unusable(fmt.Errorf("--broker-hosts: %w", err))
 	}
 	return nil
 }
 
 // isTLS is whether the API is HTTPS.
-func (s *siteSettings) isTLS() bool { return s.apiTLS != (server.CertificateFiles{}) }
+func (s *siteSettings) isTLS() bool { return s.apiTLS != (httpserver.CertificateFiles{}) }

@@ -12,13 +12,13 @@ import (
 
 	"github.com/spf13/pflag"
 
-	pgsession "pippinterm/broker/postgres/session"
+	"pippinterm/internal/cli"
+	pgsession "pippinterm/internal/pg"
+	"pippinterm/internal/sqlitefile"
 	"pippinterm/platform"
 	"pippinterm/platform/postgres"
 	"pippinterm/platform/sqlite"
 	"pippinterm/platform/vault"
-	"pippinterm/program"
-	"pippinterm/program/sqlite"
 )
 
 // Places are where the store is, and the keys that seal what is secret in it.
@@ -97,13 +97,13 @@ func missing(place string, err error, other func(error) error) error {
 	if !errors.Is(err, platform.ErrNoStore) {
 		return other(err)
 	}
-	return program.Unusable(fmt.Errorf("there is no store %s: name the right one with --store or in %s. "+
+	return cli.Unusable(fmt.Errorf("there is no store %s: name the right one with --store or in %s. "+
 		"'osb-platform broker add' and 'osb-platform run' create a new one", place, storeVariable))
 }
 
 // openStore opens the store, with so many connections at most, and creates it if there is none.
 //
-// Errors: program.Unusable for what an operator has to change, and program.Unavailable for a server that is away.
+// Errors: cli.Unusable for what an operator has to change, and cli.Unavailable for a server that is away.
 func openStore(ctx context.Context, place string, most int) (platform.Store, error) {
 	if err := checkPlace(place); err != nil {
 		return nil, err
@@ -120,8 +120,8 @@ func openStore(ctx context.Context, place string, most int) (platform.Store, err
 
 // checkPlace returns an error if a place is neither a path nor a URL of PostgreSQL without a password.
 func checkPlace(place string) error {
-	if err := program.CheckPlace(place); err != nil {
-		return program.Unusable(fmt.Errorf("the store: %w", err))
+	if err := cli.CheckPlace(place); err != nil {
+		return cli.Unusable(fmt.Errorf("the store: %w", err))
 	}
 	if !pgsession.IsAddress(place) {
 		return nil
@@ -129,9 +129,9 @@ func checkPlace(place string) error {
 	has, err := pgsession.HasPassword(place)
 	switch {
 	case err != nil:
-		return program.Unusable(fmt.Errorf("the URL of PostgreSQL can't be read: %w", err))
+		return cli.Unusable(fmt.Errorf("the URL of PostgreSQL can't be read: %w", err))
 	case has:
-		return program.Unusable(errors.New(
+		return cli.Unusable(errors.New(
 			"a URL must not have a password: put it into PGPASSWORD, or into a file that PGPASSFILE names"))
 	}
 	return nil
@@ -153,9 +153,9 @@ func ofFile(err error) error {
 	mayPass := sqlitefile.MayPass(err)
 	err = fmt.Errorf("the store can't be used: %w", err)
 	if mayPass {
-		return program.Unavailable(err)
+		return cli.Unavailable(err)
 	}
-	return program.Unusable(err)
+	return cli.Unusable(err)
 }
 
 // away is the error of PostgreSQL: it may be back later, unless an operator has to change something.
@@ -165,13 +165,13 @@ func away(err error) error {
 	var network *net.OpError
 	switch {
 	case isLasting && remedy != "":
-		return program.Unusable(fmt.Errorf("%w. %s", err, remedy))
+		return cli.Unusable(fmt.Errorf("%w. %s", err, remedy))
 	case isLasting:
-		return program.Unusable(err)
+		return cli.Unusable(err)
 	case errors.As(err, &network):
-		return program.Unavailable(fmt.Errorf("%w. Check that the server runs, and the host and port of the URL", err))
+		return cli.Unavailable(fmt.Errorf("%w. Check that the server runs, and the host and port of the URL", err))
 	}
-	return program.Unavailable(err)
+	return cli.Unavailable(err)
 }
 
 // openVault opens the vault with the keys in these files, if there are any, and else returns nil. The store must have
@@ -196,7 +196,7 @@ func readVault(files []string, warn func(string)) (*vault.Vault, error) {
 	}
 	opened, warnings, err := vault.FromFiles(files...)
 	if err != nil {
-		return nil, program.Unusable(fmt.Errorf("the key: %w", err))
+		return nil, cli.Unusable(fmt.Errorf("the key: %w", err))
 	}
 	for _, it := range warnings {
 		warn(it)
@@ -245,13 +245,13 @@ func useVault(ctx context.Context, store platform.Store, opened *vault.Vault, wa
 func keyError(err error) error {
 	switch {
 	case errors.Is(err, vault.ErrOldPasswords), errors.Is(err, vault.ErrWrittenBack):
-		return program.Unusable(fmt.Errorf("%w. Restore the table with the fingerprint (osb_store in a file of SQLite, "+
+		return cli.Unusable(fmt.Errorf("%w. Restore the table with the fingerprint (osb_store in a file of SQLite, "+
 			"osb_platform in PostgreSQL), check the URLs of all brokers, and change their passwords", err))
 	case errors.Is(err, vault.ErrRotating):
-		return program.Unusable(fmt.Errorf("%w: run 'osb-platform rekey' again with the files that it was given. "+
+		return cli.Unusable(fmt.Errorf("%w: run 'osb-platform rekey' again with the files that it was given. "+
 			"Until it has succeeded, name both: --key-file NEW --key-file OLD", err))
 	case errors.Is(err, vault.ErrStoreKey):
-		return program.Unusable(fmt.Errorf("%w: name the file with that key by --key-file", err))
+		return cli.Unusable(fmt.Errorf("%w: name the file with that key by --key-file", err))
 	}
 	return err
 }

@@ -15,9 +15,9 @@ import (
 	"github.com/mattn/go-sqlite3"
 	"github.com/spf13/cobra"
 
+	"pippinterm/internal/cli"
+	"pippinterm/internal/sqlitefile"
 	"pippinterm/platform"
-	"pippinterm/program"
-	"pippinterm/program/sqlite"
 )
 
 // The variables of the environment stand for --store and --key-file. An option counts more.
@@ -79,7 +79,7 @@ func TestStatusOfFiles(t *testing.T) {
 			root := &cobra.Command{Use: "test", RunE: func(*cobra.Command, []string) error { return err }}
 			root.SetArgs([]string{})
 			root.SetErr(new(nothing))
-			if status := program.Run(context.Background(), root); status != want {
+			if status := cli.Run(context.Background(), root); status != want {
 				t.Errorf("%v: status %d, want %d", err, status, want)
 			}
 		}

@@ -7,15 +7,15 @@ import (
 	"os"
 	"time"
 
+	"pippinterm/internal/cli"
 	"pippinterm/platform"
-	"pippinterm/program"
-	"pippinterm/storm"
+	"pippinterm/storm/without"
 )
 
 // storeForStorm returns the store of the engine: one of a platform as platforms are usually written if OSB_WITHOUT says so.
 func storeForStorm(store platform.Store) platform.Store {
 	if os.Getenv("OSB_WITHOUT") == "platform" {
-		return storm.Forgetful(store)
+		return without.Forgetful(store)
 	}
 	return store
 }
@@ -28,7 +28,7 @@ func forStorm(
 	if text := os.Getenv("OSB_MARGIN"); text != "" {
 		margin, err := time.ParseDuration(text)
 		if err != nil {
-			return nil, options, program.Unusable(fmt.Errorf("OSB_MARGIN: %w", err))
+			return nil, options, cli.Unusable(fmt.Errorf("OSB_MARGIN: %w", err))
 		}
 		options.Margin = margin
 	}
@@ -36,8 +36,8 @@ func forStorm(
 	case "", "platform": // of which storeForStorm takes care
 		return with, options, nil
 	case "attempts":
-		return storm.WithoutAttempts(with, store), options, nil
+		return without.WithoutAttempts(with, store), options, nil
 	default:
-		return nil, options, program.Unusable(fmt.Errorf("storm: a platform can't run without %q", part))
+		return nil, options, cli.Unusable(fmt.Errorf("storm: a platform can't run without %q", part))
 	}
 }

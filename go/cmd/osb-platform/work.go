@@ -6,8 +6,8 @@ import (
 	"fmt"
 	"time"
 
+	"pippinterm/internal/cli"
 	"pippinterm/platform"
-	"pippinterm/program"
 )
 
 // A right is that of a worker to its name.
@@ -24,7 +24,7 @@ func (r *running) work(work, stop context.Context) error {
 		return err
 	}
 	if end == nil { // such as a worker that lost its power, and whose session the server hasn't ended yet
-		return program.Unavailable(fmt.Errorf("a worker %s runs already over this store, or its session hasn't ended "+
+		return cli.Unavailable(fmt.Errorf("a worker %s runs already over this store, or its session hasn't ended "+
 			"yet. If it is another worker, name this one with --worker", r.settings.worker))
 	}
 	r.logStart()

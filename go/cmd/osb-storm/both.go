@@ -12,14 +12,14 @@ import (
 
 	"github.com/spf13/cobra"
 
-	"pippinterm/program"
-	"pippinterm/stormrun"
+	"pippinterm/internal/cli"
+	"pippinterm/storm/run"
 )
 
 // bothSettings are the options of `osb-storm both`.
 type bothSettings struct {
 	stormSettings
-	config stormrun.BothConfig
+	config run.BothConfig
 }
 
 const bothHelp = `Run osb-broker and osb-platform with a network between them that loses, delays, repeats and garbles
@@ -73,40 +73,40 @@ func (s *bothSettings) add(made *cobra.Command) {
 	flags, config := made.Flags(), &s.config
 	flags.StringVar(&config.Broker, "broker-program", "", "the `program` osb-broker")
 	flags.StringVar(&config.Platform, "platform-program", "", "the `program` osb-platform")
-	flags.Var(program.Count(&config.Workers, 1, 1, 16), "workers", "how many workers the platform has")
-	flags.Var(program.Count(&config.Brokers, 1, 1, 16), "brokers",
+	flags.Var(cli.Count(&config.Workers, 1, 1, 16), "workers", "how many workers the platform has")
+	flags.Var(cli.Count(&config.Brokers, 1, 1, 16), "brokers",
 		"how many brokers serve over one store; each request reaches one of them, by chance")
 	flags.BoolVar(&config.HAProxy, "haproxy", false, "let HAProxy stand in front of the brokers")
-	flags.Var(choiceOf(&config.Store, stormrun.InFiles, stormrun.InFiles, stormrun.InPostgreSQL), "store",
+	flags.Var(choiceOf(&config.Store, run.InFiles, run.InFiles, run.InPostgreSQL), "store",
 		"where the records and the broker's rows are: `place`, sqlite or postgresql")
-	flags.Var(choiceOf(&config.Backend, stormrun.AsFolders, stormrun.AsFolders, stormrun.InPostgreSQL), "backend",
+	flags.Var(choiceOf(&config.Backend, run.AsFolders, run.AsFolders, run.InPostgreSQL), "backend",
 		"what the broker sells: `kind`, folders or postgresql")
 	flags.StringVar(&config.PostgreSQL, "postgresql", "",
 		"the `URL` of a PostgreSQL server for them. The storm creates a database of its own there, and needs the rights to "+
 			"create databases and roles")
-	flags.Var(program.Count(&config.KillDatabase, 0, 0, 100), "kill-database",
+	flags.Var(cli.Count(&config.KillDatabase, 0, 0, 100), "kill-database",
 		"how often PostgreSQL is killed, and how often it is paused. It is a server of the storm's own then")
 	flags.BoolVar(&config.Unruly, "unruly", false,
 		"a second client creates and deletes bindings of any instance at any time, so only the broker's rules protect them")
-	flags.Var(choiceOf(&config.Without, "", stormrun.Parts()...), "without",
+	flags.Var(choiceOf(&config.Without, "", run.Parts()...), "without",
 		"take a `part` of the design out, and succeed only if the storm finds what that leaves behind: "+
-			strings.Join(stormrun.Parts(), ", ")+". The programs need the build tag storm")
-	flags.Var(program.Count(&config.Instances, 100, 1, 10000), "instances",
+			strings.Join(run.Parts(), ", ")+". The programs need the build tag storm")
+	flags.Var(cli.Count(&config.Instances, 100, 1, 10000), "instances",
 		"how many instances are created, and as many again if not everything is done after that")
-	flags.Var(program.Seconds(&config.Time, time.Minute), "seconds", "after which the faults and the kills end")
-	flags.Var(program.Seconds(&config.SettleTime, 2*time.Minute), "settle-seconds", "until everything has converged")
-	flags.Var(choiceOf(&config.CrashPoints, "", stormrun.AllPoints, stormrun.SomePoints), "crash-points",
+	flags.Var(cli.Seconds(&config.Time, time.Minute), "seconds", "after which the faults and the kills end")
+	flags.Var(cli.Seconds(&config.SettleTime, 2*time.Minute), "settle-seconds", "until everything has converged")
+	flags.Var(choiceOf(&config.CrashPoints, "", run.AllPoints, run.SomePoints), "crash-points",
 		"kill both programs and the commands at their crash points, too: `which`, all or some. With some, it is no failure "+
 			"if a crash point isn't visited")
-	flags.Lookup("crash-points").NoOptDefVal = stormrun.AllPoints
+	flags.Lookup("crash-points").NoOptDefVal = run.AllPoints
 	flags.BoolVar(&config.Calm, "calm", false,
 		"kill and pause nothing, and let the operator do nothing besides the lives: nothing but the faults comes")
 	s.addFaults(made)
 	s.addMinimize(made, "if something is lost, shrink the list of faults to the shortest one that still loses one in a "+
 		"calm storm, as with --calm. What needs a kill, a pause or --unruly can't be shrunk")
-	flags.Var(program.Seconds(&config.RequestTime, 2*time.Second), "request-seconds",
+	flags.Var(cli.Seconds(&config.RequestTime, 2*time.Second), "request-seconds",
 		"for which the platform waits for an answer")
-	flags.Var(program.Seconds(&config.Late, 6*time.Second), "late-seconds", "the bound of every delay")
+	flags.Var(cli.Seconds(&config.Late, 6*time.Second), "late-seconds", "the bound of every delay")
 	flags.StringVar(&config.Journal, "journal", "",
 		"a `directory` for the journals of both programs, which get --journal DIRECTORY/broker and DIRECTORY/platform")
 	s.addReports(made)
@@ -123,17 +123,17 @@ func (s *bothSettings) run(ctx context.Context, out, stderr io.Writer) (status i
 	defer forget()
 	both, err := s.start(running)
 	if err != nil {
-		return 0, program.Unusable(err)
+		return 0, cli.Unusable(err)
 	}
 	fmt.Fprintf(out, "The seed is %d.\n\n", s.seed)
 	found, failure := both.Run(running)
 	closed := both.Close()
 	if failure != nil {
-		return 0, program.Unusable(failure)
+		return 0, cli.Unusable(failure)
 	}
 	switch {
 	case closed != nil:
-		failure = program.Unusable(closed)
+		failure = cli.Unusable(closed)
 	case len(found.Failed) > 0:
 		failure = errors.New(found.Failed[0])
 	case !found.IsClean():
@@ -143,7 +143,7 @@ func (s *bothSettings) run(ctx context.Context, out, stderr io.Writer) (status i
 }
 
 // start finds the programs, reads the list of faults, and opens a storm of both.
-func (s *bothSettings) start(ctx context.Context) (both *stormrun.Both, err error) {
+func (s *bothSettings) start(ctx context.Context) (both *run.Both, err error) {
 	for _, it := range []struct {
 		to             *string
 		name, variable string
@@ -156,7 +156,7 @@ func (s *bothSettings) start(ctx context.Context) (both *stormrun.Both, err erro
 	if s.config.List, err = s.list(); err != nil {
 		return nil, err
 	}
-	return stormrun.NewBoth(ctx, s.config)
+	return run.NewBoth(ctx, s.config)
 }
 
 // programOf returns the path of a program: the one that an option or a variable names, or the one beside this program.

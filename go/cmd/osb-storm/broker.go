@@ -9,15 +9,15 @@ import (
 
 	"github.com/spf13/cobra"
 
-	"pippinterm/conform"
-	"pippinterm/program"
-	"pippinterm/stormrun"
+	"pippinterm/internal/cli"
+	"pippinterm/storm/conform"
+	"pippinterm/storm/run"
 )
 
 // brokerSettings are the options of `osb-storm broker`.
 type brokerSettings struct {
 	stormSettings
-	config stormrun.Config
+	config run.Config
 }
 
 const brokerHelp = `Let a platform drive a broker through a network that loses, delays, repeats and garbles requests and
@@ -85,20 +85,20 @@ func (s *brokerSettings) addBroker(made *cobra.Command) {
 // addStorm adds the options about the storm.
 func (s *brokerSettings) addStorm(made *cobra.Command) {
 	flags, config := made.Flags(), &s.config
-	flags.Var(program.Count(&config.Broker.Instances, 50, 2, 10000), "instances", "the most instances that a run creates")
-	flags.Var(program.Seconds(&config.Time, time.Minute), "seconds", "after which the faults end")
-	flags.Var(program.Seconds(&config.SettleTime, 2*time.Minute), "settle-seconds", "until everything has converged")
+	flags.Var(cli.Count(&config.Broker.Instances, 50, 2, 10000), "instances", "the most instances that a run creates")
+	flags.Var(cli.Seconds(&config.Time, time.Minute), "seconds", "after which the faults end")
+	flags.Var(cli.Seconds(&config.SettleTime, 2*time.Minute), "settle-seconds", "until everything has converged")
 	s.addFaults(made)
 	s.addMinimize(made, "shrink the list of faults to the shortest one that still loses one")
-	flags.Var(program.Seconds(&config.RequestTime, 3*time.Second), "request-seconds",
+	flags.Var(cli.Seconds(&config.RequestTime, 3*time.Second), "request-seconds",
 		"for which the platform waits for an answer")
-	flags.Var(program.Seconds(&config.Late, 6*time.Second), "late-seconds", "the bound of every delay")
-	flags.Var(program.Seconds(&config.Broker.RequestTime, 30*time.Second), "answer-seconds",
+	flags.Var(cli.Seconds(&config.Late, 6*time.Second), "late-seconds", "the bound of every delay")
+	flags.Var(cli.Seconds(&config.Broker.RequestTime, 30*time.Second), "answer-seconds",
 		"in which the broker answers a request")
-	flags.Var(program.Seconds(&config.Broker.OperationTime, 2*time.Minute), "operation-seconds",
+	flags.Var(cli.Seconds(&config.Broker.OperationTime, 2*time.Minute), "operation-seconds",
 		"for an asynchronous operation")
-	flags.Var(program.Seconds(&config.Broker.Pause, time.Second/2), "poll-seconds", "between two polls of an operation")
-	flags.Var(program.Seconds(&config.CleanUpTime, 5*time.Minute), "cleanup-seconds", "for the deletions at the end")
+	flags.Var(cli.Seconds(&config.Broker.Pause, time.Second/2), "poll-seconds", "between two polls of an operation")
+	flags.Var(cli.Seconds(&config.CleanUpTime, 5*time.Minute), "cleanup-seconds", "for the deletions at the end")
 	flags.StringVar(&config.Journal, "journal", "",
 		"a `directory`: the journal of the storm's platform is written to DIRECTORY/platform, for osb-audit")
 }
@@ -115,7 +115,7 @@ func (s *brokerSettings) run(ctx context.Context, out, stderr io.Writer) (int, e
 	s.config.Broker.Tell = waits(running, stderr)
 	storm, err := s.storm(stderr)
 	if err != nil {
-		return 0, program.Unusable(err)
+		return 0, cli.Unusable(err)
 	}
 	fmt.Fprintf(out, "Each id begins with %s. The seed is %d.\n\n", storm.Prefix(), s.seed)
 	report, failure := storm.Run(running, deleting)
@@ -127,7 +127,7 @@ func (s *brokerSettings) run(ctx context.Context, out, stderr io.Writer) (int, e
 }
 
 // status returns the exit status for a report, or what the run has failed at.
-func (s *brokerSettings) status(report *stormrun.Report) (int, error) {
+func (s *brokerSettings) status(report *run.Report) (int, error) {
 	switch {
 	case len(report.Leftovers) > 0:
 		return statusLeft, nil
@@ -136,11 +136,11 @@ func (s *brokerSettings) status(report *stormrun.Report) (int, error) {
 	case !report.IsClean():
 		return statusDeviates, nil
 	}
-	return program.StatusDone, nil
+	return cli.StatusDone, nil
 }
 
 // failed returns the exit status of a storm that has failed, and writes what couldn't be deleted.
-func failed(report *stormrun.Report, failure error, out, stderr io.Writer) (int, error) {
+func failed(report *run.Report, failure error, out, stderr io.Writer) (int, error) {
 	for _, it := range report.Leftovers {
 		fmt.Fprintf(out, "not deleted: %s\n", it)
 	}
@@ -152,14 +152,14 @@ func failed(report *stormrun.Report, failure error, out, stderr io.Writer) (int,
 		fmt.Fprintf(stderr, "osb-storm: %v\n", failure)
 		return statusUnreachable, nil
 	case errors.Is(failure, conform.ErrLogin), errors.Is(failure, conform.ErrNoPlan),
-		errors.Is(failure, stormrun.ErrTrial), errors.Is(failure, stormrun.ErrList):
-		return 0, program.Unusable(failure)
+		errors.Is(failure, run.ErrTrial), errors.Is(failure, run.ErrList):
+		return 0, cli.Unusable(failure)
 	}
 	return 0, failure
 }
 
 // storm reads the password and the list of faults, and returns a Storm for the settings.
-func (s *brokerSettings) storm(warnings io.Writer) (storm *stormrun.Storm, err error) {
+func (s *brokerSettings) storm(warnings io.Writer) (storm *run.Storm, err error) {
 	if s.config.Broker.Password, err = s.password(warnings); err != nil {
 		return nil, err
 	}
@@ -167,5 +167,5 @@ func (s *brokerSettings) storm(warnings io.Writer) (storm *stormrun.Storm, err e
 	if s.config.List, err = s.list(); err != nil {
 		return nil, err
 	}
-	return stormrun.New(s.config)
+	return run.New(s.config)
 }

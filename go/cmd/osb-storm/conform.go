@@ -12,8 +12,8 @@ import (
 
 	"github.com/spf13/cobra"
 
-	"pippinterm/conform"
-	"pippinterm/program"
+	"pippinterm/internal/cli"
+	"pippinterm/storm/conform"
 )
 
 // conformSettings are the options of `osb-storm conform`.
@@ -55,13 +55,13 @@ func (s *conformSettings) add(made *cobra.Command) {
 	flags.StringVar(&config.Service, "service", "",
 		"the `name` or id of the service to order; with --plan. Default: the first bindable plan")
 	flags.StringVar(&config.Plan, "plan", "", "the `name` or id of the plan to order; with --service")
-	flags.Var(program.Count(&config.Instances, 50, 1, 10000), "instances", "the most instances to order")
-	flags.Var(program.Seconds(&s.runTime, 10*time.Minute), "seconds", "after which no further case is tried")
-	flags.Var(program.Seconds(&config.RequestTime, 30*time.Second), "request-seconds", "for the answer to a request")
-	flags.Var(program.Seconds(&config.OperationTime, 2*time.Minute), "operation-seconds",
+	flags.Var(cli.Count(&config.Instances, 50, 1, 10000), "instances", "the most instances to order")
+	flags.Var(cli.Seconds(&s.runTime, 10*time.Minute), "seconds", "after which no further case is tried")
+	flags.Var(cli.Seconds(&config.RequestTime, 30*time.Second), "request-seconds", "for the answer to a request")
+	flags.Var(cli.Seconds(&config.OperationTime, 2*time.Minute), "operation-seconds",
 		"for an asynchronous operation")
-	flags.Var(program.Seconds(&config.Pause, time.Second), "poll-seconds", "between two polls of an operation")
-	flags.Var(program.Seconds(&s.cleanupTime, 5*time.Minute), "cleanup-seconds", "for the deletions at the end")
+	flags.Var(cli.Seconds(&config.Pause, time.Second), "poll-seconds", "between two polls of an operation")
+	flags.Var(cli.Seconds(&s.cleanupTime, 5*time.Minute), "cleanup-seconds", "for the deletions at the end")
 	flags.StringSliceVar(&s.except, "except", nil, "`cases` that don't change the exit status, separated by commas")
 	flags.StringVar(&s.json, "json", "", "a `file` to which the report is written as JSON, too")
 }
@@ -78,7 +78,7 @@ func (s *conformSettings) run(ctx context.Context, out, stderr io.Writer) (int, 
 	s.config.Tell = waits(running, stderr)
 	runner, err := s.runner(stderr)
 	if err != nil {
-		return 0, program.Unusable(err)
+		return 0, cli.Unusable(err)
 	}
 	fmt.Fprintf(out, "Each id begins with %s.\n\n", runner.Prefix())
 	limited, cancel := context.WithTimeout(running, s.runTime)
@@ -125,7 +125,7 @@ func (s *conformSettings) failed(failure error, stderr io.Writer) (int, error) {
 		fmt.Fprintf(stderr, "osb-storm: %v\n", failure)
 		return statusUnreachable, nil
 	}
-	return 0, program.Unusable(failure)
+	return 0, cli.Unusable(failure)
 }
 
 // status returns the exit status for a report.
@@ -145,7 +145,7 @@ func (s *conformSettings) status(report *conform.Report) int {
 	if report.Ended != "" {
 		return statusDeviates
 	}
-	return program.StatusDone
+	return cli.StatusDone
 }
 
 // waits returns what writes a line about deletions that have to wait. running is done after the first signal.

@@ -7,13 +7,13 @@ import (
 
 	"github.com/spf13/cobra"
 
-	"pippinterm/program"
+	"pippinterm/internal/cli"
 )
 
 func main() {
 	outcome := &outcome{}
-	status := program.Run(context.Background(), rootCommand(outcome))
-	if status == program.StatusDone {
+	status := cli.Run(context.Background(), rootCommand(outcome))
+	if status == cli.StatusDone {
 		status = outcome.status
 	}
 	os.Exit(status)
@@ -33,7 +33,7 @@ func rootCommand(o *outcome) *cobra.Command {
 	root := &cobra.Command{
 		Use:     "osb-storm",
 		Short:   "Test a broker or a platform under the Open Service Broker API 2.17",
-		Version: program.Version(),
+		Version: cli.Version(),
 		Long: `Test a broker or a platform under the Open Service Broker API 2.17.
 
 At a broker, it creates instances and bindings of its own, and deletes them again. For a platform, it is a broker.

@@ -9,14 +9,14 @@ import (
 
 	"github.com/spf13/cobra"
 
-	"pippinterm/program"
-	"pippinterm/stormplatform"
+	"pippinterm/internal/cli"
+	"pippinterm/storm/run/platform"
 )
 
 // platformSettings are the options of `osb-storm platform`.
 type platformSettings struct {
 	stormSettings
-	config stormplatform.Config
+	config platform.Config
 }
 
 const platformHelp = `Be a broker for your platform, behind a network that loses, delays, repeats and garbles requests
@@ -70,7 +70,7 @@ func (s *platformSettings) add(made *cobra.Command) {
 // addPlatform adds the options about the platform and its broker.
 func (s *platformSettings) addPlatform(made *cobra.Command) {
 	flags, config := made.Flags(), &s.config
-	flags.Var(program.Address(&config.Address, ""), "listen",
+	flags.Var(cli.Address(&config.Address, ""), "listen",
 		"where the platform reaches the broker; port 0 is any free port")
 	flags.StringVar(&config.User, "user", "platform", "the `name` with which the platform logs in")
 	flags.StringVar(&s.passwordFile, "password-file", "", "a `file` with the password")
@@ -87,18 +87,18 @@ func (s *platformSettings) addPlatform(made *cobra.Command) {
 // addStorm adds the options about the storm.
 func (s *platformSettings) addStorm(made *cobra.Command) {
 	flags, config := made.Flags(), &s.config
-	flags.Var(program.Seconds(&config.WaitTime, 10*time.Minute), "wait-seconds", "for the first request about an instance")
-	flags.Var(program.Seconds(&config.Time, time.Minute), "seconds",
+	flags.Var(cli.Seconds(&config.WaitTime, 10*time.Minute), "wait-seconds", "for the first request about an instance")
+	flags.Var(cli.Seconds(&config.Time, time.Minute), "seconds",
 		"from then on until the faults end, unless --order-command ends before")
-	flags.Var(program.Seconds(&config.SettleTime, 2*time.Minute), "settle-seconds",
+	flags.Var(cli.Seconds(&config.SettleTime, 2*time.Minute), "settle-seconds",
 		"for the platform to clean up after the faults")
 	s.addFaults(made)
 	s.addMinimize(made, "if something is abandoned or a record is false, shrink the list of faults to the shortest one that "+
 		"still loses one; with --order-command")
-	flags.Var(program.Seconds(&config.RequestTime, time.Minute), "request-seconds",
+	flags.Var(cli.Seconds(&config.RequestTime, time.Minute), "request-seconds",
 		"for which the platform waits for an answer")
-	flags.Var(program.Seconds(&config.Late, 6*time.Second), "late-seconds", "the bound of every delay")
-	flags.Var(program.Seconds(&config.OperationTime, 2*time.Second), "operation-seconds",
+	flags.Var(cli.Seconds(&config.Late, 6*time.Second), "late-seconds", "the bound of every delay")
+	flags.Var(cli.Seconds(&config.OperationTime, 2*time.Second), "operation-seconds",
 		"for an asynchronous operation, at most")
 	flags.StringVar(&config.Journal, "journal", "",
 		"a `directory`: the journal of the storm's broker is written to DIRECTORY/broker, for osb-audit")
@@ -115,7 +115,7 @@ func (s *platformSettings) run(ctx context.Context, out, stderr io.Writer) (stat
 	defer forget()
 	storm, err := s.start(ctx, stderr)
 	if err != nil {
-		return 0, program.Unusable(err)
+		return 0, cli.Unusable(err)
 	}
 	fmt.Fprintf(out, "The broker listens at %s for the user %s. The seed is %d.\n"+
 		"The faults begin with the first request about an instance.\n\n", storm.URL(), s.config.User, s.seed)
@@ -132,7 +132,7 @@ func (s *platformSettings) run(ctx context.Context, out, stderr io.Writer) (stat
 }
 
 // start reads the password and the list of faults, and starts a Storm for the settings.
-func (s *platformSettings) start(ctx context.Context, warnings io.Writer) (storm *stormplatform.Storm, err error) {
+func (s *platformSettings) start(ctx context.Context, warnings io.Writer) (storm *platform.Storm, err error) {
 	if s.config.Password, err = s.password(warnings); err != nil {
 		return nil, err
 	}
@@ -141,5 +141,5 @@ func (s *platformSettings) start(ctx context.Context, warnings io.Writer) (storm
 	if s.config.List, err = s.list(); err != nil {
 		return nil, err
 	}
-	return stormplatform.Start(ctx, s.config)
+	return platform.Start(ctx, s.config)
 }

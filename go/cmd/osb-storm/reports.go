@@ -7,7 +7,7 @@ import (
 	"io/fs"
 	"os"
 
-	"pippinterm/program"
+	"pippinterm/internal/cli"
 )
 
 // A reportFile is a file for a report. It is opened before the run, so that no report is lost because of its name. It
@@ -26,7 +26,7 @@ func openReports(names ...string) (files reportFiles, err error) {
 		file, err := openReport(it)
 		if err != nil {
 			files.close()
-			return nil, program.Unusable(fmt.Errorf("the report can't be written: %w", err))
+			return nil, cli.Unusable(fmt.Errorf("the report can't be written: %w", err))
 		}
 		files = append(files, file)
 	}
@@ -95,7 +95,7 @@ func concluded(status int, failure, unwritten error, stderr io.Writer) (int, err
 	switch {
 	case unwritten == nil:
 		return status, failure
-	case status == program.StatusDone && failure == nil:
+	case status == cli.StatusDone && failure == nil:
 		return 0, unwritten
 	}
 	fmt.Fprintf(stderr, "osb-storm: %v\n", unwritten)

@@ -10,9 +10,9 @@ import (
 
 	"github.com/spf13/cobra"
 
-	"pippinterm/faults"
-	"pippinterm/program"
-	"pippinterm/program/secrets"
+	"pippinterm/internal/cli"
+	"pippinterm/internal/secrets"
+	"pippinterm/storm/fault"
 )
 
 // stormSettings are the options of all storms.
@@ -29,7 +29,7 @@ type stormSettings struct {
 // addFaults adds the options about the faults.
 func (s *stormSettings) addFaults(made *cobra.Command) {
 	flags := made.Flags()
-	flags.Var(program.Count(&s.percent, 40, 0, 100), "fault-percent", "how many of 100 requests have a fault")
+	flags.Var(cli.Count(&s.percent, 40, 0, 100), "fault-percent", "how many of 100 requests have a fault")
 	flags.Int64Var(&s.seed, "seed", 0, "a `number` that chooses the faults. Default: by chance; it is printed")
 	flags.StringVar(&s.faultsFile, "faults", "",
 		"a `file` with the faults, in place of those by the seed: on each line a request and a kind, such as "+
@@ -41,7 +41,7 @@ func (s *stormSettings) addFaults(made *cobra.Command) {
 func (s *stormSettings) addMinimize(made *cobra.Command, usage string) {
 	flags := made.Flags()
 	flags.BoolVar(&s.minimize, "minimize", false, usage)
-	flags.Var(program.Seconds(&s.minimizeTime, 10*time.Minute), "minimize-seconds",
+	flags.Var(cli.Seconds(&s.minimizeTime, 10*time.Minute), "minimize-seconds",
 		"for --minimize. If the time is over before, the list may not be the shortest")
 }
 
@@ -88,7 +88,7 @@ func passwordOf(file string, warnings io.Writer) (string, error) {
 }
 
 // list reads the list of faults. It is nil if there is no file, and isn't if the file has no fault.
-func (s *stormSettings) list() ([]faults.Numbered, error) {
+func (s *stormSettings) list() ([]fault.Numbered, error) {
 	if s.faultsFile == "" {
 		return nil, nil
 	}
@@ -97,11 +97,11 @@ func (s *stormSettings) list() ([]faults.Numbered, error) {
 		return nil, err
 	}
 	defer file.Close()
-	list, err := faults.ReadList(file)
+	list, err := fault.ReadList(file)
 	if err != nil {
 		return nil, fmt.Errorf("%s: %w", s.faultsFile, err)
 	}
-	return append([]faults.Numbered{}, list...), nil
+	return append([]fault.Numbered{}, list...), nil
 }
 
 // A report is what a storm has found.

@@ -16,7 +16,7 @@ import (
 	"syscall"
 	"testing"
 
-	"pippinterm/program/server"
+	"pippinterm/internal/httpserver"
 )
 
 const (
@@ -30,7 +30,7 @@ func TestMain(m *testing.M) {
 	if state == "" {
 		os.Exit(m.Run())
 	}
-	listener, err := server.Listen(context.Background(), "127.0.0.1:0", server.Options{})
+	listener, err := httpserver.Listen(context.Background(), "127.0.0.1:0", httpserver.Options{})
 	if err != nil {
 		log.Fatal(err)
 	}

@@ -13,9 +13,9 @@ import (
 	"time"
 
 	"pippinterm/broker"
-	"pippinterm/broker/filelock"
 	"pippinterm/broker/sqlite"
-	"pippinterm/program/server"
+	"pippinterm/internal/filelock"
+	"pippinterm/internal/httpserver"
 )
 
 //go:embed catalogue.json
@@ -27,7 +27,7 @@ func main() {
 	stop, cancel := signal.NotifyContext(context.Background(), os.Interrupt, syscall.SIGTERM)
 	defer cancel()
 	ctx := context.Background()
-	listener, err := server.Listen(ctx, "127.0.0.1:"+os.Getenv("PORT"), server.Options{Observer: observer{}})
+	listener, err := httpserver.Listen(ctx, "127.0.0.1:"+os.Getenv("PORT"), httpserver.Options{Observer: observer{}})
 	if err == nil {
 		err = serve(ctx, stop, listener, *state, os.Getenv("BROKER_PASSWORD"))
 	}
@@ -37,7 +37,7 @@ func main() {
 }
 
 // serve answers requests until stop is done. What has begun then goes on to its end, with ctx.
-func serve(ctx, stop context.Context, listener *server.Listener, state, password string) error {
+func serve(ctx, stop context.Context, listener *httpserver.Listener, state, password string) error {
 	users, err := broker.NewUsers(map[string][]string{"platform": {password}})
 	if err != nil {
 		return err
@@ -65,8 +65,8 @@ func serve(ctx, stop context.Context, listener *server.Listener, state, password
 	served := make(chan error, 1)
 	go func() {
 		defer end()
-		sites := []server.Site{{Listener: listener, Handler: handler}}
-		served <- server.Server{Sites: sites}.Serve(stop) // waits for the requests that are being answered
+		sites := []httpserver.Site{{Listener: listener, Handler: handler}}
+		served <- httpserver.Server{Sites: sites}.Serve(stop) // waits for the requests that are being answered
 	}()
 	sweeper.Run(ctx, stop, 4, 5*time.Second) // goes on with unfinished work, also of a process that was killed
 	return <-served

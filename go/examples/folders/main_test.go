@@ -12,8 +12,8 @@ import (
 	"testing"
 	"time"
 
+	"pippinterm/internal/httpserver"
 	"pippinterm/osb"
-	"pippinterm/program/server"
 )
 
 const (
@@ -34,7 +34,7 @@ type served struct {
 // start starts the broker.
 func start(t *testing.T, state string) *served {
 	t.Helper()
-	listener, err := server.Listen(context.Background(), "127.0.0.1:0", server.Options{})
+	listener, err := httpserver.Listen(context.Background(), "127.0.0.1:0", httpserver.Options{})
 	if err != nil {
 		t.Fatal(err)
 	}

@@ -16,8 +16,8 @@ import (
 	"time"
 
 	"pippinterm/broker"
-	"pippinterm/broker/filelock"
 	holdings "pippinterm/broker/sqlite"
+	"pippinterm/internal/filelock"
 	"pippinterm/osb"
 	"pippinterm/platform"
 	"pippinterm/platform/sqlite"

@@ -9,7 +9,7 @@ import (
 	"testing"
 	"time"
 
-	"pippinterm/budget"
+	"pippinterm/internal/budget"
 	"pippinterm/platform"
 )
 

@@ -17,7 +17,7 @@ import (
 	"unicode/utf16"
 	"unicode/utf8"
 
-	"pippinterm/budget"
+	"pippinterm/internal/budget"
 	"pippinterm/osb"
 	"pippinterm/platform"
 )

@@ -11,9 +11,9 @@ import (
 	"time"
 	"unicode/utf8"
 
+	"pippinterm/internal/journalfile"
 	"pippinterm/osb"
 	"pippinterm/platform"
-	"pippinterm/program/journal"
 )
 
 // A sending is a request as HTTP has it, and what its exchange may take.
@@ -67,7 +67,7 @@ func (c *Client) exchange(ctx context.Context, out platform.Outgoing) platform.I
 	got, err := c.ask(ctx, to, out.Broker, sent)
 	if err != nil {
 		return platform.Incoming{
-			Status: got.status, RetryAfter: retryAfter(got.header), Lost: err, JournalTime: got.header.Get(journal.Header),
+			Status: got.status, RetryAfter: retryAfter(got.header), Lost: err, JournalTime: got.header.Get(journalfile.Header),
 		}
 	}
 	return read(out, got)
@@ -183,7 +183,7 @@ func (c *Client) request(to *broker, of platform.Broker, sent sending) (*http.Re
 	}
 	for name, value := range map[string]string{
 		osb.RequestIdentityHeader: sent.id, osb.OriginatingIdentityHeader: sent.identity,
-		journal.Header: sent.journalTime,
+		journalfile.Header: sent.journalTime,
 	} {
 		if value == "" {
 			continue
@@ -282,7 +282,7 @@ func (c *Client) giveBack(ctx context.Context, to *broker, conn *connection, sen
 // read reads an answer as package osb does.
 func read(out platform.Outgoing, got received) (in platform.Incoming) {
 	in = platform.Incoming{
-		Status: got.status, RetryAfter: retryAfter(got.header), JournalTime: got.header.Get(journal.Header),
+		Status: got.status, RetryAfter: retryAfter(got.header), JournalTime: got.header.Get(journalfile.Header),
 	}
 	status := uint16(got.status) // it has three digits
 	if in.Details, in.Lost = osb.ReadDetails(got.body); in.Lost != nil {

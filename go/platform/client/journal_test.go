@@ -5,8 +5,8 @@ import (
 	"strings"
 	"testing"
 
+	"pippinterm/internal/journalfile"
 	"pippinterm/osb"
-	"pippinterm/program/journal"
 )
 
 // The time of a journal is sent if there is one, and that of an answer is read, also of one that isn't taken.
@@ -17,7 +17,7 @@ func TestJournalTime(t *testing.T) {
 	} {
 		headers := []string{}
 		if row.given != "" {
-			headers = append(headers, journal.Header+": "+row.given)
+			headers = append(headers, journalfile.Header+": "+row.given)
 		}
 		server := serve(t, always(text(row.status, row.body, "", headers...)))
 		c := newClient(t, Options{})
@@ -25,8 +25,8 @@ func TestJournalTime(t *testing.T) {
 		out.JournalTime = row.sent
 		in := c.Exchange(context.Background(), out)
 		requests, _ := server.seen()
-		has := strings.Contains(requests[0], "\r\n"+journal.Header+": "+row.sent+"\r\n")
-		if in.JournalTime != row.given || has != (row.sent != "") || strings.Contains(requests[0], journal.Header) != has {
+		has := strings.Contains(requests[0], "\r\n"+journalfile.Header+": "+row.sent+"\r\n")
+		if in.JournalTime != row.given || has != (row.sent != "") || strings.Contains(requests[0], journalfile.Header) != has {
 			t.Errorf("%+v: %q was read of %q", row, in.JournalTime, requests[0])
 		}
 	}

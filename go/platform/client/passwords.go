@@ -7,8 +7,8 @@ import (
 	"sync"
 	"time"
 
+	"pippinterm/internal/secrets"
 	"pippinterm/platform"
-	"pippinterm/program/secrets"
 )
 
 // Passwords are those of brokers: sealed in the store, or in files that are read again when they change. Any number of

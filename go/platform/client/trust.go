@@ -8,7 +8,7 @@ import (
 	"os"
 	"sync/atomic"
 
-	"pippinterm/program/ciphers"
+	"pippinterm/internal/ciphers"
 )
 
 // Files are the names of files in PEM.

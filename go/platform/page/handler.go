@@ -28,7 +28,7 @@ var style string
 //go:embed page.js
 var script string
 
-// A Limiter limits how often an address may fail to log in, as pippinterm/program/limiter does.
+// A Limiter limits how often an address may fail to log in, as pippinterm/internal/httpserver/limiter does.
 type Limiter interface {
 	// Failed counts a login from this address that failed, and returns how long its answer has to wait, or 0.
 	Failed(address string) time.Duration
@@ -69,7 +69,7 @@ type handler struct {
 }
 
 // NewHandler makes the page over an API, which it only reads. The server that calls it has to bound how long a client
-// may take to send a request and to accept an answer (pippinterm/program/server does).
+// may take to send a request and to accept an answer (pippinterm/internal/httpserver does).
 //
 // The page answers GET and HEAD at /, /instance/ID and /instance/ID/binding/ID. It answers only to a Host that is the
 // address of the connection, Options.Host or one of Options.Hosts, or on this machine localhost, so that no site reads

@@ -13,10 +13,10 @@ import (
 	"testing"
 	"time"
 
+	"pippinterm/internal/httpserver"
 	"pippinterm/platform"
 	"pippinterm/platform/client"
 	"pippinterm/platform/sqlite"
-	"pippinterm/program/server"
 )
 
 // long is 60 KB that a broker says. Nobody keeps or shows more of it than much.
@@ -199,13 +199,13 @@ func TestHostileCatalogue(t *testing.T) {
 func TestSilentConnections(t *testing.T) {
 	const connections = 3
 	ctx, cancel := context.WithCancel(background)
-	listener, err := server.Listen(ctx, "127.0.0.1:0", server.Options{
+	listener, err := httpserver.Listen(ctx, "127.0.0.1:0", httpserver.Options{
 		Connections: connections, PerAddress: connections, Silent: 200 * time.Millisecond,
 	})
 	must(t, err)
-	site := server.Site{Listener: listener, Handler: pageOf(t, shelf(), Options{})}
+	site := httpserver.Site{Listener: listener, Handler: pageOf(t, shelf(), Options{})}
 	served := make(chan error, 1)
-	go func() { served <- server.Server{Sites: []server.Site{site}}.Serve(ctx) }()
+	go func() { served <- httpserver.Server{Sites: []httpserver.Site{site}}.Serve(ctx) }()
 	for n := 0; n < 2*connections; n++ {
 		silent, err := net.Dial("tcp", listener.Addr().String())
 		must(t, err)

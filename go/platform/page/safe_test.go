@@ -13,10 +13,10 @@ import (
 	"testing"
 	"time"
 
+	"pippinterm/internal/httpserver"
 	"pippinterm/platform"
 	"pippinterm/platform/api"
 	"pippinterm/platform/api/apiclient"
-	"pippinterm/program/server"
 )
 
 func targets() []string {
@@ -179,11 +179,11 @@ func TestHost(t *testing.T) {
 // The server of the programs says at which address a connection has come.
 func TestHostOverHTTP(t *testing.T) {
 	ctx, cancel := context.WithCancel(background)
-	listener, err := server.Listen(ctx, "127.0.0.1:0", server.Options{})
+	listener, err := httpserver.Listen(ctx, "127.0.0.1:0", httpserver.Options{})
 	must(t, err)
-	site := server.Site{Listener: listener, Handler: pageOf(t, shelf(), Options{})}
+	site := httpserver.Site{Listener: listener, Handler: pageOf(t, shelf(), Options{})}
 	served := make(chan error, 1)
-	go func() { served <- server.Server{Sites: []server.Site{site}}.Serve(ctx) }()
+	go func() { served <- httpserver.Server{Sites: []httpserver.Site{site}}.Serve(ctx) }()
 	client := &http.Client{Timeout: time.Minute}
 	for host, want := range map[string]int{"": 200, "evil.example": 421, "localhost": 421} {
 		r, err := http.NewRequestWithContext(ctx, "GET", listener.URL(), nil)

@@ -9,8 +9,8 @@ import (
 	"testing"
 	"time"
 
-	"pippinterm/broker/postgres/pgtest"
-	"pippinterm/broker/postgres/session"
+	"pippinterm/internal/pg"
+	"pippinterm/internal/pg/pgtest"
 	"pippinterm/osb"
 	"pippinterm/platform"
 	"pippinterm/platform/postgres"
@@ -82,11 +82,11 @@ func filled(b *testing.B, rows int) string {
 		b.Skip("set " + pgtest.Variable + " to the URL of a PostgreSQL server, as a superuser, that is for tests only")
 	}
 	const schema = "osb_platform_bench"
-	options := session.Options{
+	options := pg.Options{
 		Most: 1, Lock: deadline, Statement: 10 * deadline, Idle: deadline,
 		Settings: map[string]string{"search_path": schema},
 	}
-	db, err := session.Open(address, options)
+	db, err := pg.Open(address, options)
 	if err != nil {
 		b.Fatal(err)
 	}

@@ -8,7 +8,7 @@ import (
 	"sync"
 	"time"
 
-	"pippinterm/broker/postgres/session"
+	"pippinterm/internal/pg"
 	"pippinterm/platform"
 )
 
@@ -55,7 +55,7 @@ func within[T any](ctx context.Context, s *Store, work func(*call) (T, error)) (
 	if isLeft {
 		this.end()
 	}
-	if ctx.Err() != nil && session.IsCode(err, session.QueryCanceled) {
+	if ctx.Err() != nil && pg.IsCode(err, pg.QueryCanceled) {
 		err = ctx.Err()
 	}
 	return value, asAway(err)
@@ -111,7 +111,7 @@ func (a away) Is(other error) bool { return other == platform.ErrAway }
 
 // asAway makes an error platform.ErrAway if the server can't be used for now, or nobody knows whether it has committed.
 func asAway(err error) error {
-	if !session.IsAway(err) {
+	if !pg.IsAway(err) {
 		return err
 	}
 	return away{err}

@@ -8,7 +8,7 @@ import (
 	"testing"
 	"time"
 
-	"pippinterm/broker/postgres/pgtest"
+	"pippinterm/internal/pg/pgtest"
 	"pippinterm/platform"
 )
 

@@ -8,8 +8,8 @@ import (
 	"testing"
 	"time"
 
-	"pippinterm/broker/postgres/pgtest"
-	"pippinterm/broker/postgres/session"
+	"pippinterm/internal/pg"
+	"pippinterm/internal/pg/pgtest"
 	"pippinterm/platform"
 	"pippinterm/platform/postgres"
 	"pippinterm/platform/storetest"
@@ -55,7 +55,7 @@ func TestACommitThatFails(t *testing.T) {
 				trigger(t, url, "DEFERRABLE INITIALLY DEFERRED", it.statement)
 				calls := 0
 				err := call(store, background, &calls)
-				if err == nil || errors.Is(err, session.ErrUnknownCommit) != it.isUnknown || calls != 1 ||
+				if err == nil || errors.Is(err, pg.ErrUnknownCommit) != it.isUnknown || calls != 1 ||
 					errors.Is(err, platform.ErrAway) != it.isUnknown {
 					t.Errorf("after %d calls: %v", calls, err)
 				}
@@ -78,7 +78,7 @@ func TestACommitWhoseAnswerIsLost(t *testing.T) {
 			proxy.Cut("COMMIT\x00")
 			calls := 0
 			err := call(store, background, &calls)
-			if !errors.Is(err, session.ErrUnknownCommit) || !errors.Is(err, platform.ErrAway) || calls != 1 {
+			if !errors.Is(err, pg.ErrUnknownCommit) || !errors.Is(err, platform.ErrAway) || calls != 1 {
 				t.Errorf("after %d calls: %v", calls, err) // once more could write it twice
 			}
 			proxy.Cut("")
@@ -112,7 +112,7 @@ func TestConflicts(t *testing.T) {
 					" THEN RAISE EXCEPTION USING ERRCODE = '"+it.code+"'; END IF;")
 				calls := 0
 				err := call(store, background, &calls)
-				if (err == nil) != it.isWritten || !it.isWritten && !session.IsCode(err, it.code) ||
+				if (err == nil) != it.isWritten || !it.isWritten && !pg.IsCode(err, it.code) ||
 					calls != it.calls || errors.Is(err, platform.ErrAway) {
 					t.Errorf("after %d calls: %v", calls, err)
 				}

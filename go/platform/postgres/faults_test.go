@@ -4,11 +4,11 @@ import (
 	"database/sql"
 	"testing"
 
-	"pippinterm/broker/postgres/pgtest"
+	"pippinterm/internal/pg/pgtest"
+	"pippinterm/internal/storefaults"
 	"pippinterm/platform"
 	"pippinterm/platform/postgres"
 	"pippinterm/platform/storetest"
-	"pippinterm/storefaults"
 )
 
 // What every store must do if one of its statements fails.

@@ -8,8 +8,8 @@ import (
 	"testing"
 	"time"
 
-	"pippinterm/broker/postgres/pgtest"
-	"pippinterm/broker/postgres/session"
+	"pippinterm/internal/pg"
+	"pippinterm/internal/pg/pgtest"
 )
 
 // inDatabase runs the tests in a database of their own, on the server that the environment names. Some of them look for
@@ -35,7 +35,7 @@ func within(address string, run func() int) (status int, err error) {
 		return 0, err
 	}
 	parsed.Path = "/" + name
-	db, err := session.Open(address, session.Options{Most: 1, Lock: deadline, Statement: deadline, Idle: time.Minute})
+	db, err := pg.Open(address, pg.Options{Most: 1, Lock: deadline, Statement: deadline, Idle: time.Minute})
 	if err != nil {
 		return 0, err
 	}

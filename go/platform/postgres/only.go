@@ -7,7 +7,7 @@ import (
 	"sync"
 	"time"
 
-	"pippinterm/broker/postgres/session"
+	"pippinterm/internal/pg"
 )
 
 // workerLock is the first half of the key of a worker's advisory lock. The second half is a digest of its name. Version
@@ -45,7 +45,7 @@ type right struct {
 
 // right takes the lock of a name, or returns nil if another session has it.
 func (s *Store) right(ctx context.Context, worker string) (*right, error) {
-	db, err := session.Open(s.url, options(1, patience))
+	db, err := pg.Open(s.url, options(1, patience))
 	if err != nil {
 		return nil, err
 	}
@@ -64,7 +64,7 @@ func (s *Store) right(ctx context.Context, worker string) (*right, error) {
 
 func (r *right) close() {
 	if r.conn != nil {
-		session.Discard(r.conn)
+		pg.Discard(r.conn)
 	}
 	_ = r.db.Close()
 }

@@ -6,7 +6,7 @@ import (
 	"testing"
 	"time"
 
-	"pippinterm/broker/postgres/pgtest"
+	"pippinterm/internal/pg/pgtest"
 	"pippinterm/osb"
 	"pippinterm/platform"
 	"pippinterm/platform/storetest"

@@ -6,7 +6,7 @@ import (
 	"strings"
 	"testing"
 
-	"pippinterm/broker/postgres/pgtest"
+	"pippinterm/internal/pg/pgtest"
 	"pippinterm/platform"
 )
 

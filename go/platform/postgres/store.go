@@ -26,7 +26,7 @@ import (
 	"sync"
 	"time"
 
-	"pippinterm/broker/postgres/session"
+	"pippinterm/internal/pg"
 )
 
 const (
@@ -71,9 +71,9 @@ type Store struct {
 // If the server doesn't answer, a call returns within 2 seconds after its context has ended. Without that each
 // statement is waited for 45 seconds at most.
 //
-// Errors: session.ErrBadAddress, session.ErrNotDurable, and those of the connection and of the server. The calls of a
+// Errors: pg.ErrBadAddress, pg.ErrNotDurable, and those of the connection and of the server. The calls of a
 // Store return platform.ErrAway if the server can't be reached for now, and also if the answer to a COMMIT was lost
-// (session.ErrUnknownCommit): after any other error nothing is written.
+// (pg.ErrUnknownCommit): after any other error nothing is written.
 func Open(ctx context.Context, url string, most int) (*Store, error) {
 	return open(ctx, url, most, extend)
 }
@@ -89,7 +89,7 @@ func open(ctx context.Context, url string, most int, bring extension) (*Store, e
 	if most < 1 {
 		return nil, fmt.Errorf("the store needs at least 1 connection, and not %d", most)
 	}
-	db, err := session.Open(url, options(most, longest))
+	db, err := pg.Open(url, options(most, longest))
 	if err != nil {
 		return nil, fmt.Errorf("the store: %w", err)
 	}
@@ -101,8 +101,8 @@ func open(ctx context.Context, url string, most int, bring extension) (*Store, e
 	return store, nil
 }
 
-func options(most int, statement time.Duration) session.Options {
-	return session.Options{Most: most, Lock: longest, Statement: statement, Idle: idle, Settings: settings}
+func options(most int, statement time.Duration) pg.Options {
+	return pg.Options{Most: most, Lock: longest, Statement: statement, Idle: idle, Settings: settings}
 }
 
 // prepare checks the database, and brings its tables up to date.
@@ -112,7 +112,7 @@ func (s *Store) prepare(ctx context.Context, bring extension) error {
 		return err
 	}
 	if encoding != "UTF8" && encoding != "SQL_ASCII" {
-		return session.Lasting(fmt.Errorf("the encoding of the database is %s. Create one with: CREATE DATABASE .. "+
+		return pg.Lasting(fmt.Errorf("the encoding of the database is %s. Create one with: CREATE DATABASE .. "+
 			"ENCODING 'UTF8' TEMPLATE template0", encoding))
 	}
 	return s.migrate(ctx, bring)
@@ -141,7 +141,7 @@ func (s *Store) Close() error {
 	s.isClosed = true
 	s.turn.Unlock()
 	s.running.Wait()
-	return session.Close(s.db)
+	return pg.Close(s.db)
 }
 
 // enter begins a call that Close waits for, unless the store is closed. The caller calls s.running.Done at the end.
@@ -155,15 +155,15 @@ func (s *Store) enter() error {
 	return nil
 }
 
-// transaction is session.Transaction on a connection of the store. It is tried again if it couldn't begin, since the
+// transaction is pg.Transaction on a connection of the store. It is tried again if it couldn't begin, since the
 // server may have closed each connection that was idle, and if another transaction has undone it.
 func (s *Store) transaction(ctx context.Context, work func(*sql.Tx) (bool, error)) error {
 	for unbegun, undone := 0, 0; ; {
 		err := s.attempt(ctx, work)
 		switch {
-		case errors.Is(err, session.ErrNotBegun) && unbegun < s.most:
+		case errors.Is(err, pg.ErrNotBegun) && unbegun < s.most:
 			unbegun++
-		case session.IsConflict(err) && undone < conflicts:
+		case pg.IsConflict(err) && undone < conflicts:
 			undone++
 		default:
 			return err
@@ -180,5 +180,5 @@ func (s *Store) attempt(ctx context.Context, work func(*sql.Tx) (bool, error)) e
 		return err
 	}
 	defer conn.Close()
-	return session.Transaction(ctx, conn, work)
+	return pg.Transaction(ctx, conn, work)
 }

@@ -7,7 +7,7 @@ import (
 
 	"pippinterm/broker"
 	brokerpostgres "pippinterm/broker/postgres"
-	"pippinterm/broker/postgres/pgtest"
+	"pippinterm/internal/pg/pgtest"
 	"pippinterm/platform"
 	"pippinterm/platform/postgres"
 	"pippinterm/platform/storetest"

@@ -10,8 +10,8 @@ import (
 	"testing"
 	"time"
 
-	"pippinterm/broker/postgres/pgtest"
-	"pippinterm/broker/postgres/session"
+	"pippinterm/internal/pg"
+	"pippinterm/internal/pg/pgtest"
 	"pippinterm/platform"
 )
 
@@ -114,7 +114,7 @@ type wire struct {
 // newWire returns a wire before the server of a URL, and the URL to use.
 func newWire(t testing.TB, address string) (*wire, string) {
 	t.Helper()
-	host, port, err := session.HostAndPort(address)
+	host, port, err := pg.HostAndPort(address)
 	if err != nil {
 		t.Fatal(err)
 	}

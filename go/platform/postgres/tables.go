@@ -7,7 +7,7 @@ import (
 	"fmt"
 	"time"
 
-	"pippinterm/broker/postgres/session"
+	"pippinterm/internal/pg"
 	"pippinterm/platform"
 )
 
@@ -107,7 +107,7 @@ func (s *Store) migrate(ctx context.Context, bring extension) error {
 	if err := s.db.QueryRowContext(ctx, isCurrent).Scan(&isDone); err != nil || isDone {
 		return err
 	}
-	db, err := session.Open(s.url, options(1, longestMigration))
+	db, err := pg.Open(s.url, options(1, longestMigration))
 	if err != nil {
 		return err
 	}
@@ -117,7 +117,7 @@ func (s *Store) migrate(ctx context.Context, bring extension) error {
 		return err
 	}
 	defer conn.Close()
-	err = session.Transaction(ctx, conn, func(tx *sql.Tx) (bool, error) { return bring(ctx, tx) })
+	err = pg.Transaction(ctx, conn, func(tx *sql.Tx) (bool, error) { return bring(ctx, tx) })
 	if err != nil && !errors.Is(err, errWorkers) && !errors.Is(err, platform.ErrNoStore) {
 		err = fmt.Errorf("the tables can't be created or extended. Start a platform once as their owner: %w", err)
 	}
@@ -131,7 +131,7 @@ func extendExisting(ctx context.Context, tx *sql.Tx) (bool, error) {
 		return false, err
 	}
 	if !isThere {
-		return false, session.Lasting(platform.ErrNoStore)
+		return false, pg.Lasting(platform.ErrNoStore)
 	}
 	return extend(ctx, tx)
 }
@@ -149,7 +149,7 @@ func extend(ctx context.Context, tx *sql.Tx) (bool, error) {
 		return false, err
 	}
 	if hasAny {
-		return false, session.Lasting(errWorkers)
+		return false, pg.Lasting(errWorkers)
 	}
 	_, err := tx.ExecContext(ctx, tablesOf02+tablesSince02)
 	return true, err

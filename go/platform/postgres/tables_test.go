@@ -9,8 +9,8 @@ import (
 	"testing"
 	"time"
 
-	"pippinterm/broker/postgres/pgtest"
-	"pippinterm/broker/postgres/session"
+	"pippinterm/internal/pg"
+	"pippinterm/internal/pg/pgtest"
 	"pippinterm/osb"
 	"pippinterm/platform"
 	"pippinterm/platform/postgres"
@@ -244,7 +244,7 @@ func rejected02(t *testing.T, url string) {
 	}
 	const order = "INSERT INTO osb_instances (id, service, plan, further, state, since, removal, due, tries) " +
 		"VALUES ('x', 'x', 'x', '{}', 'ordered', 1, 0, 1, 0)"
-	if _, err := db.Exec(order); !session.IsCode(err, "23502") {
+	if _, err := db.Exec(order); !pg.IsCode(err, "23502") {
 		t.Errorf("an order of version 0.2: %v", err)
 	}
 }
@@ -278,7 +278,7 @@ func TestAWorkerOf02(t *testing.T) {
 	if err == nil || !strings.Contains(err.Error(), "Stop all of its workers") {
 		t.Errorf("beside a worker: %v", err)
 	}
-	if _, isLasting := session.Remedy(err); !isLasting {
+	if _, isLasting := pg.Remedy(err); !isLasting {
 		t.Error("the error doesn't last")
 	}
 	if _, err := conn.ExecContext(background, "SELECT pg_advisory_unlock_all()"); err != nil {
@@ -321,7 +321,7 @@ func TestOpenExisting(t *testing.T) {
 	url := pgtest.Schema(t, pgtest.URL(t), "osb_platform_existing")
 	db := pgtest.DB(t, url)
 	_, err := postgres.OpenExisting(background, url, 1)
-	if _, isLasting := session.Remedy(err); !errors.Is(err, platform.ErrNoStore) || !isLasting {
+	if _, isLasting := pg.Remedy(err); !errors.Is(err, platform.ErrNoStore) || !isLasting {
 		t.Errorf("without tables: %v", err)
 	}
 	var relations int

@@ -7,8 +7,8 @@ import (
 	"strings"
 	"time"
 
+	"pippinterm/internal/sqlitefile"
 	"pippinterm/platform"
-	"pippinterm/program/sqlite"
 )
 
 // A connection is one of the file, with its statements. One goroutine at a time uses it.

@@ -7,10 +7,10 @@ import (
 	"path/filepath"
 	"testing"
 
+	"pippinterm/internal/sqlitefile"
+	"pippinterm/internal/storefaults"
 	"pippinterm/platform"
 	"pippinterm/platform/storetest"
-	"pippinterm/program/sqlite"
-	"pippinterm/storefaults"
 )
 
 // What every store must do if one of its statements fails.

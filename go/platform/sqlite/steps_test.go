@@ -10,9 +10,9 @@ import (
 	"testing"
 	"time"
 
+	"pippinterm/internal/sqlitefile"
 	"pippinterm/osb"
 	"pippinterm/platform"
-	"pippinterm/program/sqlite"
 )
 
 // A seller is a broker that answers at once: each request has created what was ordered.

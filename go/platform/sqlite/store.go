@@ -14,8 +14,8 @@ import (
 	"sort"
 	"time"
 
+	"pippinterm/internal/sqlitefile"
 	"pippinterm/platform"
-	"pippinterm/program/sqlite"
 )
 
 const (

@@ -18,9 +18,9 @@ import (
 
 	"github.com/mattn/go-sqlite3"
 
+	"pippinterm/internal/sqlitefile"
 	"pippinterm/osb"
 	"pippinterm/platform"
-	"pippinterm/program/sqlite"
 )
 
 var (

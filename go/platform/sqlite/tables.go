@@ -6,8 +6,8 @@ import (
 	"errors"
 	"fmt"
 
+	"pippinterm/internal/sqlitefile"
 	"pippinterm/platform"
-	"pippinterm/program/sqlite"
 )
 
 // format is the number of the tables that this version reads and writes, in the file's user_version. Version 0.2 has 0

@@ -7,8 +7,8 @@ import (
 	"testing"
 	"time"
 
+	"pippinterm/internal/storefaults"
 	"pippinterm/platform"
-	"pippinterm/storefaults"
 )
 
 // Faulty opens stores over the database of a test, as the function open of Test does.

@@ -3,7 +3,7 @@ package vault
 import (
 	"errors"
 
-	"pippinterm/program/secrets"
+	"pippinterm/internal/secrets"
 )
 
 // FromFiles makes a vault with the keys that stand in files, the one that seals first. A file has its key on one line

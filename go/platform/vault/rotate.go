@@ -8,7 +8,7 @@ import (
 	"sync"
 	"time"
 
-	"pippinterm/broker/crash"
+	"pippinterm/internal/crash"
 	"pippinterm/platform"
 )
 

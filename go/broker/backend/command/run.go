@@ -1,0 +1,232 @@
+package command
+
+import (
+	"context"
+	"fmt"
+	"io"
+	"os"
+	"os/exec"
+	"strconv"
+	"sync"
+	"syscall"
+	"time"
+	"unsafe"
+
+	"pippinterm/internal/filelock"
+)
+
+const (
+	mostOutput = 1 << 20  // bytes of standard output
+	keptErrors = 4 * 1024 // bytes of standard error, the last ones
+)
+
+var errTooLong = fmt.Errorf("standard output has more than %d bytes", mostOutput)
+
+// run runs the program with one argument, and lends the lock of ctx to it. Once the program and every process that has
+// its outputs open have ended, run calls read, and returns what read returns. variables are added to the environment.
+//
+// Errors: those of starting the program, among them filelock.ErrLent; if it ran too long or ctx is done; if it wrote
+// too much; those of read. If run returns an error, the process group was killed.
+func (p *program) run(
+	ctx context.Context, call string, input []byte, variables []string, read func(ended) error,
+) error {
+	started, err := p.start(ctx, call, variables)
+	if err != nil {
+		return err
+	}
+	done := started.tend(input)
+	err = waitFor(ctx, done, p.limit)
+	if err == nil {
+		err = started.read(read)
+	}
+	if err != nil { // what the run has left must not go on after the call has failed
+		_ = syscall.Kill(-started.cmd.Process.Pid, syscall.SIGKILL)
+		if !isClosed(done, p.grace) {
+			go started.release(done) // ends with the process that has an output open. Until then nobody gets the lock
+			return fmt.Errorf("%w; a process that left the process group still runs", err)
+		}
+	}
+	started.release(done)
+	return err
+}
+
+// A process is the program while it runs, under a supervisor: the command timeout, at the head of a process group.
+//
+// The supervisor is for a run that hangs after its broker was killed. Without it, such a run would keep its instance
+// locked for ever. It kills the process group a little later than the broker does, so it does nothing while the broker
+// lives. The other way is to write the number of the process to a file, for the next broker. But by then it may be the
+// number of another process, and nobody would end the run before a broker starts.
+type process struct {
+	cmd            *exec.Cmd
+	lent           *os.File // the open file of the lock, or nil
+	stdin          io.WriteCloser
+	stdout, stderr io.ReadCloser
+	output         []byte // at most a byte more than it may have
+	stderrEnd      tail
+	exit           syscall.WaitStatus
+	exitErr        error // why exit isn't known
+}
+
+// start starts the program.
+func (p *program) start(ctx context.Context, call string, variables []string) (*process, error) {
+	if err := ctx.Err(); err != nil {
+		return nil, err
+	}
+	lent, err := filelock.Lend(ctx, p.grace)
+	if err != nil {
+		return nil, err
+	}
+	started := &process{cmd: p.command(call, variables, lent), lent: lent}
+	if err := started.start(); err != nil {
+		_ = lent.Close()
+		return nil, err
+	}
+	return started, nil
+}
+
+// command returns the program for a call under its supervisor, with the open file of the lock, if there is one.
+func (p *program) command(call string, variables []string, lent *os.File) *exec.Cmd {
+	seconds := strconv.FormatFloat((p.limit + p.grace).Seconds(), 'f', 3, 64)
+	cmd := exec.Command(p.timeout, "--signal=KILL", seconds, p.path, call)
+	cmd.Dir = p.state
+	cmd.Env = append(append([]string(nil), p.environment...), variables...)
+	cmd.SysProcAttr = &syscall.SysProcAttr{Setpgid: true}
+	if lent != nil {
+		cmd.ExtraFiles = []*os.File{lent}
+	}
+	return cmd
+}
+
+// start opens the pipes and starts the process.
+func (p *process) start() (err error) {
+	if p.stdin, err = p.cmd.StdinPipe(); err != nil {
+		return err
+	}
+	if p.stdout, err = p.cmd.StdoutPipe(); err != nil {
+		return err
+	}
+	if p.stderr, err = p.cmd.StderrPipe(); err != nil {
+		return err
+	}
+	return p.cmd.Start()
+}
+
+// release forgets a run, once its channel is closed. The process isn't reaped before, because its number is that of the
+// process group.
+func (p *process) release(done <-chan struct{}) {
+	<-done
+	_ = p.cmd.Wait() // its error repeats exit
+	_ = p.lent.Close()
+}
+
+// read calls read with what the run has left.
+func (p *process) read(read func(ended) error) error {
+	if p.exitErr != nil {
+		return p.exitErr
+	}
+	if len(p.output) > mostOutput {
+		return errTooLong
+	}
+	return read(ended{exit: p.exit, output: p.output, stderr: p.stderrEnd.text})
+}
+
+// waitFor returns nil once a run is done, or why it has to be killed.
+func waitFor(ctx context.Context, done <-chan struct{}, limit time.Duration) error {
+	timer := time.NewTimer(limit)
+	defer timer.Stop()
+	select {
+	case <-done:
+		return nil
+	case <-timer.C:
+		return fmt.Errorf("the run was killed: it ran longer than %v", limit)
+	case <-ctx.Done():
+		return fmt.Errorf("the run was killed: %w", ctx.Err())
+	}
+}
+
+// isClosed returns true once a channel is closed, or false after some time.
+func isClosed(done <-chan struct{}, within time.Duration) bool {
+	timer := time.NewTimer(within)
+	defer timer.Stop()
+	select {
+	case <-done:
+		return true
+	case <-timer.C:
+		return false
+	}
+}
+
+// tend writes the input, reads what the process writes, and waits for its exit. The channel is closed once the process
+// has exited and its outputs are closed.
+func (p *process) tend(input []byte) <-chan struct{} {
+	written := inBackground(func() { _, _ = p.stdin.Write(input); _ = p.stdin.Close() })
+	ended := inBackground(
+		p.readOutput,
+		func() { _, _ = io.Copy(&p.stderrEnd, p.stderr) },
+		func() { p.exit, p.exitErr = waitForExit(p.cmd.Process.Pid) },
+	)
+	return inBackground(func() {
+		<-ended
+		_ = p.stdin.Close() // nobody reads the rest of the input, though a process may have it open
+		<-written
+	})
+}
+
+// inBackground calls functions, each in a goroutine, and returns a channel that is closed once all have returned.
+func inBackground(calls ...func()) <-chan struct{} {
+	var all sync.WaitGroup
+	all.Add(len(calls))
+	for _, call := range calls {
+		go func(call func()) {
+			defer all.Done()
+			call()
+		}(call)
+	}
+	done := make(chan struct{})
+	go func() {
+		all.Wait()
+		close(done)
+	}()
+	return done
+}
+
+// readOutput reads standard output. If there is too much, it closes the pipe: a process that goes on writing gets
+// SIGPIPE.
+func (p *process) readOutput() {
+	p.output, _ = io.ReadAll(io.LimitReader(p.stdout, mostOutput+1))
+	_ = p.stdout.Close()
+}
+
+// waitForExit returns how a child has exited, once it has. It leaves the child to be reaped.
+func waitForExit(pid int) (syscall.WaitStatus, error) {
+	const thisProcess, exited = 1, 1 // P_PID and CLD_EXITED of Linux, which package syscall doesn't have
+	var info struct {                // the beginning of siginfo_t, which has 128 bytes
+		signal, errno, code, _ int32
+		pid, uid, status       int32
+		_                      [100]byte
+	}
+	err := syscall.EINTR
+	for err == syscall.EINTR {
+		_, _, err = syscall.Syscall6(syscall.SYS_WAITID, thisProcess, uintptr(pid), uintptr(unsafe.Pointer(&info)),
+			syscall.WEXITED|syscall.WNOWAIT, 0, 0)
+	}
+	switch {
+	case err != 0:
+		return 0, os.NewSyscallError("waitid", err)
+	case info.code == exited:
+		return syscall.WaitStatus(info.status << 8), nil
+	}
+	return syscall.WaitStatus(info.status), nil // the number of a signal
+}
+
+// A tail is the end of what is written to it.
+type tail struct{ text []byte }
+
+// Write keeps the last keptErrors bytes.
+func (t *tail) Write(text []byte) (int, error) {
+	t.text = append(t.text, text...)
+	if over := len(t.text) - keptErrors; over > 0 {
+		t.text = append(t.text[:0], t.text[over:]...)
+	}
+	return len(text), nil
+}

@@ -1,0 +1,356 @@
+package command
+
+import (
+	"context"
+	"encoding/json"
+	"errors"
+	"io"
+	"os"
+	"path/filepath"
+	"strconv"
+	"strings"
+	"syscall"
+	"testing"
+	"time"
+
+	"pippinterm/broker"
+	"pippinterm/internal/filelock"
+)
+
+func TestMostOutput(t *testing.T) {
+	backend := newBackend(t, Options{}, `head -c $BYTES /dev/zero | tr '\0' ' '; eval "$THEN"`)
+	for _, c := range []struct {
+		bytes, then string
+		isTooLong   bool
+	}{{"1048576", "", false}, {"1048577", "", true}, {"1048577", "exec yes", true}} {
+		backend.environment = append(backend.environment, "BYTES="+c.bytes, "THEN="+c.then)
+		if err := backend.Create(ctx, instance); errors.Is(err, errTooLong) != c.isTooLong || (err != nil) != c.isTooLong {
+			t.Errorf("after %s bytes %s, Create returned %v", c.bytes, c.then, err)
+		}
+	}
+}
+
+func TestEndOfStandardError(t *testing.T) {
+	backend := newBackend(t, Options{}, `head -c 1000000 /dev/zero | tr '\0' a >&2; printf end >&2; exit 1`)
+	err := backend.Create(ctx, instance)
+	if err == nil || !strings.HasSuffix(err.Error(), strings.Repeat("a", keptErrors-3)+"end") {
+		t.Fatalf("Create returned %.100v", err)
+	}
+	if strings.Contains(err.Error(), strings.Repeat("a", keptErrors)) {
+		t.Errorf("the error has %d bytes", len(err.Error()))
+	}
+}
+
+// A program may leave the input unread, though it is larger than what a pipe takes.
+func TestInputThatIsNotRead(t *testing.T) {
+	request := instance
+	request.Body = json.RawMessage(`{"parameters": {"x": "` + strings.Repeat("x", 1<<20) + `"}}`)
+	if err := newBackend(t, Options{}, `exec <&-`).Create(ctx, request); err != nil {
+		t.Errorf("Create returned %v", err)
+	}
+	if err := newBackend(t, Options{}, `[ $(cat | wc -c) -gt 1048576 ]`).Create(ctx, request); err != nil {
+		t.Errorf("a program that reads it: %v", err)
+	}
+}
+
+// A process that runs on, such as a server that is sold, may have the input open.
+func TestInputThatStaysOpen(t *testing.T) {
+	request := instance
+	request.Body = json.RawMessage(`{"parameters": {"x": "` + strings.Repeat("x", 1<<20) + `"}}`)
+	const text = `exec 4<&0; sleep 600 <&4 >/dev/null 2>&1 3>&- & echo $! >pid`
+	backend := newBackend(t, Options{Limit: 20 * time.Second}, text)
+	if err := backend.Create(ctx, request); err != nil {
+		t.Errorf("Create returned %v", err)
+	}
+	ok(t, syscall.Kill(pidOf(t, backend), syscall.SIGKILL)) // it still runs
+}
+
+// A run isn't over before the program has exited and its outputs are closed.
+func TestEndOfARun(t *testing.T) {
+	const work = `echo >"$OSB_STATE/started"; read line <"$OSB_STATE/go"; : >"$OSB_STATE/done"`
+	for name, text := range map[string]string{
+		"a program that has closed its outputs": "exec >&- 2>&-; " + work,
+		"a child that has the outputs open":     "{ " + work + "; } &",
+	} {
+		t.Run(name, func(t *testing.T) {
+			backend := newBackend(t, Options{}, text)
+			started, goOn := fifo(t, backend.state+"/started"), fifo(t, backend.state+"/go")
+			ended := make(chan error, 1)
+			go func() { ended <- backend.Create(ctx, instance) }()
+			read(t, started)
+			select {
+			case err := <-ended:
+				t.Errorf("Create returned while the work was going on: %v", err)
+			case <-time.After(50 * time.Millisecond):
+			}
+			if _, err := goOn.WriteString("go\n"); err != nil {
+				t.Fatal(err)
+			}
+			if err := <-ended; err != nil {
+				t.Errorf("Create returned %v", err)
+			}
+			if _, err := os.Stat(backend.state + "/done"); err != nil {
+				t.Errorf("Create returned before the work was done: %v", err)
+			}
+		})
+	}
+}
+
+// fifo creates a fifo and opens it. Neither reading nor writing it waits for another process to open it.
+func fifo(t *testing.T, path string) *os.File {
+	t.Helper()
+	if err := syscall.Mkfifo(path, 0o600); err != nil {
+		t.Fatal(err)
+	}
+	file, err := os.OpenFile(path, os.O_RDWR, 0)
+	if err != nil {
+		t.Fatal(err)
+	}
+	t.Cleanup(func() { _ = file.Close() })
+	return file
+}
+
+// forked is a text in sh that starts a process, which lets the lock go only when it is killed.
+const forked = `sleep 1000 >/dev/null 2>&1 </dev/null & `
+
+// After the limit, the program and the processes that it has started are killed.
+func TestLimit(t *testing.T) {
+	for name, text := range map[string]string{
+		"a child": forked + "wait", "outputs that are closed": "exec >&- 2>&-; exec sleep 1000",
+	} {
+		t.Run(name, func(t *testing.T) {
+			backend := newBackend(t, Options{Limit: time.Minute}, text)
+			backend.limit = 200 * time.Millisecond
+			lock := locked(t, backend.Locks())
+			err := backend.Create(lock.Context(ctx), instance)
+			lock.Unlock()
+			if err == nil || !strings.Contains(err.Error(), "it ran longer than 200ms") {
+				t.Errorf("Create returned %v", err)
+			}
+			locked(t, backend.Locks()).Unlock() // the sleep has ended
+		})
+	}
+}
+
+// locked returns the lock of the instance. It fails if it has to wait for more than a minute.
+func locked(t *testing.T, locks broker.Locks) broker.Lock {
+	t.Helper()
+	limited, cancel := context.WithTimeout(ctx, time.Minute)
+	defer cancel()
+	lock, err := locks.Lock(limited, instance.Key)
+	if err != nil {
+		t.Fatal(err)
+	}
+	return lock
+}
+
+// If the broker stops, the program is killed.
+func TestCancel(t *testing.T) {
+	backend := newBackend(t, Options{}, `echo >"$OSB_STATE/started"; `+forked+"wait")
+	started := fifo(t, backend.state+"/started")
+	lock := locked(t, backend.Locks())
+	if err := canceledCreate(t, backend, lock, started); !errors.Is(err, context.Canceled) {
+		t.Errorf("Create returned %v", err)
+	}
+	lock.Unlock()
+	locked(t, backend.Locks()).Unlock()
+}
+
+// read reads a byte. It fails if there is none within ten seconds.
+func read(t *testing.T, file *os.File) {
+	t.Helper()
+	if err := file.SetReadDeadline(time.Now().Add(10 * time.Second)); err != nil {
+		t.Fatal(err)
+	}
+	if _, err := file.Read(make([]byte, 1)); err != nil {
+		t.Fatal(err)
+	}
+}
+
+// A process that has left the group isn't killed. As long as it has the lock or an output open, no other call begins,
+// and nobody gets the lock.
+func TestProcessThatLeftTheGroup(t *testing.T) {
+	const work = `setsid sh -c 'echo >"$OSB_STATE/started"; read line <"$OSB_STATE/go"' `
+	for name, c := range map[string]struct{ text, says string }{
+		"with the lock": {work + ">/dev/null 2>&1 & wait", "context canceled"},
+		"with outputs":  {work + "3>&- & wait", "context canceled; a process that left the process group still runs"},
+	} {
+		t.Run(name, func(t *testing.T) {
+			backend := newBackend(t, Options{Limit: 20 * time.Second}, c.text)
+			backend.grace = 50 * time.Millisecond
+			started, goOn := fifo(t, backend.state+"/started"), fifo(t, backend.state+"/go")
+			lock := locked(t, backend.Locks())
+			err := canceledCreate(t, backend, lock, started)
+			if !errors.Is(err, context.Canceled) || !strings.HasSuffix(err.Error(), c.says) {
+				t.Errorf("Create returned %v", err)
+			}
+			there, err := backend.Look(lock.Context(ctx), instance)
+			if there != broker.None || !errors.Is(err, filelock.ErrLent) {
+				t.Errorf("while the process runs Look returned %v, %v", there, err)
+			}
+			lock.Unlock()
+			if free, err := backend.Locks().TryLock(ctx, instance.Key); free != nil || err != nil {
+				t.Errorf("the lock of a process that still runs is free: %v, %v", free, err)
+			}
+			if _, err := io.WriteString(goOn, "go\n"); err != nil {
+				t.Fatal(err)
+			}
+			locked(t, backend.Locks()).Unlock()
+		})
+	}
+}
+
+// canceledCreate calls Create with a context that is done once the program has started, and returns the error.
+func canceledCreate(t *testing.T, backend bindingsWithCredentials, lock broker.Lock, started *os.File) error {
+	t.Helper()
+	stopping, stop := context.WithCancel(lock.Context(ctx))
+	defer stop()
+	ended := make(chan error, 1)
+	go func() { ended <- backend.Create(stopping, instance) }()
+	read(t, started)
+	stop()
+	return <-ended
+}
+
+// A server that is sold and has the lock open keeps the next call from beginning, though the program has succeeded.
+func TestServerThatHasTheLock(t *testing.T) {
+	backend := newBackend(t, Options{}, `case $1 in
+		create) sleep 600 >/dev/null 2>&1 & echo $! >pid ;;
+		look) echo '{"exists": "whole"}' ;;
+	esac`)
+	backend.grace = 20 * time.Millisecond
+	lock := locked(t, backend.Locks())
+	defer lock.Unlock()
+	ok(t, backend.Create(lock.Context(ctx), instance))
+	there, err := backend.Look(lock.Context(ctx), instance)
+	if there != broker.None || !errors.Is(err, filelock.ErrLent) {
+		t.Errorf("while the server runs Look returned %v, %v", there, err)
+	}
+	ok(t, syscall.Kill(pidOf(t, backend), syscall.SIGKILL))
+	backend.grace = 10 * time.Second
+	if there, err := backend.Look(lock.Context(ctx), instance); there != broker.Whole || err != nil {
+		t.Errorf("after the server has ended Look returned %v, %v", there, err)
+	}
+}
+
+// pidOf returns the number that the program has written to its file pid.
+func pidOf(t *testing.T, backend bindingsWithCredentials) int {
+	t.Helper()
+	text, err := os.ReadFile(filepath.Join(backend.state, "pid"))
+	ok(t, err)
+	pid, err := strconv.Atoi(strings.TrimSpace(string(text)))
+	ok(t, err)
+	return pid
+}
+
+// Once its context is done, no call begins.
+func TestCallThatDoesNotBegin(t *testing.T) {
+	backend := newBackend(t, Options{}, "")
+	stopped, stop := context.WithCancel(ctx)
+	stop()
+	err := backend.Create(stopped, instance)
+	if !errors.Is(err, context.Canceled) || strings.Contains(err.Error(), "killed") {
+		t.Errorf("Create returned %v", err)
+	}
+}
+
+// A run without a lock has no descriptor 3.
+func TestDescriptors(t *testing.T) {
+	backend := newBackend(t, Options{}, `[ -e /proc/$$/fd/3 ] && echo '{"exists": "whole"}' || echo '{"exists": "none"}'`)
+	lock := locked(t, backend.Locks())
+	defer lock.Unlock()
+	if there, err := backend.Look(ctx, instance); there != broker.None || err != nil {
+		t.Errorf("without a lock Look returned %v, %v", there, err)
+	}
+	if there, err := backend.Look(lock.Context(ctx), instance); there != broker.Whole || err != nil {
+		t.Errorf("with a lock Look returned %v, %v", there, err)
+	}
+}
+
+// Runs leave neither open files nor children behind, also if they don't begin.
+func TestRunsLeaveNothing(t *testing.T) {
+	backend := newBackend(t, Options{}, "exit 1")
+	lock := locked(t, backend.Locks())
+	defer lock.Unlock()
+	before := openFiles(t)
+	for n := 0; n < 5; n++ {
+		_ = backend.Create(lock.Context(ctx), instance)
+	}
+	backend.path += "-that-does-not-exist"
+	err := backend.Create(lock.Context(ctx), instance)
+	if err == nil || !strings.Contains(err.Error(), "exit status 127: ") {
+		t.Errorf("a program that was deleted: %v", err)
+	}
+	backend.timeout += "-that-does-not-exist"
+	if err := backend.Create(lock.Context(ctx), instance); !errors.Is(err, os.ErrNotExist) {
+		t.Errorf("without the command timeout: %v", err)
+	}
+	lent, err := filelock.Lend(lock.Context(ctx), time.Minute)
+	ok(t, err)
+	backend.grace = 10 * time.Millisecond
+	if err := backend.Create(lock.Context(ctx), instance); !errors.Is(err, filelock.ErrLent) {
+		t.Errorf("with a lock that is lent: %v", err)
+	}
+	ok(t, lent.Close())
+	if after := openFiles(t); after != before {
+		t.Errorf("%d files are open, and %d were open before", after, before)
+	}
+	if pid, err := syscall.Wait4(-1, nil, syscall.WNOHANG, nil); err != syscall.ECHILD {
+		t.Errorf("there are children: %d, %v", pid, err)
+	}
+}
+
+// openFiles returns how many files are open, without those that were deleted: the locks of an earlier test leave some open
+// until they are collected as garbage.
+func openFiles(t *testing.T) (count int) {
+	t.Helper()
+	found, err := os.ReadDir("/proc/self/fd")
+	if err != nil {
+		t.Fatal(err)
+	}
+	for _, it := range found {
+		path, err := os.Readlink("/proc/self/fd/" + it.Name())
+		if err == nil && !strings.HasSuffix(path, " (deleted)") {
+			count++
+		}
+	}
+	return count
+}
+
+// What a run that failed has left in the background is killed, whatever made it fail.
+func TestFailureEndsTheGroup(t *testing.T) {
+	for name, end := range map[string]string{
+		"a status": "exit 1", "no JSON": "echo done", "too much output": `head -c 1048577 /dev/zero | tr '\0' ' '`,
+	} {
+		t.Run(name, func(t *testing.T) {
+			backend := newBackend(t, Options{}, "sleep 600 >/dev/null 2>&1 3>&- & echo $! >pid; "+end)
+			if err := backend.Create(ctx, instance); err == nil {
+				t.Fatal("create returned no error")
+			}
+			waitForEnd(t, pidOf(t, backend))
+		})
+	}
+}
+
+// What a look has left that reports no existence is killed too.
+func TestBadResultEndsTheGroup(t *testing.T) {
+	backend := newBackend(t, Options{}, `sleep 600 >/dev/null 2>&1 3>&- & echo $! >pid; echo '{"exists": "no"}'`)
+	if _, err := backend.Look(ctx, instance); err == nil {
+		t.Fatal("look returned no error")
+	}
+	waitForEnd(t, pidOf(t, backend))
+}
+
+// waitForEnd returns once a process has ended. It fails if that takes longer than a minute.
+func waitForEnd(t *testing.T, pid int) {
+	t.Helper()
+	for end := time.Now().Add(time.Minute); ; time.Sleep(time.Millisecond) {
+		stat, err := os.ReadFile("/proc/" + strconv.Itoa(pid) + "/stat")
+		if err != nil || strings.Contains(string(stat), ") Z ") {
+			return
+		}
+		if time.Now().After(end) {
+			t.Fatal("the process runs on")
+		}
+	}
+}

@@ -1,0 +1,64 @@
+//go:build crashpoints
+
+package folders
+
+import (
+	"testing"
+
+	"pippinterm/broker"
+	"pippinterm/internal/crash"
+)
+
+// After a crash at each crash point, another backend sees a part or all of it, and completes or deletes it.
+func TestCrashes(t *testing.T) {
+	creation := func(f *Folders) error { return f.Create(ctx, first) }
+	deletion := func(f *Folders) error { return f.Delete(ctx, first) }
+	bind := func(f *Folders) error { _, err := f.CreateBinding(ctx, bound); return err }
+	unbind := func(f *Folders) error { return f.DeleteBinding(ctx, bound) }
+	cases := map[string]struct {
+		point   string
+		request broker.Request
+		before  []func(*Folders) error
+		broken  func(*Folders) error
+		left    broker.There
+		create  func(*Folders) error
+		delete  func(*Folders) error
+	}{
+		"creation": {"work-half", first, nil, creation, broker.Part, creation, deletion},
+		"deletion": {
+			"work-half", first, []func(*Folders) error{creation}, deletion, broker.Part, creation, deletion},
+		"creation of a binding": {
+			"binding-half", bound, []func(*Folders) error{creation}, bind, broker.Part, bind, unbind},
+		"deletion of a binding": {
+			"binding-half", bound, []func(*Folders) error{creation, bind}, unbind, broker.None, bind, unbind},
+	}
+	for name, c := range cases {
+		for goOn, wanted := range []broker.There{broker.None, broker.Whole} {
+			f := newFolders(t, t.TempDir())
+			for _, before := range c.before {
+				ok(t, before(f))
+			}
+			if !crashes(c.point, func() { _ = c.broken(f) }) {
+				t.Errorf("%s doesn't come to the crash point %s", name, c.point)
+			}
+			after := newFolders(t, f.top)
+			has(t, after, c.request, c.left)
+			ok(t, []func(*Folders) error{c.delete, c.create}[goOn](after))
+			has(t, after, c.request, wanted)
+		}
+	}
+}
+
+// crashes breaks a call off at a crash point, and returns whether it came there.
+func crashes(point string, call func()) (isCrashed bool) {
+	before := crash.Hook
+	defer func() { crash.Hook = before }()
+	crash.Hook = func(place string) {
+		if place == point {
+			panic(point)
+		}
+	}
+	defer func() { isCrashed = recover() == point }()
+	call()
+	return false
+}

@@ -1,0 +1,315 @@
+package postgres_test
+
+import (
+	"context"
+	"errors"
+	"sync"
+	"testing"
+	"time"
+
+	"pippinterm/broker"
+	"pippinterm/broker/backend/postgres"
+	"pippinterm/internal/pg/pgtest"
+)
+
+func take(t *testing.T, d *postgres.Databases, key broker.Key) broker.Lock {
+	t.Helper()
+	held, err := d.Locks().TryLock(context.Background(), key)
+	if err != nil {
+		t.Fatalf("TryLock of %v: %v", key, err)
+	}
+	return held
+}
+
+func TestLocks(t *testing.T) {
+	r := newRig(t)
+	first, second := r.open(), r.open()
+	if !first.Locks().CanBeLost() {
+		t.Error("the lock of a session can't be lost")
+	}
+	id := randomID(t)
+	for _, key := range []broker.Key{broker.InstanceKey(id), broker.BindingKey(id, id)} {
+		held := take(t, first, key)
+		if held == nil {
+			t.Fatalf("%v: the lock isn't free", key)
+		}
+		for _, d := range []*postgres.Databases{first, second} {
+			if other := take(t, d, key); other != nil {
+				t.Errorf("%v: the lock was taken twice", key)
+			}
+		}
+		held.Unlock()
+		again := take(t, second, key)
+		if again == nil {
+			t.Fatalf("%v: the lock isn't free again", key)
+		}
+		again.Unlock()
+	}
+	both := []broker.Lock{take(t, first, broker.InstanceKey(id)), take(t, first, broker.BindingKey(id, id)),
+		take(t, first, broker.BindingKey(id, randomID(t)))}
+	for _, it := range both {
+		if it == nil {
+			t.Fatal("an instance and its bindings share a lock")
+		}
+		it.Unlock()
+	}
+}
+
+// Lock waits until the lock is free, also beyond the time that a statement waits, or until its context is done.
+func TestLockWaits(t *testing.T) {
+	r := newRig(t)
+	d := r.open()
+	key := newInstance(t)
+	held := take(t, d, key)
+	ctx, cancel := context.WithCancel(context.Background())
+	given := make(chan error, 1)
+	go func() {
+		_, err := d.Locks().Lock(ctx, key)
+		given <- err
+	}()
+	r.waitForWaiter()
+	cancel()
+	if err := <-given; err == nil {
+		t.Error("the lock was taken")
+	}
+	go func() {
+		next, err := d.Locks().Lock(context.Background(), key)
+		if err == nil {
+			next.Unlock()
+		}
+		given <- err
+	}()
+	select {
+	case err := <-given:
+		t.Errorf("Lock didn't wait: %v", err)
+	case <-time.After(2500 * time.Millisecond):
+	}
+	held.Unlock()
+	if err := <-given; err != nil {
+		t.Errorf("Lock: %v", err)
+	}
+}
+
+// waitForWaiter waits until somebody waits for an advisory lock in the brokers' database.
+func (r *rig) waitForWaiter() {
+	r.t.Helper()
+	for until := time.Now().Add(10 * time.Second); !r.exists("pg_locks JOIN pg_database ON pg_database.oid = database "+
+		"WHERE locktype = 'advisory' AND NOT granted AND datname = $1", r.role); {
+		if time.Now().After(until) {
+			r.t.Fatal("nobody waits")
+		}
+	}
+}
+
+// Many who want one lock have it one after the other.
+func TestLockExcludes(t *testing.T) {
+	r := newRig(t)
+	key, at := newInstance(t), 0
+	var all sync.WaitGroup
+	for n := 0; n < 8; n++ {
+		d := r.open()
+		all.Add(1)
+		go func() {
+			defer all.Done()
+			held, err := d.Locks().Lock(context.Background(), key)
+			if err != nil {
+				t.Error(err)
+				return
+			}
+			at++ // the race detector sees two at once
+			held.Unlock()
+		}()
+	}
+	all.Wait()
+	if at != 8 {
+		t.Errorf("%d had the lock", at)
+	}
+}
+
+// A call needs the lock of its own key.
+func TestCallsWithoutTheLock(t *testing.T) {
+	r := newRig(t)
+	d := r.open()
+	it := created(t, d)
+	other := lock(t, d, newInstance(t))
+	binding := request(broker.BindingKey(it.request.Key.Instance, it.request.Key.Instance))
+	for _, ctx := range []context.Context{context.Background(), other.ctx} {
+		if _, err := d.Look(ctx, it.request); err == nil {
+			t.Error("Look")
+		}
+		if err := d.Create(ctx, it.request); err == nil {
+			t.Error("Create")
+		}
+		if err := d.Delete(ctx, it.request); err == nil {
+			t.Error("Delete")
+		}
+		if err := d.Sync(ctx, it.request); err == nil {
+			t.Error("Sync")
+		}
+	}
+	if _, err := d.LookBinding(it.ctx, binding); err == nil {
+		t.Error("LookBinding under the lock of the instance")
+	}
+	if _, err := d.CreateBinding(it.ctx, binding); err == nil {
+		t.Error("CreateBinding under the lock of the instance")
+	}
+	if err := d.DeleteBinding(it.ctx, binding); err == nil {
+		t.Error("DeleteBinding under the lock of the instance")
+	}
+	if _, err := d.Credentials(it.ctx, binding); err == nil {
+		t.Error("Credentials under the lock of the instance")
+	}
+	wantThere(t, d, it, broker.Whole)
+}
+
+// A lock outlives its client for as long as the server runs its statement, and is lost with its session.
+func TestALockThatOutlivesItsClient(t *testing.T) {
+	r := newRig(t)
+	r.open()
+	proxy, url := pgtest.NewProxy(t, r.url)
+	d, err := postgres.Open(context.Background(), url, postgres.Options{Key: secret, Sessions: 1})
+	if err != nil {
+		t.Fatal(err)
+	}
+	defer d.Close()
+	key := newInstance(t)
+	held := take(t, d, key)
+	// CREATE DATABASE waits for the lock of template0, which this transaction has.
+	template := hold(t, r.admin, "BEGIN", "COMMENT ON DATABASE template0 IS 'unmodifiable empty database'")
+	proxy.Cut("CREATE DATABASE")
+	err = d.Create(held.Context(context.Background()), request(key))
+	if err == nil {
+		t.Fatal("Create succeeded")
+	}
+	held.Unlock()
+	second := r.open()
+	if other := take(t, second, key); other != nil {
+		t.Error("the lock is free while the server still creates the database")
+	}
+	if !r.exists("pg_roles WHERE rolname = $1 AND NOT rolcanlogin", postgres.NameOf(key)) {
+		t.Error("the role can log in before its database exists")
+	}
+	if _, err := template.ExecContext(context.Background(), "COMMIT"); err != nil {
+		t.Fatal(err)
+	}
+	ctx, cancel := context.WithTimeout(context.Background(), time.Minute)
+	defer cancel()
+	next, err := second.Locks().Lock(ctx, key)
+	if err != nil {
+		t.Fatalf("the lock isn't free once the server has ended: %v", err)
+	}
+	defer next.Unlock()
+	if err := second.Create(next.Context(ctx), request(key)); err != nil {
+		t.Errorf("Create by the next: %v", err)
+	}
+}
+
+func TestALockThatIsLost(t *testing.T) {
+	r := newRig(t)
+	d := r.open()
+	it := lock(t, d, newInstance(t))
+	pgtest.Exec(t, r.admin, "SELECT pg_terminate_backend(pid, 5000) FROM pg_locks JOIN pg_database "+
+		"ON pg_database.oid = database WHERE locktype = 'advisory' AND datname = '"+r.role+"'")
+	other := take(t, d, it.request.Key)
+	if other == nil {
+		t.Fatal("the lock isn't free")
+	}
+	defer other.Unlock()
+	if err := d.Create(it.ctx, it.request); err == nil {
+		t.Error("Create went on without the lock")
+	}
+	r.wantNothing(it.request.Key)
+}
+
+// As many are locked at once as there are sessions, and whoever asks for one more waits. Sessions that the server has
+// ended are replaced.
+func TestSessions(t *testing.T) {
+	r := newRig(t)
+	d := r.open(func(o *postgres.Options) { o.Sessions = 2 })
+	all := []broker.Lock{take(t, d, newInstance(t)), take(t, d, newInstance(t))}
+	ctx, cancel := context.WithTimeout(context.Background(), 100*time.Millisecond)
+	defer cancel()
+	if _, err := d.Locks().TryLock(ctx, newInstance(t)); !errors.Is(err, context.DeadlineExceeded) {
+		t.Errorf("a third session: %v", err)
+	}
+	for _, it := range all {
+		it.Unlock()
+	}
+	pgtest.Exec(t, r.admin,
+		"SELECT pg_terminate_backend(pid, 5000) FROM pg_stat_activity WHERE datname = '"+r.role+"'")
+	for n := 0; n < 2; n++ {
+		it := take(t, d, newInstance(t))
+		defer it.Unlock()
+	}
+}
+
+// While the server can't be reached, no lock is taken, and the error is broker.ErrAway. Afterwards all can be taken.
+func TestLocksOfAServerThatIsAway(t *testing.T) {
+	r := newRig(t)
+	r.open()
+	proxy, url := pgtest.NewProxy(t, r.url)
+	d, err := postgres.Open(context.Background(), url, postgres.Options{Key: secret, Sessions: 2})
+	if err != nil {
+		t.Fatal(err)
+	}
+	defer d.Close()
+	key := newInstance(t)
+	proxy.Cut("\x00") // a byte of every message
+	for round := 0; round < 2; round++ {
+		if _, err := d.Locks().TryLock(context.Background(), key); !errors.Is(err, broker.ErrAway) {
+			t.Errorf("TryLock returned %v", err)
+		}
+		if _, err := d.Locks().Lock(context.Background(), key); !errors.Is(err, broker.ErrAway) {
+			t.Errorf("Lock returned %v", err)
+		}
+	}
+	proxy.Cut("")
+	held := take(t, d, key)
+	defer held.Unlock()
+	if other := take(t, d, key); other != nil {
+		t.Error("a lock is taken twice")
+	}
+}
+
+// While the server is silent, whoever wants a lock is answered broker.ErrAway within a limit, on sessions that were idle,
+// on new ones, and while it waits for one. A lock that is held is given back in that time too.
+func TestLocksOfAServerThatIsSilent(t *testing.T) {
+	r := newRig(t)
+	r.open()
+	proxy, url := pgtest.NewProxy(t, r.url)
+	d, err := postgres.Open(context.Background(), url, postgres.Options{Key: secret, Sessions: 3})
+	if err != nil {
+		t.Fatal(err)
+	}
+	defer d.Close()
+	key := newInstance(t)
+	held, idle := take(t, d, key), take(t, d, newInstance(t))
+	idle.Unlock()
+	proxy.Hang(true)
+	done := make(chan error, 5)
+	for n := 0; n < 4; n++ {
+		other := newInstance(t)
+		go func() {
+			_, err := d.Locks().TryLock(context.Background(), other)
+			done <- err
+		}()
+	}
+	go func() {
+		held.Unlock()
+		done <- broker.ErrAway
+	}()
+	late := time.After(time.Minute)
+	for n := 0; n < cap(done); n++ {
+		select {
+		case err := <-done:
+			if !errors.Is(err, broker.ErrAway) {
+				t.Errorf("TryLock returned %v", err)
+			}
+		case <-late:
+			t.Fatal("TryLock or Unlock waits for the silent server")
+		}
+	}
+	proxy.Hang(false)
+	again := take(t, d, newInstance(t))
+	again.Unlock()
+}

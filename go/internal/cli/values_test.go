@@ -1,0 +1,133 @@
+package cli
+
+import (
+	"net/netip"
+	"testing"
+	"time"
+
+	"github.com/spf13/pflag"
+)
+
+func TestSeconds(t *testing.T) {
+	for text, want := range map[string]time.Duration{
+		"0.001": time.Millisecond, "0.5": 500 * time.Millisecond, "30": 30 * time.Second, "86400": 24 * time.Hour,
+		"0": 0, "0.0009": 0, "-1": 0, "86400.1": 0, "nan": 0, "inf": 0, "": 0, "1s": 0, "x": 0,
+	} {
+		var got time.Duration
+		value := Seconds(&got, 7*time.Second)
+		if err := value.Set(text); (err == nil) != (want > 0) {
+			t.Errorf("%q: %v", text, err)
+		}
+		if want == 0 {
+			want = 7 * time.Second
+		}
+		if got != want {
+			t.Errorf("%q: %v, want %v", text, got, want)
+		}
+	}
+	var got time.Duration
+	if text := Seconds(&got, 1500*time.Millisecond).String(); text != "1.5" {
+		t.Errorf("the default is printed as %q", text)
+	}
+}
+
+func TestCount(t *testing.T) {
+	for text, want := range map[string]int{
+		"1": 1, "16": 16, "1024": 1024,
+		"0": 0, "1025": 0, "-1": 0, "+1": 0, "1.0": 0, "": 0, "x": 0, "0x10": 0, "99999999999999999999": 0, " 1": 0,
+	} {
+		var got int
+		if err := Count(&got, 4, 1, 1024).Set(text); (err == nil) != (want > 0) {
+			t.Errorf("%q: %v", text, err)
+		}
+		if want == 0 {
+			want = 4
+		}
+		if got != want {
+			t.Errorf("%q: %d, want %d", text, got, want)
+		}
+	}
+}
+
+func TestAddress(t *testing.T) {
+	for text, want := range map[string]string{
+		"127.0.0.1:8080": "127.0.0.1:8080", "localhost:0": "localhost:0", "[::1]:0": "[::1]:0", "::1:80": "[::1]:80",
+		"[::]:65535": "[::]:65535",
+		"8080":       "", ":8080": "", "x:": "", "x:70000": "", "x:-1": "", "x:+1": "", "x:http": "", "[]:1": "",
+		"http://x:80": "", "u@x:80": "", "": "", "[::1]": "", "a b:1": "",
+	} {
+		var got string
+		if err := Address(&got, "127.0.0.1:1").Set(text); (err == nil) != (want != "") {
+			t.Errorf("%q: %v", text, err)
+		}
+		if want == "" {
+			want = "127.0.0.1:1"
+		}
+		if got != want {
+			t.Errorf("%q: %q, want %q", text, got, want)
+		}
+	}
+}
+
+func TestNetworks(t *testing.T) {
+	var got []netip.Prefix
+	value := Networks(&got)
+	for text, isNetwork := range map[string]bool{
+		"10.1.2.3": true, "10.1.2.3/16": true, "2001:db8::1": true, "2001:db8::/32": true, "0.0.0.0/1": true,
+		"0.0.0.0/0": false, "::/0": false, "10.1.2": false, "10.1.0.0/33": false, "a.example": false, "": false,
+		"fe80::1%eth0": false, "::ffff:10.0.0.0/104": false, "10.1.2.3:80": false, "10.0.0.1,10.0.0.2": false,
+	} {
+		got = nil
+		if err := value.Set(text); (err == nil) != isNetwork || len(got) > 0 != isNetwork {
+			t.Errorf("%q: got %v, %v", text, got, err)
+		}
+	}
+	got = nil
+	for _, it := range []string{"10.1.2.3/16", "192.0.2.1"} {
+		if err := value.Set(it); err != nil {
+			t.Fatal(err)
+		}
+	}
+	if want := "10.1.0.0/16,192.0.2.1/32"; value.String() != want {
+		t.Errorf("got %s, want %s", value, want)
+	}
+}
+
+func TestPlace(t *testing.T) {
+	for text, isPlace := range map[string]bool{
+		"": true, "/srv/store": true, "store.sqlite": true, "postgresql://u@h/d": true, "postgres://h/d": true,
+		"command:./be": true, "command:./be://x": true, "./a://b": true, "://x": true, "a b://c": true,
+		"postgresq://u@h/d": false, "mysql://h": false, "http://h": false, "FILE://x": false, "a+b-c.1://x": false,
+	} {
+		got := "before"
+		want := text
+		if !isPlace {
+			want = "before"
+		}
+		if err := Place(&got, got).Set(text); (err == nil) != isPlace || got != want {
+			t.Errorf("%q: %q, %v", text, got, err)
+		}
+	}
+}
+
+func TestValuesInUse(t *testing.T) {
+	var limit time.Duration
+	var most int
+	var at string
+	flags := pflag.NewFlagSet("serve", pflag.ContinueOnError)
+	flags.Var(Seconds(&limit, 30*time.Second), "request-seconds", "how long a request may take to arrive")
+	flags.Var(Count(&most, 16, 1, 1024), "threads", "requests at once")
+	flags.Var(Address(&at, "127.0.0.1:8080"), "listen", "where it listens")
+	want := "      --listen host:port          where it listens (default 127.0.0.1:8080)\n" +
+		"      --request-seconds seconds   how long a request may take to arrive (default 30)\n" +
+		"      --threads number            requests at once (default 16)\n"
+	if usage := flags.FlagUsages(); usage != want {
+		t.Errorf("the help is\n%swant\n%s", usage, want)
+	}
+	if err := flags.Parse([]string{"--listen=x:1", "--threads", "2"}); err != nil {
+		t.Fatal(err)
+	}
+	if limit != 30*time.Second || most != 2 || at != "x:1" {
+		t.Errorf("%v, %d, %q", limit, most, at)
+	}
+}

@@ -1,0 +1,176 @@
+package httpserver
+
+import (
+	"bytes"
+	"strconv"
+	"sync/atomic"
+)
+
+// heads follows the requests on a connection in the bytes that come, in the same way as net/http will parse them. It
+// finds heads that net/http accepts, although a proxy may see another end of the request (RFC 9112, sections 5.2, 6.1
+// and 6.3):
+//
+//   - Transfer-Encoding beside Content-Length, or in another version than HTTP/1.1,
+//   - two lines Content-Length, or one that isn't a number,
+//   - a line that is continued on the next line.
+//
+// Such a head is bad. heads doesn't follow further requests after a bad head, nor after a head with Transfer-Encoding
+// alone: the server has to close the connection after that request. heads needn't find what net/http rejects, because
+// net/http closes the connection then.
+//
+// One goroutine at a time may use heads. Any goroutine may load bad.
+type heads struct {
+	place place
+	line  []byte // the beginning of a line whose end hasn't come
+	head  head
+	body  uint64        // how many bytes of the body are missing
+	ended uint64        // how many heads have ended
+	bad   atomic.Uint64 // the number of the bad head, from 1 on, or 0
+}
+
+// A place is the place of the next byte.
+type place int
+
+const (
+	between     place = iota // before a request, or in empty lines before it
+	requestLine              // in the first line of a head
+	headerLines              // in another line of a head
+	inBody                   // in a body whose length is known
+	unfollowed               // after the last head that is followed
+)
+
+// A head is what has come of a head.
+type head struct {
+	is11        bool // the version is HTTP/1.1
+	isBad       bool
+	hasLength   bool
+	hasEncoding bool
+	length      uint64
+}
+
+// isInside returns whether the head of a request has begun and hasn't ended.
+func (h *heads) isInside() bool { return h.place == requestLine || h.place == headerLines }
+
+// hasBegun returns whether a byte of a head has come.
+func (h *heads) hasBegun() bool { return h.place != between || h.ended > 0 }
+
+// read follows the bytes in p, and returns how many bytes of p are left for net/http. It removes empty lines before a
+// request, which net/http would reject (RFC 9112, section 2.2). It replaces the target * of OPTIONS, which net/http
+// would answer itself, with the path /.
+func (h *heads) read(p []byte) int {
+	kept := 0
+	for at := 0; at < len(p); {
+		rest := p[at:]
+		var count int
+		switch h.place {
+		case between:
+			if rest[0] == '\r' || rest[0] == '\n' {
+				at++
+				continue
+			}
+			h.place, h.head = requestLine, head{}
+			continue
+		case requestLine, headerLines:
+			count = h.readLine(rest)
+		case inBody:
+			count = h.readBody(rest)
+		default:
+			count = len(rest)
+		}
+		copy(p[kept:], rest[:count])
+		kept, at = kept+count, at+count
+	}
+	return kept
+}
+
+func (h *heads) readBody(p []byte) int {
+	count := len(p)
+	if uint64(count) > h.body {
+		count = int(h.body)
+	}
+	if h.body -= uint64(count); h.body == 0 {
+		h.place = between
+	}
+	return count
+}
+
+// readLine reads up to the end of a line, or all of p. The line is bounded, because net/http stops reading if a head is
+// too long.
+func (h *heads) readLine(p []byte) int {
+	end := bytes.IndexByte(p, '\n')
+	part := p
+	if end >= 0 {
+		part = p[:end]
+	}
+	if h.place == requestLine {
+		h.replaceAsterisk(part)
+	}
+	if end < 0 {
+		h.line = append(h.line, part...)
+		return len(p)
+	}
+	line := part
+	if len(h.line) > 0 {
+		line = append(h.line, part...)
+	}
+	h.endLine(bytes.TrimSuffix(line, []byte("\r")))
+	h.line = h.line[:0]
+	return end + 1
+}
+
+const asterisk = "OPTIONS *"
+
+// replaceAsterisk replaces the target * of OPTIONS if it is in this part of the request line.
+func (h *heads) replaceAsterisk(part []byte) {
+	before := len(h.line)
+	at := len(asterisk) - 1 - before
+	if at < 0 || at >= len(part) {
+		return
+	}
+	if string(h.line) == asterisk[:before] && string(part[:at+1]) == asterisk[before:] {
+		part[at] = '/'
+	}
+}
+
+func (h *heads) endLine(line []byte) {
+	switch {
+	case h.place == requestLine:
+		h.head.is11 = bytes.HasSuffix(line, []byte(" HTTP/1.1"))
+		h.place = headerLines
+	case len(line) == 0:
+		h.endHead()
+	case line[0] == ' ' || line[0] == '\t':
+		h.head.isBad = true
+	default:
+		h.head.add(line)
+	}
+}
+
+func (h *head) add(line []byte) {
+	name, value, _ := bytes.Cut(line, []byte(":"))
+	switch {
+	case bytes.EqualFold(name, []byte("Transfer-Encoding")):
+		h.hasEncoding = true
+	case bytes.EqualFold(name, []byte("Content-Length")):
+		length, err := strconv.ParseUint(string(bytes.Trim(value, " \t")), 10, 63)
+		h.isBad = h.isBad || h.hasLength || err != nil
+		h.hasLength, h.length = true, length
+	}
+}
+
+func (h *heads) endHead() {
+	h.ended++
+	head := h.head
+	isBad := head.isBad || head.hasEncoding && (head.hasLength || !head.is11)
+	switch {
+	case isBad:
+		h.bad.Store(h.ended)
+		h.place = unfollowed
+	case head.hasEncoding:
+		h.place = unfollowed
+	case head.length > 0:
+		h.place, h.body = inBody, head.length
+	default:
+		h.place = between
+	}
+}

@@ -1,0 +1,187 @@
+package httpserver
+
+import (
+	"bufio"
+	"io"
+	"math/rand"
+	"net/http"
+	"strings"
+	"testing"
+)
+
+const end = "\r\n\r\n"
+
+// readIn follows a stream in pieces of this size, and returns what net/http gets.
+func readIn(stream string, size int) (*heads, string) {
+	followed, got := &heads{}, ""
+	for at := 0; at < len(stream); at += size {
+		piece := []byte(stream[at:])
+		if len(piece) > size {
+			piece = piece[:size]
+		}
+		got += string(piece[:followed.read(piece)])
+	}
+	return followed, got
+}
+
+const (
+	get     = "GET / HTTP/1.1\r\nHost: x" + end
+	put     = "PUT /a HTTP/1.1\r\nHost: x\r\ncontent-length:\t3 " + end + "{}\n"
+	chunked = "PUT /a HTTP/1.1\r\nTransfer-Encoding: chunked" + end
+	put11   = "PUT / HTTP/1.1\r\n"
+)
+
+var headTests = map[string]struct {
+	stream string
+	ended  uint64
+	bad    uint64
+	place  place
+	got    string // what net/http gets, if it isn't the stream
+}{
+	"nothing":                  {"", 0, 0, between, ""},
+	"one":                      {get, 1, 0, between, ""},
+	"line feeds alone":         {"GET / HTTP/1.1\nHost: x\n\n", 1, 0, between, ""},
+	"three":                    {get + put + get, 3, 0, between, ""},
+	"a head in a body":         {put11 + "Content-Length: 27" + end + get, 1, 0, between, ""},
+	"a part of a body":         {put11 + "Content-Length: 28" + end + get, 1, 0, inBody, ""},
+	"a body of no length":      {put11 + "Content-Length: 0" + end + get, 2, 0, between, ""},
+	"empty lines":              {"\r\n\n" + get + "\r\n" + get, 2, 0, between, get + get},
+	"empty lines alone":        {"\r\n\r\n", 0, 0, between, "-"},
+	"a part of a request line": {get + "PUT", 1, 0, requestLine, ""},
+	"a part of a header":       {"GET / HTTP/1.1\r\nHo", 0, 0, headerLines, ""},
+	"no empty line":            {"GET / HTTP/1.1\r\nHost: x\r\n", 0, 0, headerLines, ""},
+	"chunked":                  {chunked, 1, 0, unfollowed, ""},
+	"after chunked":            {chunked + "0" + end + get, 1, 0, unfollowed, ""},
+	"both":                     {put11 + "Content-Length: 3\r\nTransfer-Encoding: chunked" + end, 1, 1, unfollowed, ""},
+	"both in other letters": {get + "PUT / HTTP/1.1\r\ntransfer-encoding: chunked\r\nCONTENT-LENGTH: 3" + end, 2, 2,
+		unfollowed, ""},
+	"the encoding in 1.0":      {"PUT / HTTP/1.0\r\nTransfer-Encoding: chunked" + end, 1, 1, unfollowed, ""},
+	"the encoding in 1.2":      {"PUT / HTTP/1.2\r\nTransfer-Encoding: chunked" + end, 1, 1, unfollowed, ""},
+	"the encoding in no known": {"PUT / HTTP/1.1 \r\nTransfer-Encoding: chunked" + end, 1, 1, unfollowed, ""},
+	"a length in 1.0":          {"PUT / HTTP/1.0\r\nContent-Length: 1" + end + "x" + get, 2, 0, between, ""},
+	"two lengths":              {put11 + "Content-Length: 3\r\nContent-Length: 3" + end, 1, 1, unfollowed, ""},
+	"an empty length":          {put11 + "Content-Length:" + end, 1, 1, unfollowed, ""},
+	"a signed length":          {put11 + "Content-Length: +3" + end, 1, 1, unfollowed, ""},
+	"a great length":           {put11 + "Content-Length: 9223372036854775808" + end, 1, 1, unfollowed, ""},
+	"a continued line":         {"GET / HTTP/1.1\r\nA: b\r\n c" + end, 1, 1, unfollowed, ""},
+	"a continued encoding":     {"GET / HTTP/1.1\r\nTransfer-Encoding:\r\n\tchunked" + end, 1, 1, unfollowed, ""},
+	"after a bad one":          {"GET / HTTP/1.1\r\nA: b\r\n c" + end + get + "\r\n", 1, 1, unfollowed, ""},
+	"names that only begin so": {"GET / HTTP/1.0\r\nTransfer-Encoding-X: a\r\nContent-Length-X: b" + end, 1, 0,
+		between, ""},
+	"OPTIONS *": {"OPTIONS * HTTP/1.1" + end, 1, 0, between, "OPTIONS / HTTP/1.1" + end},
+	"OPTIONS * second": {get + "\nOPTIONS * HTTP/1.1" + end, 2, 0, between,
+		get + "OPTIONS / HTTP/1.1" + end},
+	"OPTIONS of a path":     {"OPTIONS /* HTTP/1.1" + end, 1, 0, between, ""},
+	"a longer method":       {"XOPTIONS * HTTP/1.1" + end, 1, 0, between, ""},
+	"OPTIONS * in a header": {"GET / HTTP/1.1\r\nOPTIONS *: x" + end, 1, 0, between, ""},
+	"OPTIONS * in a body":   {put11 + "Content-Length: 9" + end + "OPTIONS *", 1, 0, between, ""},
+}
+
+func TestHeads(t *testing.T) {
+	for name, test := range headTests {
+		t.Run(name, func(t *testing.T) {
+			want := test.got
+			if want == "" {
+				want = test.stream
+			}
+			for _, size := range []int{1, 2, 3, 7, 4096} {
+				followed, got := readIn(test.stream, size)
+				if followed.ended != test.ended || followed.bad.Load() != test.bad || followed.place != test.place {
+					t.Errorf("in pieces of %d: %d heads, %d is bad, place %d", size, followed.ended,
+						followed.bad.Load(), followed.place)
+				}
+				if got != strings.Trim(want, "-") {
+					t.Errorf("in pieces of %d net/http gets %q", size, got)
+				}
+			}
+		})
+	}
+}
+
+// parts are what streams are made of at random, beside whole requests.
+var parts = []string{
+	"GET / HTTP/1.1\r\n", "PUT /a?b HTTP/1.1\r\n", "POST / HTTP/1.0\r\n", "PUT / HTTP/1.2\n", "OPTIONS * HTTP/1.1\r\n",
+	"GET /\r\n", "Host: x\r\n", "Content-Length: 5\r\n", "content-length:0\n", "Content-Length: 05 \r\n",
+	"Content-Length : 5\r\n", "Content-Length: 5\r\r\n", "Content-Length: 5, 5\r\n", "Content-Length:\r\n",
+	"Transfer-Encoding: chunked\r\n", "transfer-encoding: identity\r\n", " folded\r\n", "\tfolded\r\n",
+	"Content-Length\r\n", "X: Content-Length: 5\r\n", "Connection: keep-alive\r\n", "\r\n", "\n", "\r", "hello",
+	"5\r\nhello\r\n0\r\n\r\n", ":\r\n", "\x00", " ", "a",
+}
+
+var requests = []string{
+	"PUT / HTTP/1.1\r\nHost: x\r\nContent-Length: 5\r\n\r\nhello",
+	"POST /a HTTP/1.0\ncontent-length:\t05\nA:b\n\nhello",
+	"GET / HTTP/1.1\r\nHost: x\r\n\r\n",
+	"DELETE /?a HTTP/1.2\r\nHost: x\r\nX: y\r\n\r\n\r\n",
+}
+
+func randomStream(random *rand.Rand) string {
+	var stream strings.Builder
+	for length := random.Intn(8); length > 0; length-- {
+		if random.Intn(8) == 0 {
+			stream.WriteString(parts[random.Intn(len(parts))])
+		}
+		request := requests[random.Intn(len(requests))]
+		if random.Intn(8) == 0 {
+			at := random.Intn(len(request))
+			request = request[:at] + parts[random.Intn(len(parts))] + request[at:]
+		}
+		stream.WriteString(request)
+	}
+	return stream.String()
+}
+
+// ends returns what net/http gets of a stream, and where in that each head ends.
+func ends(stream string) (followed *heads, got string, ends []int) {
+	followed = &heads{}
+	for at := range []byte(stream) {
+		before, one := followed.ended, []byte{stream[at]}
+		got += string(one[:followed.read(one)])
+		if followed.ended > before {
+			ends = append(ends, len(got))
+		}
+	}
+	return followed, got, ends
+}
+
+// endsByNetHTTP returns where net/http sees the ends of heads, until it rejects one.
+func endsByNetHTTP(stream string) (ends []int) {
+	source := strings.NewReader(stream)
+	reader := bufio.NewReader(source)
+	for {
+		request, err := http.ReadRequest(reader)
+		if err != nil {
+			return ends
+		}
+		ends = append(ends, len(stream)-source.Len()-reader.Buffered())
+		if _, err := io.Copy(io.Discard, request.Body); err != nil {
+			return ends
+		}
+	}
+}
+
+// TestHeadsAreThoseOfNetHTTP compares the ends of heads with those that net/http sees, in random streams.
+func TestHeadsAreThoseOfNetHTTP(t *testing.T) {
+	random := rand.New(rand.NewSource(1))
+	compared := 0
+	for number := 0; number < 10000; number++ {
+		stream := randomStream(random)
+		followed, got, found := ends(stream)
+		want := endsByNetHTTP(got)
+		if followed.place == unfollowed && len(want) > len(found) {
+			want = want[:len(found)] // the server closes the connection there
+		}
+		if len(want) > len(found) {
+			t.Fatalf("%q: heads end at %v, net/http sees %v", got, found, want)
+		}
+		for at, end := range want {
+			if found[at] != end {
+				t.Fatalf("%q: heads end at %v, net/http sees %v", got, found, want)
+			}
+			compared++
+		}
+	}
+	if compared < 10000 {
+		t.Errorf("only %d heads were compared", compared)
+	}
+}

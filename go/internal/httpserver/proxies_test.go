@@ -1,0 +1,290 @@
+package httpserver
+
+import (
+	"crypto/tls"
+	"encoding/binary"
+	"fmt"
+	"io"
+	"net"
+	"net/http"
+	"net/netip"
+	"reflect"
+	"strings"
+	"testing"
+	"time"
+)
+
+// from connects to a listener from an address of this machine.
+func from(t *testing.T, address string, listener *Listener) client {
+	t.Helper()
+	dialer := net.Dialer{Timeout: limit, LocalAddr: &net.TCPAddr{IP: net.ParseIP(address)}}
+	connection, err := dialer.Dial("tcp", listener.Addr().String())
+	if err != nil {
+		t.Fatal(err)
+	}
+	return clientOf(t, connection)
+}
+
+// isClosed returns whether a connection is closed without an answer.
+func (c client) isClosed() bool {
+	_, err := c.Read(make([]byte, 1))
+	return err != nil && !isTimeout(err)
+}
+
+// Each address may have a quarter of the connections. A further one is closed at once, those of others are served, and
+// the operator learns of it once.
+func TestConnectionsOfAnAddress(t *testing.T) {
+	observer := &recorder{}
+	listener := start(t, Options{Connections: 8, Observer: observer}, Server{}, echo)
+	ask := func(c client) client {
+		c.send(whole)
+		c.until("GET /a ;")
+		return c
+	}
+	first, _ := ask(from(t, "127.0.0.1", listener)), ask(from(t, "127.0.0.1", listener))
+	for count := 0; count < 3; count++ {
+		if !from(t, "127.0.0.1", listener).isClosed() {
+			t.Fatal("the third connection of an address is open")
+		}
+	}
+	ask(from(t, "127.0.0.2", listener))
+	want := []string{"address_at_limit: 127.0.0.1/32 has 2 connections, and gets no further one"}
+	if got := observer.events(); !reflect.DeepEqual(got, want) {
+		t.Errorf("got the events %q, want %q", got, want)
+	}
+	first.Close()
+	waitUntil(t, "one more is served", func() bool {
+		next := from(t, "127.0.0.1", listener)
+		_, _ = io.WriteString(next, whole) // it may be closed already
+		return !next.isClosed()
+	})
+}
+
+func TestAddressesAreForgotten(t *testing.T) {
+	all, one := newAddresses(2), netip.MustParsePrefix("192.0.2.1/32")
+	for count, want := range []struct{ isTaken, isNews bool }{
+		{true, false}, {true, false}, {false, true}, {false, false},
+	} {
+		if isTaken, isNews := all.take(one); isTaken != want.isTaken || isNews != want.isNews {
+			t.Errorf("%d: got %v, %v, want %v", count, isTaken, isNews, want)
+		}
+	}
+	all.give(one)
+	all.give(one)
+	if len(all.of) != 0 {
+		t.Errorf("got %v, want nothing", all.of)
+	}
+}
+
+// whoAsks answers with the client of a request.
+func whoAsks(w http.ResponseWriter, r *http.Request) {
+	_, _ = io.WriteString(w, "of "+r.RemoteAddr+"!")
+}
+
+func trusting(t *testing.T, networks ...string) (trusted []netip.Prefix) {
+	t.Helper()
+	for _, it := range networks {
+		trusted = append(trusted, netip.MustParsePrefix(it))
+	}
+	return trusted
+}
+
+// version2 is a PROXY header of version 2, with this command and family, for these bytes.
+func version2(command, family byte, rest string) string {
+	head := "\r\n\r\n\x00\r\nQUIT\n" + string([]byte{command, family, 0, 0})
+	length := []byte(head)
+	binary.BigEndian.PutUint16(length[14:], uint16(len(rest)))
+	return string(length) + rest
+}
+
+const (
+	ports   = "\x1f\x90\x00\x50"
+	client4 = "\xc6\x33\x64\x07" // 198.51.100.7
+	client6 = "\x20\x01\x0d\xb8\x00\x00\x00\x00\x00\x00\x00\x00\x00\x00\x00\x07"
+)
+
+// A trusted proxy names its client, and nobody else does.
+func TestWhoseRequestItIs(t *testing.T) {
+	const (
+		line = "PROXY TCP4 198.51.100.7 192.0.2.1 8080 80\r\n"
+		tlv  = "\x04\x00\x03abc"
+		own  = "127.0.0.1:"
+	)
+	for name, test := range map[string]struct {
+		trusted, proxy, forwarded, want string
+	}{
+		"version 1":               {"127.0.0.1/32", line, "", "198.51.100.7:8080"},
+		"version 1 of IPv6":       {"127.0.0.1/32", "PROXY TCP6 2001:db8::7 ::1 8080 80\r\n", "", "[2001:db8::7]:8080"},
+		"version 2":               {"127.0.0.0/8", version2(0x21, 0x11, client4+client4+ports), "", "198.51.100.7:8080"},
+		"version 2 of IPv6":       {"127.0.0.1/32", version2(0x21, 0x21, client6+client6+ports), "", "[2001:db8::7]:8080"},
+		"more than the addresses": {"127.0.0.1/32", version2(0x21, 0x11, client4+client4+ports+tlv), "", "198.51.100.7:8080"},
+		"the proxy itself":        {"127.0.0.1/32", version2(0x20, 0x00, ""), "198.51.100.9", own},
+		"unknown":                 {"127.0.0.1/32", "PROXY UNKNOWN\r\n", "198.51.100.9", own},
+		"no header":               {"127.0.0.1/32", "", "198.51.100.9", "198.51.100.9:0"},
+		"the right-most":          {"127.0.0.1/32", "", "1.1.1.1, 198.51.100.9", "198.51.100.9:0"},
+		"with a port":             {"127.0.0.1/32", "", "1.1.1.1,198.51.100.9:77", "198.51.100.9:0"},
+		"of IPv6":                 {"127.0.0.1/32", "", "2001:db8::9", "[2001:db8::9]:0"},
+		"of IPv6 with a port":     {"127.0.0.1/32", "", "[2001:db8::9]:1", "[2001:db8::9]:0"},
+		"mapped":                  {"127.0.0.1/32", "", "::ffff:198.51.100.9", "198.51.100.9:0"},
+		"two lines":               {"127.0.0.1/32", "", "1.1.1.1\r\nX-Forwarded-For: 198.51.100.9", "198.51.100.9:0"},
+		"two proxies":             {"127.0.0.1/32 10.0.0.0/8", "", "1.1.1.1, 198.51.100.9, 10.1.2.3", "198.51.100.9:0"},
+		"only proxies":            {"127.0.0.1/32 10.0.0.0/8", "", "10.1.2.3", own},
+		"no address":              {"127.0.0.1/32", "", "198.51.100.9, unknown", own},
+		"an empty one":            {"127.0.0.1/32", "", "198.51.100.9, ", own},
+		"neither":                 {"127.0.0.1/32", "", "", own},
+		"both":                    {"127.0.0.1/32", line, "1.1.1.1", "198.51.100.7:8080"},
+		"a proxy before it":       {"127.0.0.1/32 198.51.100.7/32", line, "1.1.1.1, 2.2.2.2", "2.2.2.2:0"},
+		"an untrusted header":     {"192.0.2.0/24", "", "198.51.100.9", own},
+	} {
+		test := test
+		t.Run(name, func(t *testing.T) {
+			trusted := trusting(t, strings.Fields(test.trusted)...)
+			client := dial(t, start(t, Options{TrustedProxies: trusted}, Server{}, whoAsks))
+			head := "GET / HTTP/1.1\r\nHost: x\r\n"
+			if test.forwarded != "" {
+				head += "X-Forwarded-For: " + test.forwarded + "\r\n"
+			}
+			client.send(test.proxy + head + "\r\n")
+			got := client.until("!")
+			if !strings.Contains(got, "of "+test.want) || test.want != own && !strings.HasSuffix(got, test.want+"!") {
+				t.Errorf("got %q, want %q", got, test.want)
+			}
+		})
+	}
+}
+
+// A PROXY header that can't be read, or that comes from elsewhere, is a bad request. No handler gets it.
+func TestBadPROXYHeaders(t *testing.T) {
+	good := "PROXY TCP4 198.51.100.7 192.0.2.1 8080 80\r\n"
+	for name, test := range map[string]struct{ trusted, sent string }{
+		"version 1 from elsewhere": {"192.0.2.0/24", good + whole},
+		"version 2 from elsewhere": {"192.0.2.0/24", version2(0x21, 0x11, client4+client4+ports) + whole},
+		"two headers":              {"127.0.0.1/32", good + good + whole},
+		"no address":               {"127.0.0.1/32", "PROXY TCP4 198.51.100.700 192.0.2.1 8080 80\r\n" + whole},
+		"no address of IPv6":       {"127.0.0.1/32", "PROXY TCP6 z z 8080 80\r\n" + whole},
+		"a long line":              {"127.0.0.1/32", "PROXY " + strings.Repeat("a", 200) + "\r\n" + whole},
+		"a datagram":               {"127.0.0.1/32", version2(0x21, 0x12, client4+client4+ports) + whole},
+		"a file":                   {"127.0.0.1/32", version2(0x21, 0x31, strings.Repeat("a", 216)) + whole},
+		"too short":                {"127.0.0.1/32", version2(0x21, 0x11, client4) + whole},
+	} {
+		test := test
+		t.Run(name, func(t *testing.T) {
+			observer := &recorder{}
+			listener := start(t, Options{TrustedProxies: trusting(t, test.trusted), Observer: observer}, Server{}, echo)
+			client := dial(t, listener)
+			client.send(test.sent)
+			if got := statusesIn(client.rest()); !reflect.DeepEqual(got, []string{"400"}) {
+				t.Errorf("got the answers %v, want 400", got)
+			}
+			if got := observer.answered(t, 1); len(got) != 1 || got[0].Status != 400 {
+				t.Errorf("the observer got %v, want 400", got)
+			}
+		})
+	}
+}
+
+// The clients that a proxy names by PROXY headers have connections of their own, and the proxy has any number.
+func TestConnectionsThroughAProxy(t *testing.T) {
+	listener := start(t, Options{
+		Connections: 12, PerAddress: 2, TrustedProxies: trusting(t, "127.0.0.1/32"),
+	}, Server{}, whoAsks)
+	open := func(address string) client {
+		c := dial(t, listener)
+		c.send("PROXY TCP4 " + address + " 192.0.2.1 8080 80\r\n" + whole)
+		return c
+	}
+	for _, address := range []string{"198.51.100.1", "198.51.100.1", "198.51.100.2", "198.51.100.2"} {
+		open(address).until(address + ":8080!")
+	}
+	if !open("198.51.100.1").isClosed() {
+		t.Error("the third connection of a client is open")
+	}
+	open("198.51.100.3").until("198.51.100.3:8080!")
+	for count := 0; count < 3; count++ { // the proxy's own
+		c := dial(t, listener)
+		c.send(whole)
+		c.until("!")
+	}
+}
+
+// The requests of a client that X-Forwarded-For names are limited, on whichever connections of the proxy they come.
+// Those of others are served, and no connection is closed.
+func TestRequestsThroughAProxy(t *testing.T) {
+	pause, observer := newPause(), &recorder{}
+	listener := start(t, Options{
+		Connections: 12, PerAddress: 2, TrustedProxies: trusting(t, "127.0.0.1/32"), Observer: observer,
+	}, Server{}, pause.ServeHTTP)
+	send := func(c client, address string) {
+		c.send(whole[:len(whole)-2] + "X-Forwarded-For: " + address + "\r\n\r\n")
+	}
+	first, second, third := dial(t, listener), dial(t, listener), dial(t, listener)
+	send(first, "198.51.100.1")
+	send(second, "198.51.100.1")
+	<-pause.begun
+	<-pause.begun
+	send(third, "198.51.100.1")
+	got := third.until("was done.\n")
+	if !strings.HasPrefix(got, "HTTP/1.1 503 ") || !strings.Contains(got, "\r\nRetry-After: 5\r\n") ||
+		strings.Contains(got, "json") {
+		t.Errorf("got %q, want 503", got)
+	}
+	send(third, "198.51.100.2")
+	<-pause.begun
+	for count := 0; count < 3; count++ {
+		pause.pass <- struct{}{}
+	}
+	for _, it := range []client{first, second, third} {
+		it.until("GET /a ;")
+	}
+	waitUntil(t, "all requests have ended", func() bool { return len(listener.addresses.counts()) == 0 })
+	if exchange := observer.exchanges[0]; exchange.Status != 503 || exchange.Address != "198.51.100.1" {
+		t.Errorf("the observer got %+v", exchange)
+	}
+}
+
+// counts returns what each address has.
+func (a *addresses) counts() map[string]int {
+	a.mutex.Lock()
+	defer a.mutex.Unlock()
+	counts := map[string]int{}
+	for address, it := range a.of {
+		counts[address.String()] = it.count
+	}
+	return counts
+}
+
+// With TLS the PROXY header comes before the handshake.
+func TestPROXYHeaderBeforeTLS(t *testing.T) {
+	authority := newAuthority(t)
+	certificates, err := LoadCertificates(authority.issue("server"))
+	if err != nil {
+		t.Fatal(err)
+	}
+	listener := start(t, Options{
+		Certificates: certificates, TrustedProxies: trusting(t, "127.0.0.1/32"),
+	}, Server{}, whoAsks)
+	plain := dial(t, listener)
+	plain.send("PROXY TCP4 198.51.100.7 192.0.2.1 8080 80\r\n")
+	secure := clientOf(t, tls.Client(plain.Conn, authority.client(CertificateFiles{})))
+	secure.send(whole)
+	secure.until("198.51.100.7:8080!")
+}
+
+// A connection that is refused or closed leaves nothing that is counted, also if a proxy sends half a header.
+func TestNothingStaysCounted(t *testing.T) {
+	listener := start(t, Options{
+		Silent: 50 * time.Millisecond, TrustedProxies: trusting(t, "127.0.0.1/32"),
+	}, Server{}, echo)
+	for count := 0; count < 10; count++ {
+		c := dial(t, listener)
+		c.send([]string{"PRO", "\r\n\r\n", "PROXY TCP4 198.51.100.7 192.0.2.1 8080 80\r\n", ""}[count%4])
+		if !c.isClosed() {
+			t.Errorf("%d is open", count)
+		}
+		other := from(t, fmt.Sprintf("127.0.0.%d", count+2), listener)
+		other.Close()
+	}
+	waitUntil(t, "nothing is counted", func() bool {
+		return len(listener.addresses.counts()) == 0 && listener.Connections() == 1
+	})
+}

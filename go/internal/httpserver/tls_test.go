@@ -1,0 +1,220 @@
+package httpserver
+
+import (
+	"crypto/tls"
+	"fmt"
+	"net/http"
+	"os"
+	"reflect"
+	"strings"
+	"testing"
+	"time"
+)
+
+// startTLS serves echo with these files.
+func startTLS(t *testing.T, files CertificateFiles, options Options, server Server) (*Listener, *Certificates) {
+	t.Helper()
+	certificates, err := LoadCertificates(files)
+	if err != nil {
+		t.Fatal(err)
+	}
+	options.Certificates = certificates
+	return start(t, options, server, func(w http.ResponseWriter, r *http.Request) {
+		if r.TLS == nil {
+			t.Error("the request has no state of TLS")
+		} else if len(r.TLS.PeerCertificates) > 0 {
+			w.Header().Set("Client", r.TLS.PeerCertificates[0].Subject.CommonName)
+		}
+		echo(w, r)
+	}), certificates
+}
+
+// dialTLS returns a client after the handshake, and what the server showed.
+func dialTLS(t *testing.T, listener *Listener, config *tls.Config) (client, tls.ConnectionState) {
+	t.Helper()
+	secure := tls.Client(dial(t, listener).Conn, config)
+	if err := secure.Handshake(); err != nil {
+		t.Fatal(err)
+	}
+	return clientOf(t, secure), secure.ConnectionState()
+}
+
+func TestTLS(t *testing.T) {
+	authority := newAuthority(t)
+	listener, certificates := startTLS(t, authority.issue("server"), Options{}, Server{})
+	if !strings.HasPrefix(listener.URL(), "https://127.0.0.1:") {
+		t.Errorf("the URL is %s", listener.URL())
+	}
+	if left := time.Until(certificates.Expires()); left < 50*time.Second || left > time.Minute {
+		t.Errorf("the certificate expires in %v", left)
+	}
+	for _, version := range []uint16{tls.VersionTLS12, tls.VersionTLS13} {
+		config := authority.client(CertificateFiles{})
+		config.MinVersion, config.MaxVersion = version, version
+		client, state := dialTLS(t, listener, config)
+		if state.Version != version {
+			t.Errorf("version %x, want %x", state.Version, version)
+		}
+		client.send(whole)
+		client.until("GET /a ;")
+		client.send("PUT /b HTTP/1.1\r\nHost: x\r\nContent-Length: 3\r\n\r\nabc")
+		client.until("PUT /b abc;")
+	}
+}
+
+func TestTLSIsBoundedAsHTTPIs(t *testing.T) {
+	authority := newAuthority(t)
+	observer := &recorder{}
+	options := Options{Silent: short, Observer: observer}
+	listener, _ := startTLS(t, authority.issue("server"), options, Server{Request: 2 * short})
+	for _, test := range []struct{ sent, want string }{
+		{"GET /a HT", rejection408},
+		{"", ""},
+		{"\r\n", ""},
+		{"PUT / HTTP/1.1\r\nHost: x\r\nContent-Length: 1\r\nTransfer-Encoding: chunked\r\n\r\n", "HTTP/1.1 400 "},
+		{"GET\r\n\r\n", "HTTP/1.1 400 "},
+	} {
+		client, _ := dialTLS(t, listener, authority.client(CertificateFiles{}))
+		client.send(test.sent)
+		if got := client.rest(); !strings.HasPrefix(got, test.want) || test.want == "" && got != "" {
+			t.Errorf("%q is answered with %q", test.sent, got)
+		}
+	}
+	if got := observer.rejected(t, 3); !reflect.DeepEqual(got, []int{408, 400, 400}) {
+		t.Errorf("the observer is told of %v", got)
+	}
+}
+
+func TestClientsThatCantShakeHands(t *testing.T) {
+	authority := newAuthority(t)
+	old := authority.client(CertificateFiles{})
+	old.MinVersion, old.MaxVersion = tls.VersionTLS10, tls.VersionTLS11
+	distrustful := newAuthority(t).client(CertificateFiles{})
+	weak := authority.client(CertificateFiles{})
+	weak.MaxVersion = tls.VersionTLS12
+	weak.CipherSuites = []uint16{ // which Go's server takes by default
+		tls.TLS_ECDHE_ECDSA_WITH_AES_128_CBC_SHA, tls.TLS_ECDHE_RSA_WITH_AES_128_CBC_SHA, tls.TLS_RSA_WITH_AES_128_GCM_SHA256,
+	}
+	for name, test := range map[string]struct {
+		config *tls.Config
+		event  string
+	}{
+		"TLS 1.1":                        {old, "unsupported versions"},
+		"CBC, and no forward secrecy":    {weak, "no cipher suite"},
+		"a client that doesn't trust us": {distrustful, "bad certificate"},
+	} {
+		t.Run(name, func(t *testing.T) {
+			observer := &recorder{}
+			listener, _ := startTLS(t, authority.issue("server"), Options{Observer: observer}, Server{})
+			if err := tls.Client(dial(t, listener).Conn, test.config).Handshake(); err == nil {
+				t.Fatal("the handshake succeeds")
+			}
+			waitUntil(t, "an event", func() bool { return len(observer.events()) > 0 })
+			if got := observer.events()[0]; !strings.HasPrefix(got, "tls_handshake_failed: client 127.0.0.1: ") ||
+				!strings.Contains(got, test.event) {
+				t.Errorf("the observer is told of %q", got)
+			}
+		})
+	}
+}
+
+func TestHTTPAtAPortOfTLS(t *testing.T) {
+	observer := &recorder{}
+	listener, _ := startTLS(t, newAuthority(t).issue("server"), Options{Observer: observer}, Server{})
+	client := dial(t, listener)
+	client.send(whole)
+	if got := client.rest(); got != plainAnswer {
+		t.Errorf("it is answered with %q", got)
+	}
+	waitUntil(t, "an event", func() bool { return len(observer.events()) > 0 })
+	if got := observer.events(); len(got) != 1 || !strings.HasSuffix(got[0], "the client sent HTTP") {
+		t.Errorf("the observer is told of %q", got)
+	}
+}
+
+func TestAProbeOfThePortIsNoFailure(t *testing.T) {
+	observer := &recorder{}
+	listener, _ := startTLS(t, newAuthority(t).issue("server"), Options{Silent: short, Observer: observer}, Server{})
+	dial(t, listener).Close()
+	if got := dial(t, listener).rest(); got != "" {
+		t.Errorf("a silent client gets %q", got)
+	}
+	waitUntil(t, "both are closed", func() bool { return listener.Connections() == 1 })
+	if got := observer.events(); got != nil {
+		t.Errorf("the observer is told of %q", got)
+	}
+}
+
+func TestClientCertificates(t *testing.T) {
+	authority := newAuthority(t)
+	files := authority.issue("server")
+	files.ClientCA = authority.path("authority.pem")
+	listener, _ := startTLS(t, files, Options{}, Server{})
+	client, _ := dialTLS(t, listener, authority.client(authority.issue("cloudfoundry")))
+	client.send(whole)
+	if got := client.until("GET /a ;"); !strings.Contains(got, "\r\nClient: cloudfoundry\r\n") {
+		t.Errorf("the answer is %q", got)
+	}
+	others := map[string]CertificateFiles{"none": {}, "of another authority": newAuthority(t).issue("other")}
+	for name, own := range others {
+		t.Run(name, func(t *testing.T) {
+			config := authority.client(own)
+			config.MaxVersion = tls.VersionTLS12 // in which the client hears of it during the handshake
+			if err := tls.Client(dial(t, listener).Conn, config).Handshake(); err == nil {
+				t.Error("the handshake succeeds")
+			}
+		})
+	}
+}
+
+func TestReload(t *testing.T) {
+	authority := newAuthority(t)
+	files := authority.issue("server")
+	listener, certificates := startTLS(t, files, Options{}, Server{})
+	shown := func() string {
+		_, state := dialTLS(t, listener, authority.client(CertificateFiles{}))
+		return state.PeerCertificates[0].SerialNumber.String() + state.PeerCertificates[0].NotBefore.String() +
+			fmt.Sprintf("%x", state.PeerCertificates[0].Signature)
+	}
+	first := shown()
+	authority.issue("server") // in the same files
+	if got := shown(); got != first {
+		t.Error("another certificate is shown before it is read")
+	}
+	if err := certificates.Reload(); err != nil {
+		t.Fatal(err)
+	}
+	second := shown()
+	if second == first {
+		t.Error("the same certificate is shown after it was read")
+	}
+	if err := os.WriteFile(files.Key, []byte("no key"), 0o600); err != nil {
+		t.Fatal(err)
+	}
+	if err := certificates.Reload(); err == nil || !strings.Contains(err.Error(), files.Key) {
+		t.Errorf("a key that is none gives %v", err)
+	}
+	if got := shown(); got != second {
+		t.Error("another certificate is shown after the broken key")
+	}
+}
+
+func TestCertificatesThatCantBeUsed(t *testing.T) {
+	authority := newAuthority(t)
+	files, other := authority.issue("server"), authority.issue("other")
+	none := authority.path("none")
+	for name, files := range map[string]CertificateFiles{
+		"nothing":                    {},
+		"no key":                     {Certificate: files.Certificate},
+		"no certificate":             {Key: files.Key, ClientCA: files.Certificate},
+		"a file that is missing":     {Certificate: none, Key: files.Key},
+		"the key of another":         {Certificate: files.Certificate, Key: other.Key},
+		"a certificate that is none": {Certificate: files.Key, Key: files.Key},
+		"no authority":               {Certificate: files.Certificate, Key: files.Key, ClientCA: none},
+		"an authority that is none":  {Certificate: files.Certificate, Key: files.Key, ClientCA: files.Key},
+	} {
+		if _, err := LoadCertificates(files); err == nil {
+			t.Errorf("%s: no error", name)
+		}
+	}
+}

@@ -1,0 +1,207 @@
+package main
+
+import (
+	"bytes"
+	"context"
+	"os"
+	"path/filepath"
+	"strings"
+	"testing"
+)
+
+const toy = "pippinterm/internal/mutants/testdata/toy"
+
+// loadToy returns the package testdata/toy.
+func loadToy(t *testing.T) *pkg {
+	t.Helper()
+	packages, err := load(context.Background(), tags, toy)
+	if err != nil || len(packages) != 1 {
+		t.Fatalf("got %d packages, %v, want one", len(packages), err)
+	}
+	return packages[0]
+}
+
+// changed returns the line of a mutant with its change, without the blanks before it.
+func changed(p *pkg, m mutant) string {
+	_, after, _ := strings.Cut(m.diff(p.sources[0].text), "    + ")
+	lines := strings.Split(strings.TrimSpace(after), "\n")
+	for i := range lines {
+		lines[i] = strings.TrimSpace(strings.TrimPrefix(strings.TrimSpace(lines[i]), "+"))
+	}
+	return strings.Join(lines, " ")
+}
+
+func TestKinds(t *testing.T) {
+	p := loadToy(t)
+	found := make(map[string]bool)
+	for _, it := range find(p) {
+		found[it.Function+": "+it.Kind+": "+changed(p, it)] = true
+	}
+	for _, want := range []string{
+		"Odd: condition negated: if !(number%2 == 0) {",
+		"Odd: condition always true: if ((number%2 == 0) || true) {",
+		"Odd: condition always false: if ((number%2 == 0) && false) {",
+		"Odd: comparison changed: if number%2 != 0 {",
+		"Odd: nil for an error: return nil",
+		"Wait: and for or: if isFirst || wait > 0 {",
+		"Wait: comparison changed: if isFirst && wait >= 0 {",
+		"Wait: duration times 1000: wait := (1000 * (time.Second))",
+		"Wait: constant changed: if isFirst && wait > 1 {",
+		"Sum: statement dropped: ",
+		"Sum: statements swapped: last = it sum += last",
+		"Sum: another variable: if last >= limit {",
+		"Sum: constant changed: last := 1",
+		"Name: case dropped: ",
+		`Name: constant changed: return ""`,
+		`Name: constant changed: return "x"`,
+		"IsSmall: result negated: func IsSmall(number int) bool { return !(number < 10 == true) }",
+		"IsSmall: constant changed: func IsSmall(number int) bool { return number < 10 == false }",
+	} {
+		if !found[want] {
+			t.Errorf("got no mutant %q", want)
+		}
+	}
+}
+
+// TestDraw: the same seed and count give the same mutants, which all compile, and another seed gives others.
+func TestDraw(t *testing.T) {
+	var texts []string
+	for _, seed := range []int64{1, 1, 2} {
+		p := loadToy(t)
+		drawn, err := draw([]*pkg{p}, seed, 20)
+		if err != nil || len(drawn) != 20 {
+			t.Fatalf("got %d mutants, %v, want 20", len(drawn), err)
+		}
+		if good, bad, err := compiling(p, drawn); err != nil || len(good) != 20 {
+			t.Errorf("got %v, %v, want each to compile", bad, err)
+		}
+		var text strings.Builder
+		for _, it := range drawn {
+			text.WriteString(it.String() + it.diff(p.sources[0].text))
+		}
+		texts = append(texts, text.String())
+	}
+	if texts[0] != texts[1] || texts[0] == texts[2] {
+		t.Errorf("got %q, %q and %q, want the first two the same", texts[0], texts[1], texts[2])
+	}
+}
+
+// TestMutantsThatDoNotCompile: each is left out, and no other one.
+func TestMutantsThatDoNotCompile(t *testing.T) {
+	p := loadToy(t)
+	var mutants []mutant
+	for _, it := range find(p) {
+		if it.Function == "Odd" && it.Kind == dropped || it.Kind == negated {
+			it.ID = len(mutants) + 1
+			mutants = append(mutants, it)
+		}
+	}
+	good, bad, err := compiling(p, mutants)
+	if err != nil || len(bad) != 1 || len(good) != len(mutants)-1 {
+		t.Errorf("got %v, %v, want one of %d that doesn't compile", bad, err, len(mutants))
+	}
+	for id := range bad {
+		if got := changed(p, mutants[id-1]); got != "" {
+			t.Errorf("got %q, want the one without its last return", got)
+		}
+	}
+}
+
+// TestDrawing: a whole run prints which mutants survive, and the same run again knows all of it.
+func TestDrawing(t *testing.T) {
+	folder := t.TempDir()
+	var out bytes.Buffer
+	words := []string{"draw", "-folder", folder, "-count", "1000", "-workers", "4", toy}
+	if err := command(context.Background(), words, &out); err != nil {
+		t.Fatal(err)
+	}
+	_, survivors, _ := strings.Cut(out.String(), "\n\n")
+	for _, want := range []string{
+		"survived: go/internal/mutants/testdata/toy/toy.go:21: Wait: duration times 1000\n    - \twait := time.Second\n" +
+			"    + \twait := (1000 * (time.Second))\n",
+		"unreached: go/internal/mutants/testdata/toy/toy.go:53: IsSmall: result negated\n",
+	} {
+		if !strings.Contains(survivors, want) {
+			t.Errorf("got %s, want %q", survivors, want)
+		}
+	}
+	for _, other := range []string{"Name: constant", "Odd: condition", "Sum: statements swapped"} {
+		if strings.Contains(survivors, other) {
+			t.Errorf("got %s, want no %q: its tests fail", survivors, other)
+		}
+	}
+	var again bytes.Buffer
+	if err := command(context.Background(), words, &again); err != nil {
+		t.Fatal(err)
+	}
+	if !strings.Contains(again.String(), "\n0 tests are run") || !strings.HasSuffix(again.String(), survivors) {
+		t.Errorf("got %s, want no test to be run, and %s", again.String(), survivors)
+	}
+}
+
+// TestHang: a mutant with which a test doesn't end counts as killed.
+func TestHang(t *testing.T) {
+	t.Setenv("TOY_HANGS", "1")
+	p := loadToy(t)
+	var mutants []mutant
+	for _, it := range find(p) {
+		if it.Function == "Name" && it.New == `"x"` {
+			it.ID = 1
+			mutants = append(mutants, it)
+		}
+	}
+	binaries, err := build(context.Background(), t.TempDir(), tags, []*pkg{p}, mutants)
+	if err != nil {
+		t.Fatal(err)
+	}
+	w := &worker{}
+	o, err := w.do(context.Background(), run{binary: binaries[p.path], test: "TestHangs", mutant: 1, most: 1})
+	if err != nil || o.ending != hung {
+		t.Errorf("got %v, %v, want it to hang", o.ending, err)
+	}
+}
+
+// write writes an edit, and returns its path.
+func write(t *testing.T, lines ...string) string {
+	t.Helper()
+	path := filepath.Join(t.TempDir(), "slip.edit")
+	if err := os.WriteFile(path, []byte(strings.Join(lines, "\n")+"\n"), 0o666); err != nil {
+		t.Fatal(err)
+	}
+	return path
+}
+
+func TestEdits(t *testing.T) {
+	head := []string{"# The sum has the last one, too.", "file: internal/mutants/testdata/toy/toy.go", "function: Sum"}
+	test, others := "test: internal/mutants/testdata/toy TestSum", "test: internal/mutants/testdata/toy TestName"
+	swap := []string{"old: sum += last", "\t\tlast = it", "new: last = it", "\t\tsum += last"}
+	for name, it := range map[string]struct {
+		lines []string
+		want  string // in the error, or in what is printed
+	}{
+		"noticed":       {append(append([]string{test}, head...), swap...), "1 mutants, each noticed\n"},
+		"not noticed":   {append(append([]string{test + "s"}, head...), swap...), "TestSums skipped without a mutant"},
+		"another test":  {append(append([]string{others}, head...), swap...), "passed with it"},
+		"not there":     {append(append([]string{test}, head...), "old: sum += it", "new: "), "the old text 0 times"},
+		"more than one": {append(append([]string{test}, head...), "old: last", "new: it"), "the old text 3 times"},
+		"no function": {
+			append(append([]string{test}, head[0], head[1], "function: Sums"), swap...), "has no function Sums",
+		},
+		"does not compile": {append(append([]string{test}, head...), "old: sum += last", "new: sum += 'x"), "isn't Go"},
+		"another type":     {append(append([]string{test}, head...), "old: sum += last", "new: sum += test"), "doesn't compile"},
+		"no test":          {append(append([]string{}, head...), swap...), "it needs a file"},
+		"another line":     {append(append([]string{test, "tests: none"}, head...), swap...), "what is the line"},
+	} {
+		t.Run(name, func(t *testing.T) {
+			var out bytes.Buffer
+			err := command(context.Background(), []string{"check", "-folder", t.TempDir(), write(t, it.lines...)}, &out)
+			got := out.String()
+			if err != nil {
+				got += err.Error()
+			}
+			if !strings.Contains(got, it.want) || (err == nil) != (name == "noticed") {
+				t.Errorf("got %q, want %q", got, it.want)
+			}
+		})
+	}
+}

@@ -1,0 +1,128 @@
+package conform_test
+
+import (
+	"context"
+	"net/http/httptest"
+	"path/filepath"
+	"testing"
+	"time"
+
+	"pippinterm/broker"
+	"pippinterm/broker/backend/folders"
+	"pippinterm/broker/sqlite"
+	"pippinterm/storm/conform"
+)
+
+// plans has a plan for each mode of instances and of bindings.
+const plans = `{"services": [{
+	"id": "00000000-0000-0000-0000-0000000000a0", "name": "folder", "description": "A folder", "bindable": true,
+	"bindings_retrievable": true, "plans": [
+	{"id": "00000000-0000-0000-0000-0000000000c1", "name": "now", "description": "all at once"},
+	{"id": "00000000-0000-0000-0000-0000000000c2", "name": "later", "description": "all later",
+		"x-osb-asynchronous": true, "x-osb-asynchronous-bindings": true},
+	{"id": "00000000-0000-0000-0000-0000000000c3", "name": "bind-later", "description": "bindings later",
+		"x-osb-asynchronous-bindings": true},
+	{"id": "00000000-0000-0000-0000-0000000000c4", "name": "make-later", "description": "instances later",
+		"x-osb-asynchronous": true}]}]}`
+
+// brokerAt returns the URL of this project's broker over SQLite, which sells folders.
+func brokerAt(t *testing.T, rules broker.Rules) string {
+	t.Helper()
+	ctx, top, silent := context.Background(), t.TempDir(), broker.Silent{}
+	store, err := sqlite.Open(ctx, filepath.Join(top, "store"), silent)
+	if err != nil {
+		t.Fatal(err)
+	}
+	t.Cleanup(func() { _ = store.Close() })
+	backend, err := folders.New(filepath.Join(top, "folders"))
+	if err != nil {
+		t.Fatal(err)
+	}
+	catalogue, err := broker.NewCatalogue([]byte(plans), true)
+	if err != nil {
+		t.Fatal(err)
+	}
+	t.Cleanup(func() { expectNothing(t, filepath.Join(top, "folders")) })
+	return served(t, broker.NewService(catalogue, store, backend, backend.Locks(), rules, silent))
+}
+
+// served serves over HTTP, with a sweeper that runs.
+func served(t *testing.T, service *broker.Service) string {
+	t.Helper()
+	ctx, silent := context.Background(), broker.Silent{}
+	sweeper := broker.NewSweeper(service, silent)
+	stop, cancel := context.WithCancel(ctx)
+	swept := make(chan struct{})
+	go func() {
+		defer close(swept)
+		sweeper.Run(ctx, stop, 2, 10*time.Millisecond)
+	}()
+	t.Cleanup(func() { cancel(); <-swept })
+	users, err := broker.NewUsers(map[string][]string{"u": {"p"}})
+	if err != nil {
+		t.Fatal(err)
+	}
+	handler, err := broker.NewHandler(ctx, service, broker.Config{
+		Users: users, LongestBody: 1 << 20, AtOnce: 8, Touch: sweeper.Touch, Observer: silent,
+	})
+	if err != nil {
+		t.Fatal(err)
+	}
+	server := httptest.NewServer(handler)
+	t.Cleanup(server.Close)
+	return server.URL
+}
+
+// expectNothing expects that no folder that was sold is left, and no credentials.
+func expectNothing(t *testing.T, top string) {
+	t.Helper()
+	for _, pattern := range []string{"*", ".bindings/*"} {
+		names, err := filepath.Glob(filepath.Join(top, pattern))
+		if err != nil {
+			t.Fatal(err)
+		}
+		for _, name := range names {
+			if base := filepath.Base(name); pattern != "*" || base[0] != '.' {
+				t.Errorf("%s is left", name)
+			}
+		}
+	}
+}
+
+// This project's broker fails only the cases that docs/DECISIONS.md has a reason for (docs/storm.md lists them).
+func TestOurBroker(t *testing.T) {
+	const bind, again = "async-bind-during-provision", "provision-again-after-deletion"
+	for _, firstPoll := range []bool{false, true} {
+		rules := broker.Rules{FirstPoll: firstPoll, WaitForPoll: time.Hour}
+		url := brokerAt(t, rules)
+		for _, plan := range []string{"now", "later", "bind-later", "make-later"} {
+			r, err := conform.New(conform.Config{
+				URL: url, User: "u", Password: "p", Service: "folder", Plan: plan, Instances: 50,
+				RequestTime: 20 * time.Second, OperationTime: 20 * time.Second, Pause: 5 * time.Millisecond,
+			})
+			if err != nil {
+				t.Fatal(err)
+			}
+			report, err := r.Run(context.Background())
+			if err != nil {
+				t.Fatal(err)
+			}
+			// Without the rule of the first Poll, an instance may exist before the Bind comes.
+			isAsync := plan == "later" || plan == "make-later"
+			for _, it := range report.Results {
+				wanted := it.Name == again || it.Name == bind && isAsync
+				if failed := it.Verdict == conform.Fail; failed && !wanted || wanted && firstPoll && !failed {
+					t.Errorf("%s, first Poll %v: %+v", plan, firstPoll, it)
+				}
+			}
+			if passed := report.Count(conform.Must, conform.Pass); passed < 50 {
+				t.Errorf("%s: only %d MUSTs passed", plan, passed)
+			}
+			within, cancel := context.WithTimeout(context.Background(), time.Minute)
+			if left := r.CleanUp(within); len(left) > 0 {
+				t.Errorf("%s: %v are left", plan, left)
+			}
+			cancel()
+		}
+	}
+}

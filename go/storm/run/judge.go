@@ -1,0 +1,264 @@
+package run
+
+import (
+	"math"
+	"net/http"
+	"net/url"
+	"sort"
+	"strings"
+	"time"
+
+	"pippinterm/storm/conform"
+	"pippinterm/storm/fault"
+	"pippinterm/storm/report"
+)
+
+// judge returns the first answer that breaks each rule, with the numbers of all requests whose answers break it, in the
+// order in which they came. differences are what was found
+// in the end.
+//
+// A 410 to a deletion breaks a rule only if the thing exists in the end. Else the broker may have carried out this very
+// deletion before it answered: another of its workers has taken it up, and the request has found nothing any more.
+func judge(exchanges []fault.Exchange, differences []Difference, hide report.Hider) []Broken {
+	var found report.Breaches
+	lost := map[Key]bool{}
+	for _, it := range differences {
+		lost[it.Key] = lost[it.Key] || it.Kind == Lost
+	}
+	for _, it := range deliveriesOf(exchanges) {
+		it.Hide = hide
+		for _, failed := range it.judge(lost[it.key]) {
+			found.Add(failed, it.number.String(), "")
+		}
+	}
+	return found.All()
+}
+
+// A sent is a delivery, with what was known before of the instance or the binding.
+type sent struct {
+	conform.Seen
+	number       fault.Number
+	key          Key
+	begun, ended time.Duration
+	isAnswered   bool
+	before       known
+	first        conform.Seen // the creation that is in progress, if before is creating
+}
+
+// A known is what the answers have shown of an instance or a binding. Whatever isn't certain is unknown.
+type known int
+
+const (
+	unknown  known = iota
+	fresh          // nothing was sent before
+	creating       // a creation was answered with 202, and nothing that could end it was sent
+	exists
+	deleting
+	gone
+)
+
+// deliveriesOf returns the deliveries, in the order in which they were answered.
+func deliveriesOf(exchanges []fault.Exchange) []*sent {
+	byKey := map[Key][]*sent{}
+	var all []*sent
+	for _, x := range exchanges {
+		for _, d := range x.Deliveries {
+			it := &sent{
+				Seen: conform.Seen{
+					Method: x.Method, Target: x.Target, Sent: x.Body, Status: d.Status, Header: d.Header, Came: d.Body,
+				},
+				number: x.Number, key: Key{Instance: x.Instance, Binding: x.Binding}, begun: d.Begun, ended: d.Ended,
+				isAnswered: d.Status != 0,
+			}
+			byKey[it.key] = append(byKey[it.key], it)
+			all = append(all, it)
+		}
+	}
+	for key, ofKey := range byKey {
+		if key.Binding == "" {
+			learn(ofKey, math.MaxInt64)
+			continue
+		}
+		learn(ofKey, firstDeletion(byKey[Key{Instance: key.Instance}]))
+	}
+	sort.SliceStable(all, func(one, other int) bool { return all[one].ended < all[other].ended })
+	return all
+}
+
+// firstDeletion returns when a deletion was first with the broker.
+func firstDeletion(all []*sent) (begun time.Duration) {
+	begun = math.MaxInt64
+	for _, it := range all {
+		if it.Method == http.MethodDelete && it.begun < begun {
+			begun = it.begun
+		}
+	}
+	return begun
+}
+
+// learn sets what was known before each delivery of one key. Of a binding, nothing is known any more once its instance
+// may be deleted: the broker may first end the binding.
+func learn(all []*sent, deleted time.Duration) {
+	sort.SliceStable(all, func(one, other int) bool { return all[one].ended < all[other].ended })
+	state, first := fresh, conform.Seen{}
+	for at, it := range all {
+		if it.ended >= deleted {
+			state = unknown
+		}
+		if overlaps(all, at) {
+			state = unknown
+			if it.changes() {
+				continue
+			}
+		}
+		it.before, it.first = state, first
+		state = it.after(state)
+		if it.Method == http.MethodPut && state == creating && it.before != creating {
+			first = it.Seen
+		}
+	}
+}
+
+// overlaps returns whether a request that changes something was with the broker at the same time as a delivery. Nobody
+// knows until when the broker works on a request that it doesn't answer.
+func overlaps(all []*sent, at int) bool {
+	for other, it := range all {
+		isOpen := !it.isAnswered && it.begun <= all[at].ended
+		isAtOnce := it.begun < all[at].ended && all[at].begun < it.ended
+		if other != at && it.changes() && (isOpen || isAtOnce) {
+			return true
+		}
+	}
+	return !all[at].isAnswered
+}
+
+// changes returns whether a request may change what exists.
+func (s *sent) changes() bool { return s.Method == http.MethodPut || s.Method == http.MethodDelete }
+
+// after returns what is known after the answer.
+func (s *sent) after(before known) known {
+	switch {
+	case !s.isAnswered:
+		return unknown
+	case s.Method == http.MethodPut:
+		return s.afterPut(before)
+	case s.Method == http.MethodDelete:
+		switch {
+		case s.Status == http.StatusOK || s.Status == http.StatusGone:
+			return gone
+		case s.Status == http.StatusAccepted:
+			return deleting
+		case s.Status == http.StatusUnprocessableEntity:
+			return before
+		}
+		return unknown
+	case s.isPoll():
+		return s.afterPoll(before)
+	}
+	return before
+}
+
+func (s *sent) afterPut(before known) known {
+	switch {
+	case s.Status == http.StatusOK || s.Status == http.StatusCreated:
+		return exists
+	case s.Status == http.StatusAccepted && (before == fresh || before == creating):
+		return creating
+	case s.Status == http.StatusUnprocessableEntity || s.Status == http.StatusConflict:
+		return before
+	}
+	return unknown
+}
+
+func (s *sent) afterPoll(before known) known {
+	switch state := s.State(); {
+	case state == "in progress":
+		return before
+	case before == creating && state == "succeeded":
+		return exists
+	case before == deleting && (state == "succeeded" || state == "gone"):
+		return gone
+	case before == exists || before == gone || before == fresh:
+		return before
+	}
+	return unknown
+}
+
+func (s *sent) isPoll() bool {
+	path, _, _ := strings.Cut(s.Target, "?")
+	return s.Method == http.MethodGet && strings.HasSuffix(path, "/last_operation")
+}
+
+// polled returns the operation that a Poll names, or "".
+func (s *sent) polled() string {
+	_, query, _ := strings.Cut(s.Target, "?")
+	values, err := url.ParseQuery(query)
+	if err != nil {
+		return ""
+	}
+	return values.Get("operation")
+}
+
+// judge returns the cases that the answer fails, by itself and by what was known before. isLost is whether the thing
+// exists in the end though its record says otherwise.
+func (s *sent) judge(isLost bool) []conform.Result {
+	if !s.isAnswered {
+		return nil
+	}
+	failed := s.Judge()
+	isSaidGone := s.Method == http.MethodDelete && s.Status == http.StatusGone
+	if name, reason := s.breaks(); name != "" && (isLost || !isSaidGone) {
+		failed = append(failed, s.Fail(name, reason))
+	}
+	return failed
+}
+
+// A rule is an answer that breaks the standard, by what was known before.
+type rule struct {
+	method  string
+	isPoll  bool
+	before  known
+	status  int
+	of      string // the case of an instance
+	binding string // that of a binding, or empty for none
+	reason  string
+}
+
+var rules = []rule{
+	{http.MethodPut, false, exists, 201, "provision-repeated", "bind-repeated",
+		"the broker creates it again: the same creation has succeeded before"},
+	{http.MethodPut, false, exists, 202, "provision-repeated", "bind-repeated",
+		"the broker creates it again: the same creation has succeeded before"},
+	{http.MethodDelete, false, creating, 410, "async-deprovision-during-provision", "",
+		"the broker says that the instance doesn't exist while it is being created"},
+	{http.MethodDelete, false, exists, 410, "deprovision-existing", "unbind-existing",
+		"the broker says that it doesn't exist, after its creation has succeeded"},
+	{http.MethodDelete, false, gone, 200, "deprovision-repeated", "unbind-repeated", "it was deleted before"},
+	{http.MethodGet, true, creating, 410, "last-operation-state", "binding-last-operation-state",
+		"the broker doesn't know the operation any more that its 202 has begun"},
+	{http.MethodGet, true, creating, 404, "last-operation-state", "binding-last-operation-state",
+		"the broker doesn't know the operation any more that its 202 has begun"},
+	{http.MethodGet, true, creating, 400, "last-operation-state", "binding-last-operation-state",
+		"the broker doesn't know the operation any more that its 202 has begun"},
+}
+
+// breaks returns the case that the answer fails by what was known before, and why, or nothing.
+func (s *sent) breaks() (name, reason string) {
+	if s.before == creating && s.Method == http.MethodPut && s.Status == http.StatusAccepted &&
+		s.key.Binding == "" && s.Operation() != s.first.Operation() {
+		return "async-repeated", "the operation isn't that of the first answer"
+	}
+	for _, it := range rules {
+		if it.method != s.Method || it.before != s.before || it.status != s.Status || it.isPoll != s.isPoll() {
+			continue
+		}
+		if it.isPoll && s.polled() != s.first.Operation() { // it doesn't name the operation
+			continue
+		}
+		if s.key.Binding != "" {
+			return it.binding, it.reason
+		}
+		return it.of, it.reason
+	}
+	return "", ""
+}

@@ -1,0 +1,194 @@
+package platform
+
+import (
+	"encoding/json"
+	"net/http"
+	"strings"
+
+	"pippinterm/storm/fault"
+	"pippinterm/storm/report"
+)
+
+// A belief is what a platform can know of an instance or a binding by the answers that it got (sections Provisioning,
+// Deprovisioning, Polling Last Operation and Orphan Mitigation).
+type belief int
+
+const (
+	nothing   belief = iota // it was never asked for, or its deletion has succeeded
+	creating                // a creation was answered with 202
+	ready                   // an answer says that it exists
+	doubtful                // after the answer to the creation, the standard asks for a deletion
+	rejected                // the creation was answered with 4xx: the standard asks for no deletion
+	unclear                 // the standard asks for no deletion, and nobody knows whether it exists
+	deleting                // a deletion was answered with 202
+	undeleted               // a deletion was answered with anything but a success
+)
+
+// A view is a belief, and from which request it comes.
+type view struct {
+	belief  belief
+	because fault.Exchange // the request whose answer has led to the belief
+	last    fault.Exchange // the last request
+	tried   bool           // doubtful: a deletion was sent, and was answered with anything but a success
+}
+
+// viewsOf returns what the platform can know of each key. The exchanges are in the order in which they began.
+func viewsOf(exchanges []fault.Exchange) map[report.Key]view {
+	views := map[report.Key]view{}
+	for _, x := range exchanges {
+		if x.Instance == "" {
+			continue
+		}
+		key := report.Key{Instance: x.Instance, Binding: x.Binding}
+		views[key] = views[key].after(x)
+	}
+	return views
+}
+
+// after returns the view after a further request.
+func (v view) after(x fault.Exchange) view {
+	next, tried := v.belief, v.tried
+	switch kind := kindOf(x); kind {
+	case provision, bind:
+		next = afterCreation(v.belief, x.Got)
+	case deprovision, unbind:
+		next = afterDeletion(v.belief, x.Got)
+		tried = next == doubtful
+	case poll, pollBinding:
+		next = v.afterPoll(x.Got)
+	case fetch, fetchBinding:
+		if x.Got.Status == http.StatusOK && objectOf(x.Got) != nil && isUncertain(v.belief) {
+			next = ready
+		}
+	}
+	v.last = x
+	if next != v.belief {
+		v.because = x
+	}
+	v.tried = tried && next == doubtful && v.belief == doubtful
+	v.belief = next
+	return v
+}
+
+// afterCreation returns what the platform can know after the answer to a Provision or a Bind.
+func afterCreation(before belief, got fault.Got) belief {
+	next := creationAnswered(got)
+	if isRepeat := before == creating || before == ready || before == doubtful; isRepeat && next == rejected {
+		return before // such as 409 or 422: what the first one has created may exist
+	}
+	return next
+}
+
+// creationAnswered is the table of the section Orphan Mitigation.
+func creationAnswered(got fault.Got) belief {
+	isReadable := objectOf(got) != nil
+	switch {
+	case got.Status == http.StatusOK && !isReadable:
+		return unclear
+	case got.Status == http.StatusOK, got.Status == http.StatusCreated && isReadable:
+		return ready
+	case got.Status == http.StatusAccepted && isReadable:
+		return creating
+	case got.Status == http.StatusRequestTimeout:
+		return unclear
+	case got.Status >= 400 && got.Status < 500:
+		return rejected
+	}
+	return doubtful // 201 or 202 that can't be read, any other 2xx, 5xx, and no answer
+}
+
+// afterDeletion returns what the platform can know after the answer to a Deprovision or an Unbind.
+func afterDeletion(before belief, got fault.Got) belief {
+	switch {
+	case got.Status == http.StatusOK || got.Status == http.StatusGone:
+		return nothing
+	case got.Status == http.StatusAccepted && objectOf(got) != nil:
+		return deleting
+	case before == creating || before == ready || before == deleting:
+		return undeleted
+	}
+	return before
+}
+
+// afterPoll returns what the platform can know after the answer to a Poll. After a deletion was sent, a 410 says that
+// it has succeeded, whatever the answer to the deletion was.
+func (v view) afterPoll(got fault.Got) belief {
+	state, _ := objectOf(got)["state"].(string)
+	hasSucceeded := got.Status == http.StatusOK && state == "succeeded"
+	hasFailed := got.Status == http.StatusOK && state == "failed"
+	isDeleted := v.belief == deleting || v.belief == undeleted || v.tried
+	switch {
+	case isDeleted && got.Status == http.StatusGone, v.belief == deleting && hasSucceeded:
+		return nothing
+	case v.belief == deleting && hasFailed:
+		return undeleted
+	case v.belief == creating && hasFailed:
+		return unclear
+	case hasSucceeded && (v.belief == creating || isUncertain(v.belief)):
+		return ready
+	}
+	return v.belief
+}
+
+func isUncertain(it belief) bool { return it == doubtful || it == unclear || it == rejected }
+
+// objectOf returns the object that an answer is, or nil if the platform can't read one.
+func objectOf(got fault.Got) (object map[string]any) {
+	if !got.IsWhole || json.Unmarshal(got.Body, &object) != nil {
+		return nil
+	}
+	return object
+}
+
+// A kind is what a request asks for.
+type kind int
+
+const (
+	other kind = iota
+	catalogue
+	provision
+	deprovision
+	update
+	fetch
+	poll
+	bind
+	unbind
+	fetchBinding
+	pollBinding
+)
+
+// kindOf returns what a request asks for, by its method and its path.
+func kindOf(x fault.Exchange) kind {
+	path, _, _ := strings.Cut(x.Target, "?")
+	parts := strings.Split(strings.TrimPrefix(path, "/"), "/")
+	if path == "/v2/catalog" && x.Method == http.MethodGet {
+		return catalogue
+	}
+	isInstance := len(parts) >= 3 && parts[0] == "v2" && parts[1] == "service_instances" && parts[2] != ""
+	isBinding := isInstance && len(parts) >= 5 && parts[3] == "service_bindings" && parts[4] != ""
+	switch {
+	case isInstance && len(parts) == 3:
+		return map[string]kind{
+			http.MethodPut: provision, http.MethodDelete: deprovision, http.MethodPatch: update, http.MethodGet: fetch,
+		}[x.Method]
+	case isBinding && len(parts) == 5:
+		return map[string]kind{
+			http.MethodPut: bind, http.MethodDelete: unbind, http.MethodGet: fetchBinding,
+		}[x.Method]
+	case isInstance && len(parts) == 4 && parts[3] == "last_operation" && x.Method == http.MethodGet:
+		return poll
+	case isBinding && len(parts) == 6 && parts[5] == "last_operation" && x.Method == http.MethodGet:
+		return pollBinding
+	}
+	return other
+}
+
+// is returns whether a kind is one of some.
+func (k kind) is(kinds ...kind) bool {
+	for _, it := range kinds {
+		if it == k {
+			return true
+		}
+	}
+	return false
+}

@@ -1,0 +1,212 @@
+package platform
+
+import (
+	"net/http"
+	"strings"
+	"testing"
+	"time"
+
+	"pippinterm/storm/fault"
+	"pippinterm/storm/report"
+)
+
+// asked is a request about the instance one, or the binding of it, with what the platform got. A body of "" is one that
+// was cut.
+func asked(method, path string, status int, body string) fault.Exchange {
+	x := fault.Exchange{
+		Number: fault.Number{Place: fault.Place{Instance: 1}, Request: 1}, Method: method, Instance: "one",
+		Target: "/v2/service_instances/one" + path, Fault: fault.None,
+		Got: fault.Got{Status: status, Body: []byte(body), IsWhole: body != "", Words: "something"},
+	}
+	if strings.Contains(path, "/service_bindings/") {
+		x.Binding = "two"
+	}
+	return x
+}
+
+// one are requests, each after the last.
+func one(all ...fault.Exchange) []fault.Exchange {
+	for at := range all {
+		all[at].Begun = time.Duration(at+1) * time.Second
+		all[at].Number.Request = at + 1
+	}
+	return all
+}
+
+// The answers to a Provision, by the table of the section Orphan Mitigation.
+func TestOrphanMitigation(t *testing.T) {
+	for _, it := range []struct {
+		status int
+		body   string
+		wanted belief
+	}{
+		{200, "{}", ready}, {200, "", unclear}, {200, "[]", unclear}, {201, "{}", ready}, {201, "", doubtful},
+		{201, "{]", doubtful}, {202, "{}", creating}, {202, "", doubtful}, {203, "{}", doubtful}, {299, "{}", doubtful},
+		{400, "{}", rejected}, {404, "x", rejected}, {408, "{}", unclear}, {409, "{}", rejected}, {422, "{}", rejected},
+		{499, "", rejected}, {500, "{}", doubtful}, {599, "", doubtful}, {0, "", doubtful},
+	} {
+		for path, key := range map[string]report.Key{
+			"": {Instance: "one"}, "/service_bindings/two": {Instance: "one", Binding: "two"},
+		} {
+			views := viewsOf(one(asked(http.MethodPut, path, it.status, it.body)))
+			if got := views[key].belief; got != it.wanted || len(views) != 1 {
+				t.Errorf("%d %q: %d", it.status, it.body, got)
+			}
+		}
+	}
+}
+
+// An answer that was cut can't be read, even if what has come is an object.
+func TestCutObject(t *testing.T) {
+	if got := creationAnswered(fault.Got{Status: 201, Body: []byte("{}")}); got != doubtful {
+		t.Errorf("%d", got)
+	}
+}
+
+// What the platform can know after several requests.
+func TestViews(t *testing.T) {
+	put := func(status int) fault.Exchange { return asked(http.MethodPut, "", status, "{}") }
+	remove := func(status int) fault.Exchange { return asked(http.MethodDelete, "?a=b", status, "{}") }
+	polled := func(status int, state string) fault.Exchange {
+		return asked(http.MethodGet, "/last_operation", status, `{"state": "`+state+`"}`)
+	}
+	for name, it := range map[string]struct {
+		all    []fault.Exchange
+		wanted belief
+		tried  bool
+	}{
+		"deleted":                {one(put(201), remove(200)), nothing, false},
+		"gone":                   {one(put(503), remove(410)), nothing, false},
+		"deleting":               {one(put(201), remove(202)), deleting, false},
+		"deletion ended":         {one(put(201), remove(202), polled(200, "succeeded")), nothing, false},
+		"deletion gone":          {one(put(201), remove(202), polled(410, "")), nothing, false},
+		"deletion goes on":       {one(put(201), remove(202), polled(200, "in progress")), deleting, false},
+		"deletion failed":        {one(put(201), remove(202), polled(200, "failed")), undeleted, false},
+		"deletion of nothing":    {one(remove(500)), nothing, false},
+		"not deleted":            {one(put(201), remove(500)), undeleted, false},
+		"not deleted, and gone":  {one(put(201), remove(500), polled(410, "")), nothing, false},
+		"deletion rejected":      {one(put(201), remove(422)), undeleted, false},
+		"not found":              {one(put(201), remove(404)), undeleted, false},
+		"created":                {one(put(202), polled(200, "in progress"), polled(200, "succeeded")), ready, false},
+		"creation failed":        {one(put(202), polled(200, "failed")), unclear, false},
+		"creation goes on":       {one(put(202), polled(503, "")), creating, false},
+		"a 410 ends no creation": {one(put(202), polled(410, "")), creating, false},
+		"mitigation tried":       {one(put(500), remove(500)), doubtful, true},
+		"mitigation never":       {one(put(500), polled(200, "in progress")), doubtful, false},
+		"mitigated later":        {one(put(500), remove(500), remove(200)), nothing, false},
+		"polled after all":       {one(put(500), polled(200, "succeeded")), ready, false},
+		"repeated":               {one(put(500), put(201)), ready, false},
+		"repeated, conflict":     {one(put(500), put(409)), doubtful, false},
+		"repeated, no more":      {one(put(201), put(422)), ready, false},
+		"rejected, then again":   {one(put(400), put(500)), doubtful, false},
+		"repeated, then a 410":   {one(put(500), remove(500), put(201), polled(410, "")), ready, false},
+		"fetched":                {one(put(500), asked(http.MethodGet, "", 200, "{}")), ready, false},
+		"not fetched":            {one(put(500), asked(http.MethodGet, "", 404, "{}")), doubtful, false},
+		"again after deletion":   {one(put(500), remove(500), remove(200), put(500)), doubtful, false},
+	} {
+		got := viewsOf(it.all)[report.Key{Instance: "one"}]
+		if got.belief != it.wanted || got.tried != it.tried {
+			t.Errorf("%s: %d, tried %v", name, got.belief, got.tried)
+		}
+	}
+}
+
+// What exists is compared with what the platform has, or can know.
+func TestCompare(t *testing.T) {
+	key := report.Key{Instance: "one"}
+	yes, no := map[report.Key]bool{key: true}, map[report.Key]bool{}
+	put := func(status int) []fault.Exchange { return one(asked(http.MethodPut, "", status, "{}")) }
+	kept := one(append(put(201), asked(http.MethodDelete, "", 500, "{}"))...)
+	mitigated := one(append(put(500), asked(http.MethodDelete, "", 500, "{}"))...)
+	for name, it := range map[string]struct {
+		all      []fault.Exchange
+		calm     time.Duration
+		existing map[report.Key]bool
+		listed   list
+		wanted   string
+	}{
+		"ready":                    {put(201), 0, yes, list{}, "exists"},
+		"ready, nothing":           {put(201), 0, no, list{}, ""},
+		"doubtful":                 {put(500), 0, yes, list{}, "abandoned"},
+		"doubtful, nothing":        {put(500), 0, no, list{}, ""},
+		"rejected":                 {put(429), 0, yes, list{}, "abandoned"},
+		"still polling":            {put(202), 0, yes, list{}, "stuck"},
+		"still polling, listed":    {put(202), 0, yes, list{instances: yes}, ""},
+		"still polling, unlisted":  {put(202), 0, yes, list{instances: no}, "stuck"},
+		"still deleting":           {kept, 0, yes, list{}, "stuck"},
+		"no longer deleting":       {kept, time.Minute, yes, list{}, "abandoned"},
+		"still mitigating":         {mitigated, 0, yes, list{instances: no}, "stuck"},
+		"no longer mitigating":     {mitigated, time.Minute, yes, list{instances: no}, "abandoned"},
+		"no longer polling":        {put(202), time.Minute, yes, list{}, "abandoned"},
+		"listed":                   {put(201), 0, yes, list{instances: yes}, ""},
+		"not listed":               {put(201), 0, yes, list{instances: no}, "abandoned"},
+		"listed, nothing":          {put(201), 0, no, list{instances: yes}, "false"},
+		"listed, doubtful":         {put(500), 0, yes, list{instances: yes}, "false"},
+		"listed, undeleted":        {kept, 0, yes, list{instances: yes}, ""},
+		"not listed, nothing":      {put(500), 0, no, list{instances: no}, ""},
+		"a list of bindings alone": {put(201), 0, yes, list{bindings: no}, "exists"},
+	} {
+		found := &result{views: viewsOf(it.all), calm: it.calm}
+		compare(found, []report.Key{key}, it.existing, it.listed)
+		got := ""
+		for kind, all := range map[string][]report.Found{
+			"exists": found.exists, "abandoned": found.abandoned, "false": found.false, "stuck": found.stuck,
+		} {
+			if len(all) > 0 {
+				got += kind
+			}
+		}
+		if got != it.wanted {
+			t.Errorf("%s: %q", name, got)
+		}
+	}
+}
+
+// A method and a path are told apart from all others.
+func TestKinds(t *testing.T) {
+	for text, wanted := range map[string]kind{
+		"GET /v2/catalog": catalogue, "POST /v2/catalog": other, "PUT /v2/service_instances/a": provision,
+		"PUT /v2/service_instances/": other, "DELETE /v2/service_instances/a?x=y": deprovision,
+		"PATCH /v2/service_instances/a": update, "GET /v2/service_instances/a": fetch,
+		"GET /v2/service_instances/a/last_operation": poll, "PUT /v2/service_instances/a/last_operation": other,
+		"PUT /v2/service_instances/a/service_bindings/b":                bind,
+		"POST /v2/service_instances/a":                                  other,
+		"DELETE /v2/service_instances/a/service_bindings/b":             unbind,
+		"GET /v2/service_instances/a/service_bindings/b":                fetchBinding,
+		"GET /v2/service_instances/a/service_bindings/b/last_operation": pollBinding,
+		"PATCH /v2/service_instances/a/service_bindings/b":              other, "GET /v2/service_instances/a/b": other,
+		"GET /v3/service_instances/a": other, "GET /": other, "PUT /v2/service_instances/a/service_bindings/": other,
+	} {
+		method, target, _ := strings.Cut(text, " ")
+		if got := kindOf(fault.Exchange{Method: method, Target: target}); got != wanted {
+			t.Errorf("%s: %d", text, got)
+		}
+	}
+}
+
+// A deletion without ids breaks the rule, whether its instance is known or not, and so does one with others.
+func TestIDs(t *testing.T) {
+	put := asked(http.MethodPut, "", 201, "{}")
+	put.Body = []byte(`{"service_id": "s", "plan_id": "p", "organization_guid": "o", "space_guid": "s"}`)
+	for query, wanted := range map[string]string{
+		"?accepts_incomplete=true": "service_id is missing", "?service_id=s": "plan_id is missing",
+		"?service_id=s&plan_id=q": "plan_id isn't that of the instance", "?service_id=s&plan_id=p": "",
+	} {
+		for _, all := range [][]fault.Exchange{
+			one(put, asked(http.MethodDelete, query, 200, "{}")), one(asked(http.MethodDelete, query, 410, "{}")),
+		} {
+			if len(all) == 1 && query == "?service_id=s&plan_id=q" {
+				continue
+			}
+			reason := ""
+			for _, it := range judge(all, viewsOf(all)) {
+				if it.Name == "deprovision-ids" {
+					reason = it.Reason
+				}
+			}
+			if reason != wanted {
+				t.Errorf("%s: %q", query, reason)
+			}
+		}
+	}
+}

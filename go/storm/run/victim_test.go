@@ -1,0 +1,227 @@
+package run
+
+import (
+	"context"
+	"fmt"
+	"os"
+	"path/filepath"
+	"strings"
+	"sync"
+	"syscall"
+	"testing"
+	"time"
+
+	"pippinterm/storm/fault"
+)
+
+// shortTimes are lifetimes of a test.
+func shortTimes() lifetimes {
+	return lifetimes{
+		life: [2]time.Duration{20 * time.Millisecond, 60 * time.Millisecond}, point: 2 * time.Second,
+		pause: [2]time.Duration{100 * time.Millisecond, 150 * time.Millisecond}, end: 2 * time.Second,
+	}
+}
+
+// victimOf returns a victim that is a script of the shell. It counts its starts in the file starts of the folder.
+func victimOf(t *testing.T, script string, points ...string) (v *victim, folder string) {
+	t.Helper()
+	folder = t.TempDir()
+	return &victim{
+		process: process{
+			name: whoBroker, line: []string{"/bin/sh", "-c", "echo x >>starts; " + script},
+			environment: append(os.Environ(), "PWD="+folder), log: filepath.Join(folder, "log"),
+		},
+		chance: fault.Chance(1, "test"), times: shortTimes(), open: points,
+		events: &events{now: func() time.Duration { return 0 }, keyOf: keyOf},
+	}, folder
+}
+
+// runs runs a victim in its folder until a condition is met.
+func runs(t *testing.T, v *victim, folder string, until func() bool) {
+	t.Helper()
+	v.line[2] = "cd " + folder + "; " + v.line[2]
+	ctx, cancel := context.WithCancel(context.Background())
+	var group sync.WaitGroup
+	group.Add(1)
+	go func() {
+		defer group.Done()
+		v.run(ctx)
+	}()
+	for end := time.Now().Add(20 * time.Second); !until(); time.Sleep(5 * time.Millisecond) {
+		if time.Now().After(end) {
+			t.Error("that never came")
+			break
+		}
+	}
+	cancel()
+	group.Wait()
+}
+
+func starts(t *testing.T, folder string) int {
+	t.Helper()
+	text, err := os.ReadFile(filepath.Join(folder, "starts"))
+	if err != nil && !os.IsNotExist(err) {
+		t.Fatal(err)
+	}
+	return strings.Count(string(text), "x")
+}
+
+// A program is killed and paused, and started again each time. After the run no process is left.
+func TestVictimIsKilled(t *testing.T) {
+	t.Parallel()
+	v, folder := victimOf(t, "exec sleep 60")
+	runs(t, v, folder, func() bool { kills, pauses, _, _ := v.counts(); return kills >= 8 && pauses >= 1 })
+	kills, _, visited, odd := v.counts()
+	// The last process may have been killed before it has counted itself.
+	if started := starts(t, folder); kills < 8 || kills-started > 1 || started > kills || len(visited)+len(odd) > 0 {
+		t.Errorf("%d starts, %d kills, visited %v, odd %v", started, kills, visited, odd)
+	}
+	if process := v.running.Process; process.Signal(syscall.Signal(0)) == nil {
+		t.Error("a process is left")
+	}
+}
+
+// A paused process does nothing meanwhile, and goes on then.
+func TestVictimIsPaused(t *testing.T) {
+	t.Parallel()
+	v, _ := victimOf(t, "exec sleep 60")
+	v.line[2] = "exec sleep 60"
+	if !v.start("") {
+		t.Fatal(v.odd)
+	}
+	defer v.kill()
+	state := func() string {
+		text, err := os.ReadFile("/proc/" + strings.TrimSpace(pidOf(v)) + "/stat")
+		if err != nil {
+			t.Fatal(err)
+		}
+		return strings.Fields(string(text[strings.LastIndexByte(string(text), ')')+1:]))[0]
+	}
+	done := make(chan struct{})
+	go func() {
+		defer close(done)
+		v.times.pause = [2]time.Duration{300 * time.Millisecond, 300 * time.Millisecond}
+		v.pause(context.Background())
+	}()
+	time.Sleep(100 * time.Millisecond)
+	if it := state(); it != "T" {
+		t.Errorf("while it is paused, its state is %s", it)
+	}
+	<-done
+	if it := state(); it == "T" {
+		t.Error("it is still paused")
+	}
+}
+
+// Each crash point is visited once, also if the program doesn't come to it in its first life.
+func TestVictimVisitsPoints(t *testing.T) {
+	t.Parallel()
+	v, folder := victimOf(t, `case "$OSB_CRASH_AT" in
+		one) kill -9 $$;;
+		two) if [ -e seen ]; then kill -9 $$; fi; touch seen;;
+	esac
+	exec sleep 60`, "one", "two")
+	v.times.point = 200 * time.Millisecond
+	runs(t, v, folder, func() bool { // a point that is tried is still to be visited
+		left := len(v.unvisited())
+		_, _, visited, _ := v.counts()
+		if left+len(visited) < 2 {
+			t.Errorf("%d are left, %v are visited", left, visited)
+		}
+		return left == 0
+	})
+	if _, _, visited, odd := v.counts(); len(visited) != 2 || len(odd) > 0 {
+		t.Errorf("visited %v, odd %v", visited, odd)
+	}
+}
+
+// An end that nobody had a hand in is noted, and so is a program that ends with an error at SIGTERM, or not at all.
+func TestVictimIsOdd(t *testing.T) {
+	t.Parallel()
+	v, folder := victimOf(t, "exit 3")
+	runs(t, v, folder, func() bool { _, _, _, odd := v.counts(); return len(odd) >= 2 })
+	if _, _, _, odd := v.counts(); !strings.Contains(odd[0], "has ended by itself: exit status 3") {
+		t.Errorf("%v", odd)
+	}
+	for script, wanted := range map[string]string{
+		"exec sleep 60":                            "has ended after SIGTERM: signal: terminated",
+		"trap '' TERM; sleep 60":                   "didn't end after SIGTERM",
+		"trap 'exit 0' TERM; sleep 0.3; sleep 0.3": "",
+	} {
+		v, _ := victimOf(t, script)
+		v.line[2] = script
+		v.times.end = time.Second
+		if !v.start("") {
+			t.Fatal(v.odd)
+		}
+		time.Sleep(100 * time.Millisecond)
+		v.end()
+		_, _, _, odd := v.counts()
+		if got := strings.Join(odd, "\n"); (wanted == "") != (got == "") || !strings.Contains(got, wanted) {
+			t.Errorf("%s: %q", script, got)
+		}
+		_ = syscall.Kill(-v.running.Process.Pid, syscall.SIGKILL) // its sleep, if it has left one
+	}
+}
+
+// A program may end with a status that says that its store is away. It is started again, also in the calm. That isn't a
+// visit of a crash point.
+func TestVictimWhoseStoreIsAway(t *testing.T) {
+	t.Parallel()
+	v, folder := victimOf(t, "exit 75", "one")
+	v.accepted = []int{75}
+	runs(t, v, folder, func() bool { return v.endsByItself() >= 3 })
+	kills, _, visited, odd := v.counts() // on a busy machine some are killed before they end
+	if uncounted := starts(t, folder) - kills - v.endsByItself(); uncounted > 0 || len(visited)+len(odd) > 0 {
+		t.Errorf("%d ends that aren't counted, visited %v, odd %v", uncounted, visited, odd)
+	}
+	v, folder = victimOf(t, "[ $(wc -l <starts) -ge 3 ] || exit 75; exec sleep 60")
+	v.accepted = []int{75}
+	v.line[2] = "cd " + folder + "; " + v.line[2]
+	v.startCalmly()
+	defer v.kill()
+	if started, ends := starts(t, folder), v.endsByItself(); started != 3 || ends != 2 {
+		t.Errorf("%d starts, %d ends", started, ends)
+	}
+}
+
+// What a program logs of an error that nothing has caught is found.
+func TestCries(t *testing.T) {
+	log := filepath.Join(t.TempDir(), "log")
+	text := `{"event":"request","error":"no panic"}
+panic: one
+{"event":"work","error":"panic: two"}
+{"event":"step_failed","error":"three"}
+fatal error: four
+{"event":"request","panic":"x"}
+`
+	if err := os.WriteFile(log, []byte(text), 0o600); err != nil {
+		t.Fatal(err)
+	}
+	if found := cries(log); len(found) != 4 {
+		t.Errorf("%q", found)
+	}
+	if found := cries(log + "-none"); len(found) != 1 {
+		t.Errorf("a log that can't be read: %q", found)
+	}
+}
+
+// README and the page of storms say how long a storm pauses, and in which build a lease ends before that.
+func TestPausesAreWritten(t *testing.T) {
+	pause := usualTimes().pause
+	if pause[0] <= 3*time.Second { // the lease of a build with the tag storm
+		t.Errorf("a pause of %v doesn't outlast a lease", pause[0])
+	}
+	want := fmt.Sprintf("for %v to %v seconds. ", pause[0].Seconds(), pause[1].Seconds())
+	for file, want := range map[string]string{
+		"../../../README.md": want, "../../../docs/storm.md": strings.Replace(want, "for ", "A pause lasts ", 1),
+	} {
+		text, err := os.ReadFile(file)
+		if err != nil {
+			t.Fatal(err)
+		}
+		if !strings.Contains(strings.Join(strings.Fields(string(text)), " ")+" ", want) {
+			t.Errorf("%s doesn't say %q", file, want)
+		}
+	}
+}
