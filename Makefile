@@ -32,7 +32,7 @@ staticcheck: $(STATICCHECK) ## build staticcheck and look at all Go with it; fro
 test: ## the tests, over the prebuilt library: some minutes
 	./check --tests
 
-check: ## everything from nothing, proofs included: one to two hours on four cores
+check: ## the proofs of what has changed, and all tests. Everything from nothing: ./check --anew
 	./check
 
 one: ## one test by its name or file: make one T=test_locks, make one T=... A="-x --pdb"
@@ -43,24 +43,26 @@ mutants: SEED = 1
 mutants: COUNT = 100
 mutants: ## change the Go code in some places, and print the changes that no test notices: make mutants SEED=1 COUNT=100
 	scripts/go build -o $(CURDIR)/build/mutants/mutants ./internal/mutants
-	scripts/go $(CURDIR)/build/mutants/mutants draw -seed $(SEED) -count $(COUNT) -folder $(CURDIR)/build/mutants $(PACKAGES)
+	scripts/go $(CURDIR)/build/mutants/mutants draw -seed $(SEED) -count $(COUNT) $(if $(WORKERS),-workers $(WORKERS)) \
+	    -folder $(CURDIR)/build/mutants $(PACKAGES)
 
-prebuilt: ## prove and build the library and osb-replay, and write prebuilt/
+prebuilt: ## prove and build the library, osb-replay and the programs of cases, and write prebuilt/
 	scripts/prebuilt
 
-generate: ## write the header, the constants of the packages and the table of docs/c.md from api/table.py
+generate: ## write the header and the constants of the packages from api/table.py, and the metrics from docs/operating.md
 	$(PYTHON) -m api.generate
 
 release: ## write the packages that people install to dist/: docs/install.md
 	$(PYTHON) -m release
 
-format: generate ## generate, format all crates, Python, bash and Go, and embed files in the documents
+format: generate ## generate, format all crates, Python, bash and Go, and write what the documents embed
 	scripts/files python | xargs black -q
 	scripts/files python | xargs isort -q
 	scripts/files bash | xargs shfmt -w -i 4 -ci
 	gofmt -w go
 	if command -v rattle >/dev/null; then scripts/files rattle | xargs rattle fmt; fi
 	scripts/embed.py
+	scripts/go_packages.py
 
 quick-format:
 	scripts/files python | xargs black -q --check

@@ -1,8 +1,9 @@
 # shellcheck shell=bash disable=SC2015,SC2154
-# Finds osb-replay and the library for the sources in this checkout. Sourced by the launchers and by scripts/: $top is
-# the folder of the repository, $who the program that reports on standard error.
+# Finds osb-replay, the library and the programs of cases for the sources in this checkout. Sourced by the launchers and
+# by scripts/: $top is the folder of the repository, $who the program that reports on standard error.
 #
-# A target is `replay` or `library`. A folder of artifacts has the target's files and a MANIFEST (see record below).
+# A target is `replay`, `library` or `cases`. A folder of artifacts has the files of targets and a MANIFEST (see record
+# below).
 # There are two: prebuilt/MACHINE, which is committed, and out/MACHINE, which has what was built here.
 machine=$(uname -sm) && machine=${machine#* }-${machine%% *} && machine=${machine,,}
 prebuilt=$top/prebuilt/$machine
@@ -22,7 +23,18 @@ artifacts_of() {
     case $1 in
         replay) echo osb-replay ;;
         library) echo libosb.so libosb.a ;;
+        cases) echo library_cases refusal_cases service_cases ;;
     esac
+}
+
+# all_artifacts: the files of all targets.
+all_artifacts() {
+    echo "$(artifacts_of replay) $(artifacts_of library) $(artifacts_of cases)"
+}
+
+# is_program FILE: whether it is a program, and not a library.
+is_program() {
+    [[ $1 != *.* ]]
 }
 
 # crates_of TARGET: the crates that it is linked from.
@@ -32,6 +44,7 @@ crates_of() {
         # Each is a static library of its own, so that they are proved side by side. osb_c_binding stands on
         # osb_c_instance, and osb_c_binding_wire on osb_c_wire, which are then libraries too.
         library) echo osb_c,osb_c_instance,osb_c_binding,osb_c_wire,osb_c_binding_wire ;;
+        cases) artifacts_of cases | tr ' ' , ;;
     esac
 }
 
@@ -102,7 +115,7 @@ fits() {
         why="$name/$file is damaged: its SHA-256 isn't the one in MANIFEST"
         [ "$(digest_of "$1/$file")" = "$sum" ] || { say "$why" && return 1; }
         why="$name/$file isn't executable"
-        [ "$file" != osb-replay ] || [ -x "$1/$file" ] || { say "$why" && return 1; }
+        ! is_program "$file" || [ -x "$1/$file" ] || { say "$why" && return 1; }
     done
 }
 
@@ -156,19 +169,24 @@ build() {
 }
 
 build_replay() {
-    build_crates program replay && put "$top/crates/osb_replay/out/osb_replay" "$built/osb-replay"
+    build_crates osb_replay program replay && put "$top/crates/osb_replay/out/osb_replay" "$built/osb-replay"
 }
 
 build_library() {
-    build_crates archive && "$top/scripts/link_library" "$built"
+    build_crates "$(crates_of library)" archive && "$top/scripts/link_library" "$built"
 }
 
-# build_crates KIND [ARGUMENT ..]: has scripts/build_crates.py prove and build the target's crates. If this shell is
+build_cases() {
+    local name
+    for name in $(artifacts_of cases); do
+        build_crates "$name" program && put "$top/crates/$name/out/$name" "$built/$name" || return
+    done
+}
+
+# build_crates NAME,.. KIND [ARGUMENT ..]: has scripts/build_crates.py prove and build these crates. If this shell is
 # ended, so is the build.
 build_crates() {
-    local wanted=osb_replay
-    [ "$1" = program ] || wanted=$(crates_of library)
-    setpriv --pdeathsig TERM "$top/scripts/build_crates.py" "$who" "$wanted" "$@" </dev/null
+    setpriv --pdeathsig TERM "$top/scripts/build_crates.py" "$who" "$@" </dev/null
 }
 
 # record FOLDER TARGET SOURCES KIT: writes into the folder's MANIFEST what the target's files are.
@@ -183,7 +201,7 @@ record() {
 # The digest of the sources is a SHA-256 over crates, in the order of crates.txt: scripts/artifacts.sh computes it.
 # `make prebuilt` builds all files from nothing and writes the committed folder; `./check` compares them byte by byte.
 END
-        for file in osb-replay libosb.so libosb.a; do
+        for file in $(all_artifacts); do
             if [[ " $(artifacts_of "$2") " == *" $file "* ]]; then
                 echo "$file $(digest_of "$1/$file") $3 $4"
             elif entry "$1" "$file"; then

@@ -1,17 +1,20 @@
 #!/usr/bin/env python3
 """Proves and tests everything from nothing, and counts: the gate, which ./check starts.
 
-    scripts/gate.py PYTHON [--tests]
+    scripts/gate.py PYTHON [--anew | --tests]
 
 PYTHON is the Python that has pytest. The steps, one after another; with --tests, only the last one, without the race
 detector of Go, with fewer random walks of its tests, and without the checks of format, lint and types that `make quick`
 has, too:
 
-1. `rt ci`: all proofs, the mutants that the prover must reject, and the tests and programs of the crates.
+1. The proofs, by `rt ci`, and the mutants that the prover must refuse: what has no line in the ledger that fits, and a
+   tenth of the rest (scripts/ledger.py, scripts/proofs.py). With --anew, everything.
 2. `scripts/prebuilt --compare`: the prebuilt files are what these sources give. It builds them over the libraries that
-   `rt ci` has just proved and built.
+   `rt ci` has just proved and built. If the ledger says that this was so, and without --anew, only
+   `scripts/prebuilt --fits`: they are undamaged, and of these sources.
 3. pytest, several tests at once. Beside them, few at once, those that go by the clock: all others leave the processors
-   to them.
+   to them. If one of these fails, it is tried again, with nothing beside it. If it fails three times, a slow machine
+   may be the cause, so it is a skip that is named; with --anew or --tests, it has failed.
 
 Hosts differ, so the cost is also given in units: one is what `rt check` of osb_message takes from nothing, in processor
 seconds. It is measured before the steps, by itself.
@@ -20,8 +23,7 @@ seconds. It is measured before the steps, by itself.
 from __future__ import annotations
 
 import contextlib
-import fcntl
-import importlib.util
+import functools
 import os
 import re
 import resource
@@ -35,9 +37,14 @@ import xml.etree.ElementTree
 from pathlib import Path
 from typing import IO, Callable, Iterator, NamedTuple
 
+import ledger
+import proofs
+
 TOP = Path(__file__).resolve().parent.parent
 COUNTS = re.compile(r"(\d+) passed, (\d+) failed(?:, (\d+) skipped)?")
 SKIPPED = "skipped: "
+END = re.compile(rb"^[=-]{10,}", re.MULTILINE)
+"""Where pytest's progress ends, and its report begins."""
 # What rt writes if a check of the same crate elsewhere on this machine has left it work to begin with.
 KEPT = "begins with what a check kept"
 # With these set, the tests would take another library, program or database than this checkout's.
@@ -45,7 +52,7 @@ NAMED = (
     "LIBOSB",
     "LIBOSB_FOLDER",
     "OSB_BROKER",
-    "OSB_CRATES",
+    "OSB_CASES",
     "OSB_PLATFORM",
     "OSB_REPLAY",
     "OSB_TEST_POSTGRESQL",
@@ -56,16 +63,21 @@ BUILD = "for it in osb-broker osb-platform osb-storm; do [ ! -x $it ] || ./$it -
 """Builds the programs. Each reports that it is built, if it must be. A test that needs it waits for it."""
 NICENESS = 10
 """That of the tests that leave the processors to those that go by the clock."""
+TRIES = 3
+"""So often a test is tried that goes by the clock and fails."""
 # PostgreSQL's clients take what a URL leaves out from variables that begin so, such as PGHOSTADDR and PGPASSWORD.
 LIBPQ = "PG"
 
 
 class Result(NamedTuple):
-    """What a step counted: how many passed, a line for each failure, and a name with a reason for each skip."""
+    """What a step counted: how many passed, a line for each failure, and a name with a reason for each skip. Those in
+    `late` passed when they were tried again.
+    """
 
     passed: int
     failures: list[str]
     skips: list[str]
+    late: list[str] = []
 
 
 class Ran(NamedTuple):
@@ -76,11 +88,13 @@ class Ran(NamedTuple):
 
 
 @contextlib.contextmanager
-def started(command: list[str], output: int | IO[bytes]) -> Iterator[subprocess.Popen[bytes]]:
-    """Runs a command beside the block. Whatever it started ends with the block."""
+def started(
+    command: list[str], output: int | IO[bytes], folder: Path | None = None
+) -> Iterator[subprocess.Popen[bytes]]:
+    """Runs a command beside the block, in this folder or at the top. Whatever it started ends with the block."""
     with subprocess.Popen(
         command,
-        cwd=TOP,
+        cwd=folder or TOP,
         stdin=subprocess.DEVNULL,
         stdout=output,
         stderr=subprocess.STDOUT,
@@ -93,12 +107,12 @@ def started(command: list[str], output: int | IO[bytes]) -> Iterator[subprocess.
                 os.killpg(process.pid, signal.SIGKILL)
 
 
-def run(command: list[str], gives_way: bool = False) -> Ran:
+def run(command: list[str], gives_way: bool = False, folder: Path | None = None) -> Ran:
     """Runs a command, and shows its output as it comes. Whatever it started ends with it. One that gives way leaves the
     processors to the others.
     """
     nice = ["nice", "-n", str(NICENESS)] if gives_way else []
-    with started([*nice, *command], subprocess.PIPE) as process:
+    with started([*nice, *command], subprocess.PIPE, folder) as process:
         if gives_way:
             lower(process.pid)
         assert process.stdout is not None
@@ -170,63 +184,50 @@ def by_report(ran: Ran, report: Path) -> Result:
     return counted(passed, failures, skips, ran.status)
 
 
-def prove() -> Result:
-    """`rt ci`. Meanwhile the launchers build nothing, and it finds nothing that an ended build left."""
-    with open(TOP / "crates.txt") as crates:
-        fcntl.flock(crates, fcntl.LOCK_EX)
-        for left in [TOP / "out", *TOP.glob("crates/*/out/workdirs")]:
-            shutil.rmtree(left, ignore_errors=True)
-        rows = crates.read().splitlines()
-        before = stamps(rows)
-        result = check("rt", "ci")
-        if not result.failures:
-            take_libraries(before, stamps(rows))
-        return result
+def prove(anew: bool) -> Result:
+    """The proofs and the mutants."""
+    found = proofs.prove(TOP, run_in, anew)
+    return counted(len(found.passed), found.failures, [], 0)
 
 
-def stamps(rows: list[str]) -> dict[Path, str]:
-    """The kit's stamp of what each crate in these rows of crates.txt is made from, by its folder. If the kit has no
-    such stamp, there are none.
-    """
-    try:
-        page = subprocess.run(
-            ["rt", "doc"], stdin=subprocess.DEVNULL, capture_output=True, text=True, check=True
-        ).stdout
-        spec = importlib.util.spec_from_file_location("rtlib", Path(page.strip()).parent / "bin" / "rtlib.py")
-        assert spec is not None and spec.loader is not None
-        rtlib = importlib.util.module_from_spec(spec)
-        spec.loader.exec_module(rtlib)
-        names = [row.partition(":")[0].strip() for row in rows if row.strip() and not row.startswith("#")]
-        folders = [TOP / "crates" / name for name in names]
-        return {folder: rtlib.Crate(str(folder), str(TOP), {}).stamp() for folder in folders}
-    except Exception as error:  # whatever the kit raises
-        print(
-            f"gate: the libraries that `rt ci` builds can't be taken, and are proved once more: {error!r}", flush=True
-        )
-        return {}
+def run_in(command: list[str], folder: Path) -> tuple[int, list[str]]:
+    """Runs a command in this folder, and shows its output as it comes."""
+    ran = run(command, folder=folder)
+    return ran.status, ran.lines
 
 
-def take_libraries(before: dict[Path, str], after: dict[Path, str]) -> None:
-    """Lets `rt lib` take the libraries that `rt ci` has just proved and built, so that none is proved a second time. It
-    leaves out what was changed meanwhile.
-
-    `rt lib` takes a library that has the stamp of its sources. `rt ci` leaves none, since what it states of a library
-    fits only the libraries below that it was built over. Here all are of one run.
-    """
-    for folder, stamp in after.items():
-        rlib = folder / "out" / "rlib"
-        if before.get(folder) == stamp and rlib.is_dir():
-            (rlib / "stamp").write_text(stamp)
-
-
-def compare() -> Result:
-    """Compares the prebuilt files. `rt ci` leaves the program that it built, and none that was there before."""
-    program = "crates/osb_replay/out/osb_replay"
-    return check("scripts/prebuilt", "--compare", *([program] if (TOP / program).exists() else []))
+def compare(anew: bool) -> Result:
+    """Compares the prebuilt files with what was built, or, if the ledger says that this was done, with its lines."""
+    now, before = ledger.prebuilt_now(TOP), ledger.read(TOP)
+    if not anew and now and all(before.get(name) == line for name, line in now.items()):
+        return check("scripts/prebuilt", "--fits")
+    ran = run(["scripts/prebuilt", "--compare", "out/programs"])
+    result = by_last_line(ran)
+    same = {match[1] for line in ran.lines if (match := re.fullmatch("ok: (\\S+) is what its sources give", line))}
+    if not result.failures:
+        ledger.add(TOP, {name: line for name, line in now.items() if name in same})
+    return result
 
 
 def check(*command: str) -> Result:
     return by_last_line(run([*command]))
+
+
+def name_of(failure: str) -> str:
+    """The name of a test in a report, without the group that pytest-xdist adds to it."""
+    name, _, group = failure.rpartition("@")
+    return name if name and "]" not in group else failure
+
+
+def test_of(top: Path, failure: str) -> str | None:
+    """What pytest calls the test of this name in a report, or None if it is no test's name."""
+    classes, _, name = name_of(failure).partition("::")
+    words = classes.split(".")
+    for count in range(len(words), 0, -1):
+        file = "/".join(words[:count]) + ".py"
+        if (top / file).is_file():
+            return "::".join([file, *words[count:], name])
+    return None
 
 
 class Tests:
@@ -234,10 +235,12 @@ class Tests:
     leave the processors to them.
     """
 
-    def __init__(self, python: str, stack: contextlib.ExitStack, whole: bool) -> None:
-        """Whatever a run started ends with the stack. What is marked `whole` runs only if all of the gate does."""
+    def __init__(self, python: str, stack: contextlib.ExitStack, whole: bool, clock_decides: bool) -> None:
+        """Whatever a run started ends with the stack. What is marked `whole` runs only if all of the gate does. A test
+        that goes by the clock can fail if that decides; else it is a skip then.
+        """
         self._python, self._stack = python, stack
-        self._whole = whole
+        self._whole, self._clock_decides = whole, clock_decides
         self._folder = Path(stack.enter_context(tempfile.TemporaryDirectory()))
         self._processors = len(os.sched_getaffinity(0))
         self._by_the_clock: subprocess.Popen[bytes] | None = None
@@ -253,21 +256,45 @@ class Tests:
         return by_report(run(line, gives_way=True), self._report("others"))
 
     def by_the_clock(self) -> Result:
-        """Waits for those that go by the clock, or runs them."""
-        process = self._by_the_clock or self._begin_by_the_clock()
-        status = None
-        with open(self._folder / "output", "rb") as output:
+        """Waits for those that go by the clock, or runs them. Then it tries those that failed again, one by one."""
+        result = self._end_by_the_clock(self._by_the_clock or self._begin_by_the_clock(), may_fail=True)
+        for turn in range(2, TRIES + 1):
+            tests = [test_of(TOP, it) for it in result.failures]
+            if not tests or None in tests:
+                return result
+            process = self._begin("alone", "-n", "0", *filter(None, tests))
+            again = self._end_by_the_clock(process, may_fail=turn < TRIES or not self._clock_decides)
+            late = [name_of(it) for it in result.failures if name_of(it) not in map(name_of, again.failures)]
+            result = Result(result.passed + again.passed, again.failures, result.skips, [*result.late, *late])
+        if self._clock_decides:
+            return result
+        skips = [f"{name_of(it)}: it goes by the clock, and failed {TRIES} times" for it in result.failures]
+        return Result(result.passed, [], [*result.skips, *skips], result.late)
+
+    def _begin_by_the_clock(self) -> subprocess.Popen[bytes]:
+        return self._begin("alone", "-n", "2" if self._processors >= 4 else "1", "-m", self._marked("alone"))
+
+    def _end_by_the_clock(self, process: subprocess.Popen[bytes], may_fail: bool) -> Result:
+        """Waits for a run, and shows its output. If it may fail, and does, the lines at its end are marked: it fails
+        nothing.
+        """
+        text, shown, status = b"", 0, None
+        with open(self._folder / "alone", "rb") as output:
             while status is None:
                 with contextlib.suppress(subprocess.TimeoutExpired):
                     status = process.wait(0.2)
-                show(output.read())
-        return by_report(Ran(status, []), self._report("alone"))
+                text += output.read()
+                end = match.start() if (match := END.search(text)) else len(text)
+                show(text[shown:end])
+                shown = max(shown, end)
+        result = by_report(Ran(status, []), self._report("alone"))
+        lines = text[shown:].splitlines(keepends=True)
+        show(b"".join(b"| " + line if may_fail and result.failures else line for line in lines))
+        return result
 
-    def _begin_by_the_clock(self) -> subprocess.Popen[bytes]:
-        few = "2" if self._processors >= 4 else "1"
-        output = self._stack.enter_context(open(self._folder / "output", "wb"))
-        line = self._line("alone", "-n", few, "-m", self._marked("alone"))
-        return self._stack.enter_context(started(line, output))
+    def _begin(self, name: str, *options: str) -> subprocess.Popen[bytes]:
+        output = self._stack.enter_context(open(self._folder / name, "wb"))
+        return self._stack.enter_context(started(self._line(name, *options), output))
 
     def _marked(self, these: str) -> str:
         """The expression for these tests."""
@@ -285,9 +312,10 @@ def steps(python: str, stack: contextlib.ExitStack, *options: str) -> dict[str, 
     """The steps in their order, by their names. Whatever they start ends with the stack."""
     found: dict[str, Callable[[], Result]] = {}
     if "--tests" not in options:
-        found["rt ci"] = prove
-        found["scripts/prebuilt --compare"] = compare
-    tests = Tests(python, stack, whole="--tests" not in options)
+        anew = "--anew" in options
+        found["proofs"] = functools.partial(prove, anew)
+        found["prebuilt"] = functools.partial(compare, anew)
+    tests = Tests(python, stack, whole="--tests" not in options, clock_decides=bool(options))
     found["pytest -m 'not alone'"] = tests.others
     found["pytest -m alone"] = tests.by_the_clock
     return found
@@ -339,17 +367,17 @@ def main() -> int:
         os.environ.pop(name, None)
     python, *options = sys.argv[1:]
     with contextlib.ExitStack() as stack:
-        status = count(steps(python, stack, *options))
+        status = count(steps(python, stack, *options), "--anew" in options)
     return status
 
 
-def count(found: dict[str, Callable[[], Result]]) -> int:
+def count(found: dict[str, Callable[[], Result]], anew: bool = False) -> int:
     """Runs the steps, and reports what they counted. Returns the status of the gate."""
-    if "rt ci" in found:
+    if "proofs" in found:
         for name in [it for it in os.environ if it in NAMED or it.startswith(LIBPQ)]:
             del os.environ[name]
-        os.environ["OSB_WHOLE"] = "1"
-    one, why = unit() if "rt ci" in found else (0, "")
+        os.environ["OSB_WHOLE"] = "anew" if anew else "1"
+    one, why = unit() if "proofs" in found else (0, "")
     all_used = processor_seconds()
     results: list[Result] = []
     report: list[str] = []
@@ -361,7 +389,8 @@ def count(found: dict[str, Callable[[], Result]]) -> int:
         seconds = f"{time.monotonic() - begun:.0f} s, {processor_seconds() - used:.0f} processor seconds"
         report.append(f"{name}: {summary([result])} ({seconds})")
         report += [f"FAILED: {name}: {it}" for it in dict.fromkeys(result.failures)]
-    if "rt ci" in found:
+        report += [f"{name}: {it} passed when it was tried again" for it in result.late]
+    if "proofs" in found:
         report.append(in_units(processor_seconds() - all_used, one, why))
     report += [f"{SKIPPED}{it}" for result in results for it in result.skips]
     print("== all", *report, summary(results), sep="\n", flush=True)

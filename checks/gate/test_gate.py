@@ -15,7 +15,10 @@ import pytest
 import waiting
 
 TOP = Path(__file__).resolve().parents[2]
+LONGEST = 1000
+"""So many seconds a command may take. Those that give way to others take minutes on a busy machine."""
 
+sys.path.insert(0, str(TOP / "scripts"))  # gate.py imports its neighbours
 spec = importlib.util.spec_from_file_location("gate", TOP / "scripts" / "gate.py")
 assert spec is not None and spec.loader is not None
 gate = importlib.util.module_from_spec(spec)
@@ -33,7 +36,7 @@ spec.loader.exec_module(gate)
     ],
 )
 def test_last_line(status: int, lines: list[str], passed: int, failures: list[str], skips: list[str]) -> None:
-    assert gate.by_last_line(gate.Ran(status, lines)) == (passed, failures, skips)
+    assert gate.by_last_line(gate.Ran(status, lines)) == gate.Result(passed, failures, skips)
 
 
 @pytest.mark.parametrize(
@@ -53,6 +56,44 @@ def test_report_without_tests_fails_once(tmp_path: Path, text: str) -> None:
 # ---- The whole, in a small repository
 
 
+ROWS = """\
+osb_message:
+osb_world: osb_message
+osb_replay: osb_world
+osb_wire: osb_message
+osb_c: osb_wire
+"""
+
+# Stands for rt. It proves each crate of crates.txt whose sources don't say `wrong`, and writes its name to `proved`.
+RT = """\
+home=${0%/*}/..
+case $1 in
+    version) echo 'kit 1' ;;
+    ci)
+        failed=0
+        for name in $(sed 's/:.*//' crates.txt); do
+            if grep -qr wrong "crates/$name"; then
+                echo "rt: $name NOT PROVED"; failed=1
+            else
+                echo "rt: $name proved"; echo "$name" >>"$home/proved"
+                mkdir -p "crates/$name/out/rlib"
+            fi
+        done
+        : >crates/osb_message/out/osb_message
+        echo "5 passed, $failed failed"
+        exit "$failed"
+        ;;
+esac
+"""
+
+# Stands for scripts/prebuilt.
+PREBUILT = """\
+echo "$*" >>compared
+for file in osb-replay libosb.a libosb.so; do echo "ok: prebuilt/pdp11-unix/$file is what its sources give"; done
+echo '3 passed, 0 failed, 0 skipped'
+"""
+
+
 class Repository:
     """A small repository with the real gate. Scripts stand for rt and for the comparison of the prebuilt files."""
 
@@ -61,23 +102,42 @@ class Repository:
         self.report: list[str] = []
         self.output = ""
         (top / "scripts").mkdir()
-        for name in ("check", "scripts/gate.py", "scripts/python.sh", "scripts/packages", "packages.txt"):
+        scripts = ("gate.py", "ledger.py", "proofs.py", "must_fail.py", "python.sh", "packages")
+        for name in ("check", "packages.txt", *(f"scripts/{it}" for it in scripts)):
             shutil.copy2(TOP / name, top / name)
-        (top / "crates.txt").write_text("osb_replay:\n")
-        (top / "crates" / "osb_message").mkdir(parents=True)
-        self.script(
-            "bin/rt", "mkdir -p crates/osb_replay/out; : >crates/osb_replay/out/osb_replay; echo '5 passed, 0 failed'"
-        )
-        self.script("scripts/prebuilt", "echo '3 passed, 0 failed, 0 skipped'")
+        (top / "crates.txt").write_text(ROWS)
+        for row in ROWS.splitlines():
+            self.write(f"crates/{row.partition(':')[0]}/src/lib.rt", "fn step() {\n    1\n}\n")
+        self.script("bin/rt", RT)
+        self.script("scripts/prebuilt", PREBUILT)
+        files = ("osb-replay", "libosb.a", "libosb.so")
+        self.write("prebuilt/pdp11-unix/MANIFEST", "".join(f"{it} 11 22 kit 1\n" for it in files))
         (top / "pytest.ini").write_text("[pytest]\naddopts = -p no:cacheprovider\nmarkers =\n    alone\n    whole\n")
         self.tests("def test_one(): pass")
         (top / "test_alone.py").write_text("import pytest\n\n@pytest.mark.alone\ndef test_clock(): pass\n")
 
     def script(self, name: str, text: str) -> None:
+        self.write(name, f"#!/bin/sh\n{text}\n")
+        (self.top / name).chmod(0o755)
+
+    def write(self, name: str, text: str) -> None:
         path = self.top / name
         path.parent.mkdir(parents=True, exist_ok=True)
-        path.write_text(f"#!/bin/sh\n{text}\n")
-        path.chmod(0o755)
+        path.write_text(text)
+
+    def commit(self) -> None:
+        """So that there is a commit's hash, by which a tenth of the ledger is chosen. It is always the same one."""
+        at = {"GIT_AUTHOR_DATE": "2026-01-01T00:00:00Z", "GIT_COMMITTER_DATE": "2026-01-01T00:00:00Z"}
+        who = ("-c", "user.name=test", "-c", "user.email=test@localhost")
+        for line in (["init", "-q"], ["add", "crates.txt"], [*who, "commit", "-q", "-m", "All"]):
+            subprocess.run(["git", *line], cwd=self.top, env={**os.environ, **at}, check=True)
+
+    def taken(self, name: str) -> list[str]:
+        """The lines of a file that a script has written, which is removed."""
+        path = self.top / name
+        lines = path.read_text().splitlines() if path.exists() else []
+        path.unlink(missing_ok=True)
+        return lines
 
     def tests(self, text: str) -> None:
         (self.top / "test_some.py").write_text(f"import pytest\n\n{text}\n")
@@ -93,7 +153,7 @@ class Repository:
             stdout=subprocess.PIPE,
             stderr=subprocess.STDOUT,
             text=True,
-            timeout=100,
+            timeout=LONGEST,
         )
         self.output = ran.stdout
         *self.report, last = ran.stdout.partition("== all\n")[2].splitlines()
@@ -112,6 +172,63 @@ def test_all_pass(repository: Repository) -> None:
     assert repository.check() == (0, "10 passed, 0 failed, 0 skipped", [])
 
 
+ALL = ["osb_message", "osb_world", "osb_replay", "osb_wire", "osb_c"]
+
+
+@pytest.mark.slow
+def test_what_the_ledger_has_is_not_done_again(repository: Repository) -> None:
+    """But for a tenth of it, here one crate with those below. With --anew, everything is."""
+    repository.commit()
+    assert repository.check() == (0, "10 passed, 0 failed, 0 skipped", [])
+    assert (repository.taken("proved"), repository.taken("compared")) == (ALL, ["--compare out/programs"])
+    assert repository.check() == (0, "8 passed, 0 failed, 0 skipped", [])
+    assert repository.taken("proved") in (
+        ["osb_message", "osb_world", "osb_replay"],
+        ["osb_message", "osb_wire", "osb_c"],
+    )
+    assert repository.taken("compared") == ["--fits"]
+    assert "ledger: 5 of 5 lines fit; this run does the other 0, and 3 that fit\n" in repository.output
+    assert repository.check("--anew") == (0, "10 passed, 0 failed, 0 skipped", [])
+    assert (repository.taken("proved"), repository.taken("compared")) == (ALL, ["--compare out/programs"])
+
+
+@pytest.mark.slow
+def test_what_stands_on_a_change_is_done_again(repository: Repository) -> None:
+    repository.commit()
+    repository.check()
+    repository.write("crates/osb_world/src/lib.rt", "fn step() {\n    2\n}\n")
+    repository.write("prebuilt/pdp11-unix/MANIFEST", "osb-replay 11 33 kit 1\n")
+    repository.taken("proved"), repository.taken("compared")
+    assert repository.check()[0] == 0
+    assert {"osb_message", "osb_world", "osb_replay"} <= set(repository.taken("proved"))
+    assert "ledger: 3 of 5 lines fit; this run does the other 2, and " in repository.output
+    assert repository.taken("compared") == ["--compare out/programs"]
+
+
+@pytest.mark.slow
+def test_what_is_not_proved_has_no_line(repository: Repository) -> None:
+    repository.commit()
+    repository.write("crates/osb_world/src/lib.rt", "wrong\n")
+    status, last, lines = repository.check()
+    assert (status, last) == (1, "5 passed, 1 failed, 0 skipped")
+    assert lines == ["FAILED: proofs: not proved: osb_world"]
+    ledger = (repository.top / "ledger.txt").read_text().splitlines()
+    assert [it for it in ledger if not it.startswith(("#", "prebuilt/"))] == []
+    repository.write("crates/osb_world/src/lib.rt", "fn step() {\n    1\n}\n")
+    assert repository.check() == (0, "10 passed, 0 failed, 0 skipped", [])
+
+
+@pytest.mark.slow
+def test_a_mutant_that_is_not_refused_fails(repository: Repository) -> None:
+    """The script that stands for rt proves each mutant."""
+    repository.write("crates/osb_c/must-fail/accepted.edit", "file: src/lib.rt\nold: 1\nnew: 2\n")
+    status, _, lines = repository.check()
+    assert (status, lines) == (1, ["FAILED: proofs: not refused: osb_c/accepted.edit"])
+    assert "must-fail osb_c/accepted.edit: NOT REFUSED\n" in repository.output
+    ledger = (repository.top / "ledger.txt").read_text()
+    assert "osb_c " in ledger and "accepted" not in ledger
+
+
 @pytest.mark.slow
 def test_whole(repository: Repository) -> None:
     """With --tests, what is marked `whole` is left out, also of the tests that go by the clock, and the tests of Go are
@@ -123,16 +240,14 @@ def test_whole(repository: Repository) -> None:
     repository.tests(f"@pytest.mark.whole\ndef test_format(): assert False\n\n{told} None")
     assert repository.check("--tests") == (0, "2 passed, 0 failed, 0 skipped", [])
     repository.tests(f"@pytest.mark.whole\ndef test_format(): assert False\n\n{told} '1'")
-    failures = [
+    ended = [
         "FAILED: pytest -m 'not alone': test_some::test_format",
-        "FAILED: pytest -m alone: test_alone::test_long_clock",
+        "skipped: test_alone::test_long_clock: it goes by the clock, and failed 3 times",
     ]
-    assert repository.check() == (1, "10 passed, 2 failed, 0 skipped", failures)
+    assert repository.check() == (1, "10 passed, 1 failed, 1 skipped", ended)
 
 
 KIT = """
-import os
-
 class Crate:
     def __init__(self, folder, root, known):
         pass
@@ -146,21 +261,17 @@ class Crate:
     ("kit", "stamp"),
     [
         (KIT.replace("STAMP", "'a stamp'"), "a stamp"),
-        (KIT.replace("STAMP", "os.urandom(8).hex()"), None),
         ("class Crate: pass", None),
     ],
 )
 def test_libraries_are_taken(repository: Repository, tmp_path: Path, kit: str, stamp: str | None) -> None:
-    """What `rt ci` built gets the kit's stamp, unless its sources were changed meanwhile, or the kit has none."""
+    """What `rt ci` built is where `rt lib` looks for it, with the kit's stamp, unless the kit has none."""
     (tmp_path / "kit" / "bin").mkdir(parents=True)
     (tmp_path / "kit" / "bin" / "rtlib.py").write_text(kit)
-    rlib = repository.top / "crates" / "osb_replay" / "out" / "rlib"
-    made = f"mkdir -p {rlib}; : >crates/osb_replay/out/osb_replay"
-    repository.script(
-        "bin/rt", f"[ $1 != doc ] || exec echo {tmp_path}/kit/START.md; {made}; echo '5 passed, 0 failed'"
-    )
+    repository.script("bin/rt", f"[ $1 != doc ] || exec echo {tmp_path}/kit/START.md\n{RT}")
     assert repository.check()[0] == 0
-    written = rlib / "stamp"
+    written = repository.top / "crates" / "osb_replay" / "out" / "rlib" / "stamp"
+    assert written.parent.is_dir()
     assert (written.read_text() if written.exists() else None) == stamp
 
 
@@ -191,7 +302,7 @@ def test_beside_the_clock(repository: Repository, monkeypatch: pytest.MonkeyPatc
         "import pytest\nfrom waits import left, os\n\n@pytest.mark.alone\n"
         f"def test_clock(): left('clock', 'one'); assert os.nice(0) == {nice}\n"
     )
-    assert counts(repository, monkeypatch, 4) == [(1, [], []), (1, [], [])]
+    assert counts(repository, monkeypatch, 4) == [gate.Result(1, [], [])] * 2
 
 
 @pytest.mark.slow
@@ -201,7 +312,7 @@ def test_before_the_clock(repository: Repository, monkeypatch: pytest.MonkeyPatc
     (repository.top / "test_alone.py").write_text(
         "import pathlib, pytest\n\n@pytest.mark.alone\ndef test_clock(): assert pathlib.Path('one').exists()\n"
     )
-    assert counts(repository, monkeypatch, 3) == [(1, [], []), (1, [], [])]
+    assert counts(repository, monkeypatch, 3) == [gate.Result(1, [], [])] * 2
 
 
 def counts(repository: Repository, monkeypatch: pytest.MonkeyPatch, processors: int) -> list[object]:
@@ -211,6 +322,47 @@ def counts(repository: Repository, monkeypatch: pytest.MonkeyPatch, processors: 
     with contextlib.ExitStack() as stack:
         counted = [step() for step in gate.steps(sys.executable, stack, "--tests").values()]
     return counted
+
+
+FAILS = """
+import pathlib, pytest
+from os import environ
+
+pytestmark = [pytest.mark.alone, pytest.mark.xdist_group("clock")]
+
+@pytest.mark.parametrize("times", [0, {times}], ids=["never", "a@b"])
+def test_clock(times):
+    tries = pathlib.Path(f"tries{{times}}")
+    tries.write_text((tries.read_text() if tries.exists() else "") + "x")
+    assert len(tries.read_text()) > times
+"""
+
+
+@pytest.mark.slow
+def test_clock_that_fails_once_is_tried_again(repository: Repository) -> None:
+    """It counts as passed then, and is named. No line of the failure looks like one of a test that failed."""
+    (repository.top / "test_alone.py").write_text(FAILS.format(times=1))
+    assert repository.check("--tests") == (0, "3 passed, 0 failed, 0 skipped", [])
+    assert repository.report[-1] == "pytest -m alone: test_alone::test_clock[a@b] passed when it was tried again"
+    assert [len((repository.top / name).read_text()) for name in ("tries0", "tries1")] == [1, 2]
+    assert "\n| FAILED test_alone.py::test_clock[a@b]@clock" in repository.output
+    assert "\nFAILED" not in repository.output
+
+
+@pytest.mark.slow
+@pytest.mark.parametrize("options", [[], ["--tests"], ["--anew"]])
+def test_clock_that_always_fails(repository: Repository, options: list[str]) -> None:
+    """It decides nothing where a slow machine could, and is named there."""
+    (repository.top / "test_alone.py").write_text(FAILS.format(times=9))
+    status, _, lines = repository.check(*options)
+    name = "test_alone::test_clock[a@b]"
+    if options:
+        assert (status, lines) == (1, [f"FAILED: pytest -m alone: {name}"])
+        assert "\nFAILED test_alone.py::test_clock[a@b] " in repository.output
+    else:
+        assert (status, lines) == (0, [f"skipped: {name}: it goes by the clock, and failed 3 times"])
+        assert "\nFAILED" not in repository.output
+    assert [len((repository.top / name).read_text()) for name in ("tries0", "tries9")] == [1, 3]
 
 
 @pytest.mark.slow
@@ -237,13 +389,13 @@ def test_nothing_goes_on_after_a_failure(repository: Repository, monkeypatch: py
 def test_units(repository: Repository) -> None:
     """The cost is a multiple of what the check of osb_message takes."""
     busy = f'exec "{sys.executable}" -c "import time\nwhile time.process_time() < .5: pass"'
-    repository.script("bin/rt", f"[ $1 = ci ] || {busy}; echo '5 passed, 0 failed'")
+    repository.script("bin/rt", f"[ $1 != check ] || {busy}\n{RT}")
     repository.check()
     found = [re.fullmatch(r"units: (.*) \((.*) processor seconds of (.*) each\)", it) for it in repository.report]
-    [(units, seconds, one)] = [it.groups() for it in found if it]
-    assert 0.5 <= float(one) < 2
-    # A unit of half a second is printed with one digit, so the quotient may be a tenth off.
-    assert float(seconds) / float(one) == pytest.approx(float(units), rel=0.2)
+    [(units, seconds, one)] = [map(float, it.groups()) for it in found if it]
+    assert 0.5 <= one < 2
+    rounded = 0.5 + 0.05 * (units + one)
+    assert units * one == pytest.approx(seconds, abs=rounded)
 
 
 @pytest.mark.slow
@@ -258,7 +410,7 @@ def test_units(repository: Repository) -> None:
     ],
 )
 def test_units_that_cannot_be_measured(repository: Repository, check: str, why: str) -> None:
-    repository.script("bin/rt", f"[ $1 != check ] || {{ {check}; exit; }}; echo '5 passed, 0 failed'")
+    repository.script("bin/rt", f"[ $1 != check ] || {{ {check}; exit; }}\n{RT}")
     repository.check()
     assert [it.partition(" (")[0] for it in repository.report if it.startswith("units")] == [
         f"units: not measured: {why}"
@@ -307,7 +459,7 @@ def test_no_tests_fail(repository: Repository) -> None:
 
 
 ELSEWHERE = (
-    *("LIBOSB", "LIBOSB_FOLDER", "OSB_BROKER", "OSB_CRATES", "OSB_PLATFORM", "OSB_REPLAY"),
+    *("LIBOSB", "LIBOSB_FOLDER", "OSB_BROKER", "OSB_CASES", "OSB_PLATFORM", "OSB_REPLAY"),
     *("OSB_TEST_POSTGRESQL", "PYTHONPATH", "PYTEST_ADDOPTS"),
     *("PGDATABASE", "PGHOST", "PGHOSTADDR", "PGOPTIONS", "PGPASSWORD", "PGPORT", "PGSERVICE", "PGUSER"),
 )
@@ -345,7 +497,7 @@ def test_missing_packages_are_named(repository: Repository) -> None:
 def test_without_pytest(repository: Repository) -> None:
     """Nothing runs, and the report has the command that installs all."""
     (repository.top / "scripts" / "python.sh").write_text("python_with() { false; }\n")
-    ran = subprocess.run([repository.top / "check", "--tests"], capture_output=True, text=True, timeout=100)
+    ran = subprocess.run([repository.top / "check", "--tests"], capture_output=True, text=True, timeout=LONGEST)
     assert (ran.returncode, ran.stdout) == (78, "")
     assert ran.stderr.rstrip().endswith("run: make packages") and ran.stderr.count("\n") == 1
 

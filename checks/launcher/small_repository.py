@@ -19,6 +19,9 @@ osb_c_instance: osb_world
 osb_c_binding: osb_c_instance
 osb_c_wire: osb_world
 osb_c_binding_wire: osb_c_wire
+library_cases: osb_world
+refusal_cases: osb_world
+service_cases: osb_world
 """
 
 # Stands for rt. It writes a line to `builds` for each crate, and takes as many seconds as the file `seconds` says.
@@ -35,13 +38,14 @@ case $1 in
         echo "functions=7"
         grep -rq 'not proved' src && { echo "error: a goal is open"; exit 1; }
         mkdir -p out/rlib
-        [ "$1" = lib ] || printf '#!/bin/sh\\necho "built: $*"\\ncat\\nexit 9\\n' >out/osb_replay
-        [ "$1" = lib ] || chmod +x out/osb_replay
+        [ "$1" = lib ] || printf '#!/bin/sh\\necho "built: $*"\\ncat\\nexit 9\\n' >"out/$name"
+        [ "$1" = lib ] || chmod +x "out/$name"
         ;;
 esac
 """
 # Stands for scripts/link_library, which wants the kit's archives.
 LINK = """#!/bin/sh\necho built >"$1/libosb.so"\necho built >"$1/libosb.a"\n"""
+CASES = ("library_cases", "refusal_cases", "service_cases")
 PROGRAM = """#!/bin/sh\necho "prebuilt: $*"\ncat\nexit 9\n"""
 
 
@@ -83,14 +87,15 @@ class Repository:
         (self.kit / "python3").chmod(0o755)
 
     def _fill_prebuilt(self) -> None:
-        for name, text in (("osb-replay", PROGRAM), ("libosb.so", "prebuilt\n"), ("libosb.a", "prebuilt\n")):
+        texts = {"libosb.so": "prebuilt\n", "libosb.a": "prebuilt\n", **dict.fromkeys(("osb-replay", *CASES), PROGRAM)}
+        for name, text in texts.items():
             self.write(str(self.prebuilt.relative_to(self.top) / name), text)
         self.record_prebuilt()
 
     def record_prebuilt(self) -> None:
         """Writes into MANIFEST what the prebuilt files are now."""
         each = 'record "$prebuilt" $it "$(digest_of_sources $it)" "kit 1"'
-        script = f". scripts/artifacts.sh && for it in replay library; do {each}; done"
+        script = f". scripts/artifacts.sh && for it in replay library cases; do {each}; done"
         subprocess.run(["bash", "-c", f"top=$PWD who=test; {script}"], cwd=self.top, check=True)
 
     def environment(self, has_rt: bool = True) -> dict[str, str]:

@@ -9,7 +9,7 @@ from pathlib import Path
 from typing import Callable
 
 import pytest
-from launcher.small_repository import Repository
+from launcher.small_repository import CASES, Repository
 from waiting import until
 
 pytestmark = pytest.mark.slow
@@ -181,8 +181,12 @@ def test_where(repository: Repository) -> None:
     run = repository.run("scripts/where", "library", has_rt=False)
     assert (run.stdout, run.stderr) == (f"{repository.top}/out/library\n", "")
     assert (repository.top / "out" / "library" / "libosb.so").read_text() == "prebuilt\n"
+    run = repository.run("scripts/where", "cases", has_rt=False)
+    assert (run.stdout, run.stderr) == (f"{repository.prebuilt}\n", "")
     run = repository.run("scripts/where", "--from-source", "replay")
     assert run.stdout == f"{repository.built}/osb-replay\n" and "proving and building" in run.stderr
+    run = repository.run("scripts/where", "--from-source", "cases")
+    assert run.stdout == f"{repository.built}\n" and all((repository.built / it).exists() for it in CASES)
     assert repository.run("scripts/where", "program").returncode == 2
 
 
@@ -227,11 +231,11 @@ def compare(repository: Repository, *program: str, has_rt: bool = True) -> tuple
 
 def test_prebuilt_files_that_differ_from_the_build_fail(repository: Repository) -> None:
     status, last, lines = compare(repository)
-    assert (status, last) == (1, "0 passed, 3 failed, 0 skipped")
+    assert (status, last) == (1, "0 passed, 6 failed, 0 skipped")
     assert all("differ" in it for it in lines)
-    given = str(repository.prebuilt / "osb-replay")
-    assert compare(repository, given)[1] == "1 passed, 2 failed, 0 skipped"  # what `rt ci` has built is the same
-    assert compare(repository, has_rt=False)[:2] == (1, "0 passed, 3 failed, 0 skipped")
+    given = str(repository.prebuilt)  # what `rt ci` has built is the same, and the library isn't a program
+    assert compare(repository, given)[1] == "4 passed, 2 failed, 0 skipped"
+    assert compare(repository, has_rt=False)[:2] == (1, "0 passed, 6 failed, 0 skipped")
 
 
 def test_written_files_pass(repository: Repository) -> None:
@@ -239,7 +243,7 @@ def test_written_files_pass(repository: Repository) -> None:
     (repository.top / "out" / "old").touch()
     assert repository.run("scripts/prebuilt").returncode == 0
     assert not (repository.top / "out" / "old").exists()
-    assert compare(repository) == (0, "3 passed, 0 failed, 0 skipped", [])
+    assert compare(repository) == (0, "6 passed, 0 failed, 0 skipped", [])
     assert replay(repository, has_rt=False) == (9, BUILT, "")
     before = (repository.prebuilt / "MANIFEST").read_bytes()
     assert repository.run("scripts/prebuilt").returncode == 0
@@ -249,15 +253,33 @@ def test_written_files_pass(repository: Repository) -> None:
 def test_stale_prebuilt_files_fail(repository: Repository) -> None:
     rename_source(repository)
     status, last, lines = compare(repository)
-    assert (status, last) == (1, "0 passed, 3 failed, 0 skipped")
+    assert (status, last) == (1, "0 passed, 6 failed, 0 skipped")
     assert all("it was built from other sources. Run make prebuilt" in it for it in lines)
+
+
+def fits(repository: Repository) -> tuple[int, str, list[str]]:
+    """The status, the last line, and the lines that aren't ok, of a look that builds nothing."""
+    run = repository.run("scripts/prebuilt", "--fits")
+    *lines, last = run.stdout.splitlines()
+    return run.returncode, last, [it for it in lines if not it.startswith("ok: ")]
+
+
+def test_files_that_fit_are_not_built(repository: Repository) -> None:
+    assert fits(repository) == (0, "6 passed, 0 failed, 0 skipped", [])
+    (repository.prebuilt / "service_cases").write_text("damaged")
+    status, last, lines = fits(repository)
+    assert (status, last) == (1, "5 passed, 1 failed, 0 skipped")
+    assert "service_cases: its SHA-256 isn't the one in MANIFEST" in lines[0]
+    rename_source(repository)
+    assert fits(repository)[:2] == (1, "0 passed, 6 failed, 0 skipped")
+    assert repository.builds() == []
 
 
 def test_another_kit_skips_the_comparison_by_name(repository: Repository) -> None:
     (repository.kit / "version").write_text("kit 2\n")
     status, last, lines = compare(repository)
-    assert (status, last) == (0, "0 passed, 0 failed, 3 skipped")
-    assert [it.partition("prebuilt/")[0] for it in lines] == ["skipped: "] * 3
+    assert (status, last) == (0, "0 passed, 0 failed, 6 skipped")
+    assert [it.partition("prebuilt/")[0] for it in lines] == ["skipped: "] * 6
     assert all(
         "built by another kit, kit 1, and this one is kit 2. Run make prebuilt under that kit" in it for it in lines
     )
