@@ -37,8 +37,15 @@ the buffer as before: so a call with 0 bytes asks for the length. What is behind
 If the call returns anything else, neither is written.
 """
 
-REMOVED = (2, 3, 4, 5, 8, 12, 23)
+REMOVED = (2, 3, 4, 5, 8, 12, 23, 35)
 """The numbers of statuses that are gone. They are never used again."""
+
+REMOVED_CALLS = """
+    osb_asked_operation osb_decide_provision osb_decide_restart osb_decide_timeout osb_mitigates
+    osb_read_binding_request osb_read_operation osb_read_request osb_well_formed osb_write_answer osb_write_body
+    osb_write_target
+""".split()
+"""The names of calls that are gone. No other call ever has one of them. CHANGELOG.md has what to call instead."""
 
 STATUS = Enum(
     "status",
@@ -73,7 +80,6 @@ STATUS = Enum(
     Value(32, "NOTHING_BEGUN", "no work is pending"),
     Value(33, "IMPOSSIBLE", "each member is one of its kind, and together they can't come about"),
     Value(34, "NO_ANSWER", "the response isn't surely the broker's: a timeout takes its place"),
-    Value(35, "NO_OPERATION", "no operation is named"),
     Value(36, "NO_SECONDS", "the value is no number of seconds"),
     Value(37, "UNAUTHORIZED", "the value doesn't name this user and this password"),
     Value(38, "NOT_REFUSED", "the status is no refusal"),
@@ -151,7 +157,6 @@ EXACTLY = {
     "IMPOSSIBLE": "each member of the text is one of its kind, and together they can't come about "
     "([which](instance.md#the-texts))",
     "NO_ANSWER": "the response isn't surely the broker's ([which](wire.md#what-a-platform-takes-from-a-response))",
-    "NO_OPERATION": "no operation is named; for `osb_read_operation` also if it has more than 10,000 characters",
     "NO_SECONDS": "the value isn't a number in decimal digits below 2^64",
     "REFUSED_INSTANCE": "refused with 400: the id of the instance isn't UTF-8 of 1 to 255 bytes, or is `.` or `..`",
     "NOT_REFUSED": "the status is none of 39 to 50, 64 and `OSB_MEMORY`; for `osb_binding_refusal_body`, none of 39 to "
@@ -183,13 +188,13 @@ INTERFACE: list[Part] = [
     ),
     Section(
         """Statuses: what became of a call. Each has one meaning. No number ever changes, and none is used again: 2, 3,
-        4, 5, 8, 12 and 23 were statuses of calls that version 0.3.0 removed.
+        4, 5, 8, 12, 23 and 35 were statuses of calls that are gone.
 
         The comment of a call names OSB_DONE, and then, in their order, the statuses that it returns if it isn't done.
         If several of them fit, the call returns the first. But if an allocation failed, OSB_MEMORY may come in place of
         every status that the text or the list itself decides: OSB_PLAN_TWICE, OSB_TOO_SMALL, OSB_NOT_JSON to
-        OSB_BAD_MEMBER, OSB_IMPOSSIBLE, OSB_NO_ANSWER, OSB_NO_OPERATION, OSB_UNAUTHORIZED, OSB_REFUSED_REPEATED to
-        OSB_BAD_PLAN_MODE, OSB_NO_MEMBER to OSB_SAME_NUMBER, OSB_REFUSED_APP, OSB_NO_BINDING and OSB_NOT_RETRIEVABLE."""
+        OSB_BAD_MEMBER, OSB_IMPOSSIBLE, OSB_NO_ANSWER, OSB_UNAUTHORIZED, OSB_REFUSED_REPEATED to OSB_BAD_PLAN_MODE,
+        OSB_NO_MEMBER to OSB_SAME_NUMBER, OSB_REFUSED_APP, OSB_NO_BINDING and OSB_NOT_RETRIEVABLE."""
     ),
     STATUS,
     Section(
@@ -256,15 +261,9 @@ INTERFACE: list[Part] = [
         Member("uint16_t status", "the HTTP status, any number"),
         Member("enum osb_body body", "an enum osb_body"),
     ),
-    Call(
-        "bool osb_well_formed(uint8_t kind, struct osb_answer answer)",
-        """Whether an answer to a request of the kind has a status of success and a body that can be read whole: to a
-        Provision or a Deprovision 200, 201 or 202 with OSB_BODY_EMPTY, to a Poll 200 with OSB_BODY_IN_PROGRESS,
-        OSB_BODY_SUCCEEDED or OSB_BODY_FAILED. False where the kind is none.""",
-    ),
     Section(
-        """The platform's tables, which take any answer. They are for platforms that keep records of their own form. The
-        calls on a struct osb_record apply them themselves."""
+        """Two of the platform's tables, which take any answer. The calls on a struct osb_record apply all of them
+        themselves."""
     ),
     Enum(
         "state",
@@ -279,25 +278,14 @@ INTERFACE: list[Part] = [
         Value(255, "NONE", "the number that was given stands for no state"),
     ),
     Call(
-        "bool osb_mitigates(struct osb_answer answer)",
-        "Whether the platform has to clean up after this answer to a Provision: the orphan mitigation table.",
+        "uint8_t osb_decide_deprovision(struct osb_answer answer)",
+        "The record of an instance in the state cleaning after the answer to its Deprovision.",
     ),
-    Call(
-        "uint8_t osb_decide_provision(struct osb_answer answer)",
-        "The record after the answer to a Provision, and to a Deprovision.",
-    ),
-    Call("uint8_t osb_decide_deprovision(struct osb_answer answer)"),
     Call(
         "uint8_t osb_decide_poll(uint8_t state, struct osb_answer answer)",
         """The record of an instance in this state after the answer to its Poll: a state that isn't polled stays.
         OSB_STATE_NONE where the number stands for no state.""",
     ),
-    Call(
-        "uint8_t osb_decide_timeout(uint8_t state)",
-        """The record of an instance in this state after a request that got no answer, and after a restart: wanted
-        becomes cleaning, and every other state stays. OSB_STATE_NONE where the number stands for no state.""",
-    ),
-    Call("uint8_t osb_decide_restart(uint8_t state)"),
     Section(
         """One instance as a value, for a row of a database. A platform keeps a struct osb_record of each instance, and
         a broker keeps a struct osb_holding. They own nothing, and may be copied and compared. Their calls take no
@@ -641,12 +629,6 @@ INTERFACE: list[Part] = [
         the response isn't surely the broker's, a timeout is taken in its place (OSB_NO_ANSWER).""",
         "OSB_DONE, OSB_BAD_KIND, OSB_NO_ANSWER, OSB_MEMORY.",
     ),
-    Call(
-        f"uint32_t osb_read_operation(const uint8_t *body, size_t length, {BUFFER})",
-        """Reads the operation that a broker names in the body of an accepted request, which a platform sends back in
-        its Polls. Its text goes to the buffer.""",
-        "OSB_DONE, OSB_NO_OPERATION, OSB_TOO_SMALL, OSB_MEMORY.",
-    ),
     Struct(
         "details",
         Member("bool has_description, has_error, has_dashboard_url, has_operation, has_metadata"),
@@ -670,41 +652,25 @@ INTERFACE: list[Part] = [
         "OSB_DONE, OSB_BAD_KIND, OSB_TOO_SMALL.",
     ),
     Call(
-        "uint32_t osb_write_target(const uint8_t *prefix, size_t prefix_length, const struct osb_request *request, "
-        f"bool has_operation, const uint8_t *operation, size_t operation_length, {BUFFER})",
-        """Writes the target of a request: the path, which begins with the prefix (empty, or what the broker's URL has
-        before /v2, with no `?`, `#`, blank or line end: it is written as it stands), and the query. The operation
-        counts where has_operation is true, and is the broker's; give one to a Poll alone. The ids are sent as GUIDs in
-        lower case; for other ids call osb_write_named_target.""",
-        "OSB_DONE, OSB_NOT_UTF8 (prefix or operation), OSB_BAD_KIND, OSB_TOO_SMALL, OSB_MEMORY.",
-    ),
-    Call(
         "uint32_t osb_write_named_target(const uint8_t *prefix, size_t prefix_length, "
         "const struct osb_request *request, const uint8_t *instance, size_t instance_length, const uint8_t *service, "
         "size_t service_length, const uint8_t *plan, size_t plan_length, bool has_operation, const uint8_t *operation, "
         f"size_t operation_length, {BUFFER})",
-        """Writes the target of a request with the texts of its ids, escaped as a path and a query need it. Each text
-        must be that of the request's id, so no other instance is asked for. The rest is as in osb_write_target.""",
+        """Writes the target of a request: the path, which begins with the prefix (empty, or what the broker's URL has
+        before /v2, with no `?`, `#`, blank or line end: it is written as it stands), and the query. The texts of the
+        ids are escaped as a path and a query need it. Each text must be that of the request's id, so no other instance
+        is asked for. The operation counts if has_operation is true, and is the broker's; give one to a Poll alone.""",
         "OSB_DONE, OSB_NOT_UTF8 (prefix, any text, or an operation that counts), OSB_BAD_KIND, OSB_NOT_INSTANCE_TEXT, "
         "OSB_NOT_SERVICE_TEXT, OSB_NOT_PLAN_TEXT, OSB_TOO_SMALL, OSB_MEMORY.",
-    ),
-    Call(
-        "uint32_t osb_write_body(const struct osb_request *request, const uint8_t *organization, "
-        "size_t organization_length, const uint8_t *space, size_t space_length, const uint8_t *further, "
-        f"size_t further_length, {BUFFER})",
-        """Writes the body of a request: of a Provision an object of the ids, the organization and the space, neither of
-        which may be empty, and the members of `further`, the text of an object ({} for none), as context, parameters or
-        maintenance_info; else an empty text. The ids are sent as GUIDs in lower case; for other ids call
-        osb_write_named_body.""",
-        "OSB_DONE, OSB_NOT_UTF8 (organization, space or further), OSB_BAD_KIND, OSB_NOT_JSON (further), "
-        "OSB_NOT_AN_OBJECT (further), OSB_TOO_SMALL, OSB_MEMORY.",
     ),
     Call(
         "uint32_t osb_write_named_body(uint8_t kind, const uint8_t *service, size_t service_length, "
         "const uint8_t *plan, size_t plan_length, const uint8_t *organization, size_t organization_length, "
         f"const uint8_t *space, size_t space_length, const uint8_t *further, size_t further_length, {BUFFER})",
-        """Writes the body of a request of the kind with the texts of the service and the plan. osb_write_named_target
-        says whether they are the request's. The rest is as in osb_write_body.""",
+        """Writes the body of a request of the kind: of a Provision an object of the texts of the service and the plan,
+        the organization and the space, neither of which may be empty, and the members of `further`, the text of an
+        object ({} for none), as context, parameters or maintenance_info; else an empty text. osb_write_named_target
+        says whether the texts are the request's.""",
         "OSB_DONE, OSB_NOT_UTF8 (any text), OSB_BAD_KIND, OSB_NOT_JSON (further), OSB_NOT_AN_OBJECT (further), "
         "OSB_TOO_SMALL, OSB_MEMORY.",
     ),
@@ -715,17 +681,7 @@ INTERFACE: list[Part] = [
         Member("bool has_service, has_plan", "whether it names them; only a Poll may lack them"),
         Member("struct osb_id id, service, plan"),
         comment="""What a request asks of a broker. The service counts where has_service is true, and the plan where
-        has_plan is; else osb_read_request writes zeroes.""",
-    ),
-    Call(
-        "uint32_t osb_read_request(const uint8_t *prefix, size_t prefix_length, size_t longest_body, "
-        "const uint8_t *method, size_t method_length, const uint8_t *target, size_t target_length, "
-        "const uint8_t *body, size_t body_length, struct osb_asked *asked)",
-        """Reads what a request asks of a broker, from its method, its target (path and query, as the request line has
-        them) and all of its body. A body of more than longest_body bytes is refused unread.""",
-        "OSB_DONE, OSB_NOT_UTF8 (prefix or method), OSB_REFUSED_TARGET, OSB_REFUSED_METHOD, OSB_REFUSED_INSTANCE, "
-        "OSB_REFUSED_LENGTH, and the first of OSB_REFUSED_REPEATED to OSB_REFUSED_SPACE in the order of docs/wire.md, "
-        "OSB_MEMORY.",
+        has_plan is; else osb_receive_request writes zeroes.""",
     ),
     Struct(
         "received",
@@ -743,11 +699,12 @@ INTERFACE: list[Part] = [
         "const uint8_t *method, size_t method_length, const uint8_t *target, size_t target_length, "
         "const uint8_t *body, size_t body_length, struct osb_asked *asked, struct osb_received *received, "
         f"{BUFFER})",
-        """Reads what a request asks of a broker as osb_read_request does, with the texts of its ids and the parts of a
-        Provision's body: parameters, context, maintenance_info, and others, the object of all other members but
-        service_id and plan_id. A part is JSON with no spaces, numbers as they are written, and members in their order.
-        The texts go to the buffer one after the other, in the order of struct osb_received, and the length of all to
-        *needed.""",
+        """Reads what a request asks of a broker, from its method, its target (path and query, as the request line has
+        them) and all of its body, with the texts of its ids and the parts of a Provision's body: parameters, context,
+        maintenance_info, and others, the object of all other members but service_id and plan_id. A body of more than
+        longest_body bytes is refused unread. A part is JSON with no spaces, numbers as they are written, and members in
+        their order. The texts go to the buffer one after the other, in the order of struct osb_received, and the length
+        of all to *needed.""",
         "OSB_DONE, OSB_NOT_UTF8 (prefix or method), OSB_REFUSED_TARGET, OSB_REFUSED_METHOD, OSB_REFUSED_INSTANCE, "
         "OSB_REFUSED_LENGTH, and the first of OSB_REFUSED_REPEATED to OSB_REFUSED_SPACE in the order of docs/wire.md, "
         "OSB_TOO_SMALL, OSB_MEMORY.",
@@ -780,24 +737,13 @@ INTERFACE: list[Part] = [
         "OSB_DONE, OSB_BAD_ASKED.",
     ),
     Call(
-        f"uint32_t osb_asked_operation(const uint8_t *target, size_t length, {BUFFER})",
-        "Reads the operation that the target of a Poll names. Its text goes to the buffer.",
-        "OSB_DONE, OSB_REFUSED_REPEATED, OSB_NO_OPERATION, OSB_TOO_SMALL, OSB_MEMORY.",
-    ),
-    Call(
-        "uint32_t osb_write_answer(struct osb_answer answer, bool has_operation, const uint8_t *operation, "
-        f"size_t operation_length, {BUFFER})",
-        """Writes the body of an answer. The operation counts where has_operation is true, and is written in a 202
-        alone.""",
-        "OSB_DONE, OSB_NOT_UTF8 (operation), OSB_TOO_SMALL, OSB_MEMORY.",
-    ),
-    Call(
         "uint32_t osb_write_told_answer(struct osb_answer answer, bool has_operation, const uint8_t *operation, "
         "size_t operation_length, bool has_description, const uint8_t *description, size_t description_length, "
         f"{BUFFER})",
-        """Writes the body of an answer with a description for a person. The description counts where has_description is
-        true, and is written for an error, in place of the usual sentence, and for a last operation that failed; of one
-        with more than 1,000 characters the first 1,000 (this project's choice). The rest is as in osb_write_answer.""",
+        """Writes the body of an answer. The operation counts if has_operation is true, and is written in a 202 alone.
+        The description, for a person, counts if has_description is true, and is written for an error, in place of the
+        usual sentence, and for a last operation that failed; of one with more than 1,000 characters the first 1,000
+        (this project's choice).""",
         "OSB_DONE, OSB_NOT_UTF8 (an operation or a description that counts), OSB_TOO_SMALL, OSB_MEMORY.",
     ),
     Call(
@@ -820,7 +766,8 @@ INTERFACE: list[Part] = [
         "uint32_t osb_basic_auth(const uint8_t *value, size_t length, const uint8_t *user, size_t user_length, "
         "const uint8_t *password, size_t password_length)",
         """Judges whether the header Authorization names this user and this password, by HTTP's Basic scheme. The user
-        must have no colon, since another user and password would read the same. The time that it takes doesn't tell
+        must have no colon, since another user and password would read the same. An empty user with an empty password is
+        never accepted (this project's choice). Either of them alone may be empty. The time that it takes doesn't tell
         where they differ, as the code is written.""",
         "OSB_DONE, OSB_NOT_UTF8 (any of the three), OSB_UNAUTHORIZED, OSB_MEMORY.",
     ),
@@ -882,7 +829,7 @@ INTERFACE: list[Part] = [
         "bool osb_asks_for_catalogue(const uint8_t *prefix, size_t prefix_length, const uint8_t *target, "
         "size_t target_length)",
         """Whether a target asks for the catalogue: the path is the prefix and /v2/catalog, or stands for that as in
-        osb_read_request. False too where the prefix isn't UTF-8.""",
+        osb_receive_request. False too where the prefix isn't UTF-8.""",
     ),
     Call(
         "uint32_t osb_plan_version(const uint8_t *document, size_t length, struct osb_id service, struct osb_id plan, "
@@ -902,7 +849,7 @@ INTERFACE: list[Part] = [
     Section(
         """Requests and answers of service bindings as HTTP and JSON have them (docs/binding.md). These calls serve for
         bindings too: osb_write_method (a Fetch has the method of a Poll), osb_read_answer for a Bind, an Unbind and a
-        Poll, osb_read_operation, osb_asked_request, osb_asked_operation, osb_write_answer and osb_member_text."""
+        Poll, osb_read_details, osb_asked_request, osb_write_told_answer and osb_member_text."""
     ),
     Struct(
         "binding_asked",
@@ -912,16 +859,6 @@ INTERFACE: list[Part] = [
         comment="""What a request asks of a binding. A Bind is an OSB_KIND_PROVISION, an Unbind an OSB_KIND_DEPROVISION.
         A Fetch has the kind OSB_KIND_POLL, and may lack its service and its plan as a Poll may. Unless is_fetch is
         true, osb_asked_request makes of `asked` the request for osb_binding_begin.""",
-    ),
-    Call(
-        "uint32_t osb_read_binding_request(const uint8_t *prefix, size_t prefix_length, size_t longest_body, "
-        "const uint8_t *method, size_t method_length, const uint8_t *target, size_t target_length, "
-        "const uint8_t *body, size_t body_length, struct osb_binding_asked *asked)",
-        """Reads what a request asks of a binding, as osb_read_request does of an instance: a Bind, an Unbind, a Poll of
-        a binding's last operation, or a Fetch.""",
-        "OSB_DONE, OSB_NOT_UTF8 (prefix or method), OSB_REFUSED_TARGET, OSB_REFUSED_METHOD, OSB_REFUSED_INSTANCE, "
-        "OSB_REFUSED_BINDING, OSB_REFUSED_LENGTH, and the first of OSB_REFUSED_REPEATED to OSB_REFUSED_BODY in the "
-        "order of docs/binding.md, OSB_MEMORY.",
     ),
     Struct(
         "binding_received",
@@ -940,10 +877,10 @@ INTERFACE: list[Part] = [
         "const uint8_t *method, size_t method_length, const uint8_t *target, size_t target_length, "
         "const uint8_t *body, size_t body_length, struct osb_binding_asked *asked, "
         f"struct osb_binding_received *received, {BUFFER})",
-        """Reads what a request asks of a binding as osb_read_binding_request does, with the texts of its ids and the
-        parts of a Bind's body: bind_resource, parameters, context and predecessor_binding_id. A part is JSON with no
-        spaces, numbers as they are written, and members in their order. The texts go to the buffer one after the other,
-        in the order of struct osb_binding_received, and the length of all to *needed.""",
+        """Reads what a request asks of a binding, as osb_receive_request does of an instance: a Bind, an Unbind, a Poll
+        of a binding's last operation, or a Fetch. The parts of a Bind's body are bind_resource, parameters, context and
+        predecessor_binding_id. The texts go to the buffer one after the other, in the order of struct
+        osb_binding_received, and the length of all to *needed.""",
         "OSB_DONE, OSB_NOT_UTF8 (prefix or method), OSB_REFUSED_TARGET, OSB_REFUSED_METHOD, OSB_REFUSED_INSTANCE, "
         "OSB_REFUSED_BINDING, OSB_REFUSED_LENGTH, and the first of OSB_REFUSED_REPEATED to OSB_REFUSED_BODY in the "
         "order of docs/binding.md, OSB_TOO_SMALL, OSB_MEMORY.",
@@ -974,7 +911,7 @@ INTERFACE: list[Part] = [
         """Writes the target of a request of a binding with the texts of its ids, escaped as a path and a query need it.
         The request's id is the binding's. Each text must be that of the request's id, or of instance_id, so no other
         binding is asked for. With is_fetch it is the target of a Fetch of the request's binding, whose kind,
-        accepts_incomplete and operation count for nothing. The rest is as in osb_write_target.""",
+        accepts_incomplete and operation count for nothing. The rest is as in osb_write_named_target.""",
         "OSB_DONE, OSB_NOT_UTF8 (prefix, any text, or an operation that counts), OSB_BAD_KIND, OSB_NOT_INSTANCE_TEXT, "
         "OSB_NOT_BINDING_TEXT, OSB_NOT_SERVICE_TEXT, OSB_NOT_PLAN_TEXT, OSB_TOO_SMALL, OSB_MEMORY.",
     ),

@@ -1,37 +1,39 @@
 """The programs of crates for checks alone: `library_cases`, `refusal_cases` and `service_cases`.
 
-They aren't shipped. `rt ci` builds them, and so does `rt run` in the crate's folder. A test that needs one is skipped
-if it isn't built from the sources as they stand.
+They aren't shipped. `prebuilt/` has them, as built from the crates as they stand.
 """
 
 from __future__ import annotations
 
+import functools
 import os
 import subprocess
 from collections.abc import Callable, Sequence
 from pathlib import Path
 
-import pytest
-
 Tell = Callable[[Sequence[str]], str]
 TOP = Path(__file__).resolve().parent.parent
 
 
+@functools.lru_cache(maxsize=None)
+def folder() -> Path:
+    """The folder that OSB_CASES names, or else the one that `scripts/where` finds or fills."""
+    if named := os.environ.get("OSB_CASES"):
+        return Path(named)
+    where = str(TOP / "scripts" / "where")
+    ran = subprocess.run([where, "cases"], stdin=subprocess.DEVNULL, stdout=subprocess.PIPE, text=True, check=False)
+    if ran.returncode != 0:
+        raise LookupError(f"`scripts/where cases` ended with status {ran.returncode}")
+    return Path(ran.stdout.strip())
+
+
 def program_of(crate: str) -> Path:
-    """The built program of the crate, below OSB_CRATES if that is set. Skips the test if there is none."""
-    crates = Path(os.environ.get("OSB_CRATES") or TOP / "crates")
-    program = crates / crate / "out" / crate
-    if not program.exists():
-        pytest.skip(f"{crate} isn't built: run `rt run` in crates/{crate}, which needs the Rattle kit")
-    built = program.stat().st_mtime
-    parts = ("src", "specs", "proofs")
-    if any(file.stat().st_mtime > built for part in parts for file in crates.glob(f"*/{part}/**/*")):
-        pytest.skip(f"{crate} is older than the sources: run `rt run` in crates/{crate}, which needs the Rattle kit")
-    return program
+    """The built program of the crate."""
+    return folder() / crate
 
 
 def told_by(crate: str) -> Tell:
-    """Tells what the program of the crate writes of some lines. Skips the test if the program isn't built."""
+    """Tells what the program of the crate writes of some lines."""
     program = program_of(crate)
 
     def tell(lines: Sequence[str]) -> str:
@@ -44,6 +46,6 @@ def told_by(crate: str) -> Tell:
 
 
 def cases_of(library: str) -> Tell:
-    """Tells what library_cases writes of some lines of the library. Skips the test if the program isn't built."""
+    """Tells what library_cases writes of some lines of the library."""
     tell = told_by("library_cases")
     return lambda lines: tell((f"of {library}", *lines)).partition("\n")[2]

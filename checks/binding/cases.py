@@ -3,8 +3,8 @@
     PYTHONPATH=checks python3 -m binding.cases stdin
     PYTHONPATH=checks python3 -m binding.cases stdout
 
-write the two files of crates/service_cases: the ways of binding.ways, at a design with all its parts, and a
-short walk. The lines are those of binding.walks, and
+write the two files of crates/service_cases: the first of the ways of binding.ways line by line, each other one in one
+line, and a short walk. test_network.py compares all ways line by line. The lines are those of binding.walks, and
 
     run SIDES: ORDER; ORDER ..: EVENT, EVENT ..
 
@@ -27,8 +27,8 @@ from binding.ways import ALL
 from network.walks import Step
 
 FOLDER = Path(__file__).resolve().parent.parent.parent / "crates" / "service_cases"
-# The walk in the files of the crate.
-SEED, STEPS = 8, 260
+# The walk in the files of the crate: credentials are fetched in it, and taken.
+SEED, STEPS = 1424, 20
 # A Bind that is accepted, and whose answer is taken: the platform gives up a binding that can't be fetched.
 ACCEPTED = ("binding 1 create", "binding 1 arrive 1", "binding 1 end done", "binding 1 take 0")
 
@@ -118,8 +118,9 @@ def written_of(lines: list[str]) -> Iterator[str]:
 
 
 def stdin() -> list[str]:
+    first, *others = of_ways()
+    told = [first, *([name, lines[-1]] for name, *lines in others), *of_unfetched()]
     walk = islice(services(random.Random(SEED), RULES), STEPS)
-    told = [*of_ways(), *of_unfetched()]
     return [*(line for lines in told for line in lines), "# a walk", *(step.line for _, step in walk)]
 
 

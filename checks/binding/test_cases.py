@@ -2,7 +2,7 @@
 
 from __future__ import annotations
 
-from binding.cases import FOLDER, of_unfetched, of_ways, written_of
+from binding.cases import FOLDER, of_unfetched, stdin, written_of
 
 # The events that an instance by itself doesn't have, and rounds without a fault.
 EVENTS = {"settle", "remove", "settle 1", "remove 1", "binding fetch", "binding take-fetched", "binding forget"}
@@ -25,10 +25,8 @@ def test_written() -> None:
     assert list(written_of(lines_of("stdin"))) == lines_of("stdout")
 
 
-def test_ways() -> None:
-    """Each way is there, as it is."""
-    text = "\n".join(lines_of("stdin"))
-    assert not [way[0] for way in (*of_ways(), *of_unfetched()) if "\n".join(way) not in text]
+def test_stdin() -> None:
+    assert stdin() == lines_of("stdin")
 
 
 def test_a_binding_that_cant_be_fetched_is_given_up() -> None:

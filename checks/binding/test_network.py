@@ -11,7 +11,7 @@ import random
 from itertools import islice
 
 import pytest
-from binding.cases import of_ways, rules_of, written, written_of
+from binding.cases import of_unfetched, of_ways, rules_of, written, written_of
 from binding.walks import services
 from crate_programs import Tell, told_by
 from shortest import shortest
@@ -46,7 +46,7 @@ def is_different(tell: Tell, lines: list[str]) -> bool:
 
 
 def test_ways(tell: Tell) -> None:
-    lines = [line for way in of_ways() for line in way]
+    lines = [line for way in (*of_ways(), *of_unfetched()) for line in way]
     compare(tell, lines, list(written_of(lines)))
 
 

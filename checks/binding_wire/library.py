@@ -6,7 +6,6 @@ from collections.abc import Callable
 
 from binding_wire import cases, model
 from osb import Id, OsbError, Refusal, Request, Status, binding_wire, wire
-from osb_tests.support import status_of
 from wire.cases import data, given, split, text, told
 from wire.library import FAULTS, asked, read_answer, refused, words
 
@@ -18,15 +17,11 @@ OF_MODES = {
 
 
 def request(rest: str) -> list[str]:
-    """Both calls that read a request say the same of it."""
     prefix, longest, method, target, body = split(rest, 5)
-    asking = method, data(target), data(body), int(longest), given(prefix) or ""
     try:
-        it = binding_wire.receive_binding_request(*asking)
+        it = binding_wire.receive_binding_request(method, data(target), data(body), int(longest), given(prefix) or "")
     except Refusal as refusal:
-        assert status_of(lambda: binding_wire.read_binding_request(*asking)) == refusal.status
         return refused(refusal)
-    assert binding_wire.read_binding_request(*asking) == it.asked
     kind, _, others = asked(it.asked.asked).partition(" ")
     if it.asked.is_fetch:
         kind, others = "fetch", others.rpartition(" ")[0] + " -"

@@ -12,6 +12,7 @@ import subprocess
 from pathlib import Path
 
 import pytest
+from from_c import cases
 from osb import _header
 
 from api.generate import CALLS, STRUCTS, pascal
@@ -50,10 +51,16 @@ def run(*command: str | Path, environment: dict[str, str] | None = None) -> str:
     return ran.stdout
 
 
+def with_cases(folder: Path) -> list[str]:
+    """How the suite is compiled, once its cases are written into the folder."""
+    cases.write(folder / "cases.h")
+    return [f"-I{folder}"]
+
+
 def compile_c(compiler: str, to: Path, library: Path, *arguments: str | Path) -> Path:
     """A program in C over the archive, without any warning."""
     options = ["-std=c99", "-Wall", "-Wextra", "-pedantic", "-Werror", "-Iinclude"]
-    options += WRAPPED if SOURCES["suite"] in arguments else []
+    options += [*WRAPPED, *with_cases(to.parent)] if SOURCES["suite"] in arguments else []
     run(needs(compiler), *options, *arguments, "-o", to, library / "libosb.a")
     return to
 
@@ -125,7 +132,7 @@ def test_128_kib_of_stack_are_enough(library: Path, tmp_path: Path) -> None:
 def test_the_suite_finds_each_export_that_does_nothing(library: Path, tmp_path: Path) -> None:
     """Each export in turn is replaced by a function that returns 0 and writes nothing."""
     suite, nothing = tmp_path / "suite.o", tmp_path / "nothing.o"
-    run("gcc", "-std=c99", "-Iinclude", "-c", SOURCES["suite"], "-o", suite)
+    run("gcc", "-std=c99", "-Iinclude", *with_cases(tmp_path), "-c", SOURCES["suite"], "-o", suite)
     bodies = "".join(f"unsigned __wrap_{name}(void) {{ return 0; }}\n" for name in EXPORTS)
     (tmp_path / "nothing.c").write_text(bodies, encoding="utf-8")
     run("gcc", "-c", tmp_path / "nothing.c", "-o", nothing)

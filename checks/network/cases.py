@@ -39,11 +39,11 @@ def run_alone(rest: str) -> Alone:
 
 
 def of_network(lines: Iterable[str]) -> Iterator[Step]:
-    """Each line, with what stands behind it. Those of `instances` are left out."""
+    """Each line, with what stands behind it. Those of `instances` and `arrivals` are left out."""
     walk: Walk | Alone | None = None
     for line in lines:
         word, _, rest = line.partition(" ")
-        if word == "instances":
+        if word in ("instances", "arrivals"):
             continue
         if word == "many":
             yield Step(line, many(line))

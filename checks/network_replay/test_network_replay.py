@@ -15,9 +15,9 @@ from network_replay.reference import HEADER, report, trace
 from network_replay.schedules import FAULTS, filled, guid, schedule
 from replay.running import Ran, run
 from shortest import shortest
-from whole import WHOLE
+from whole import ANEW, WHOLE
 
-SCHEDULES = (10_000 if WHOLE else 1000) * max(int(os.environ.get("OSB_EXAMPLES", "0")), 1)
+SCHEDULES = (10_000 if ANEW else 2000 if WHOLE else 1000) * max(int(os.environ.get("OSB_EXAMPLES", "0")), 1)
 CHUNK = 125
 ID, OTHER = guid(1), guid(2)
 

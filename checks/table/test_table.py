@@ -9,7 +9,7 @@ from table import crates
 
 from api.generate import CALLS, STRUCTS, files
 from api.model import Enum
-from api.table import INTERFACE, REMOVED, STATUS, VERSION
+from api.table import INTERFACE, REMOVED, REMOVED_CALLS, STATUS, VERSION
 
 TOP = Path(__file__).resolve().parents[2]
 
@@ -56,6 +56,10 @@ def test_each_number_has_one_meaning() -> None:
         for column in zip(*((it.number, it.name, it.means) for it in enum.values)):
             assert len(column) == len(set(column)), enum.name
     assert not {it.number for it in STATUS.values} & set(REMOVED), "a status that was removed had this number"
+
+
+def test_no_call_has_the_name_of_one_that_is_gone() -> None:
+    assert not {it.name for it in CALLS} & set(REMOVED_CALLS)
 
 
 def test_both_packages_call_each_export() -> None:

@@ -5,7 +5,6 @@ from __future__ import annotations
 from collections.abc import Callable
 
 from osb import Answer, Body, Endpoints, Id, Kind, OsbError, Plan, Refusal, Request, Status, wire
-from osb_tests.support import status_of
 from wire import cases
 from wire.cases import LETTERS, data, given, split, text, told
 
@@ -89,15 +88,11 @@ def number(rest: str) -> list[str]:
 
 
 def request(rest: str) -> list[str]:
-    """Both calls that read a request say the same of it."""
     prefix, longest, method, target, body = split(rest, 5)
-    asking = method, data(target), data(body), int(longest), given(prefix) or ""
     try:
-        it = wire.receive_request(*asking)
+        it = wire.receive_request(method, data(target), data(body), int(longest), given(prefix) or "")
     except Refusal as refusal:
-        assert status_of(lambda: wire.read_request(*asking)) == refusal.status
         return refused(refusal)
-    assert wire.read_request(*asking) == it.asked
     texts = [("instance", it.instance), ("service", it.service), ("plan", it.plan)]
     parts = [(name, getattr(it.parts, name)) for name in ("parameters", "context", "maintenance_info", "others")]
     return [asked(it.asked), *(told(name, found) for name, found in texts + parts)]

@@ -1,7 +1,7 @@
 """Compares what the library reads and writes with Python's json, urllib, base64 and hashlib, of instances and bindings.
 
-Each test takes whole texts that hypothesis makes, and of each some others with an edit or two. In ./check it takes a
-hundred times as many of bindings: 100,000 requests, and as many bodies.
+Each test takes whole texts that hypothesis makes, and of each some others with an edit or two. In ./check it takes ten
+times as many of bindings, and in ./check --anew a hundred times: 100,000 requests, and as many bodies.
 
 OSB_EXAMPLES=100 compares a hundred times as many in `make test`, too, drawn at random (checks/generated.py).
 """
@@ -17,9 +17,9 @@ import wire.library
 import wire.lines
 from generated import examples
 from hypothesis import given
-from whole import WHOLE
+from whole import ANEW, WHOLE
 
-TIMES = 100 if WHOLE else 1
+TIMES = 100 if ANEW else 10 if WHOLE else 1
 """How many times as many examples are taken of bindings."""
 
 READERS = {
@@ -28,7 +28,7 @@ READERS = {
 }
 LINES = [pytest.param("instances", *it, id=what) for what, it in wire.lines.LINES.items()]
 LINES += [
-    pytest.param("bindings", lines, TIMES * count, id=f"of bindings: {what}", marks=pytest.mark.long(100))
+    pytest.param("bindings", lines, TIMES * count, id=f"of bindings: {what}", marks=pytest.mark.long(20))
     for what, (lines, count) in binding_wire.lines.LINES.items()
 ]
 

@@ -16,11 +16,15 @@ static void store(const struct osb_record *record)
 /* Stands for a request to the broker, by an HTTP library. */
 static void request_by_http(const struct osb_request *request)
 {
-    uint8_t method[6] = {0}, target[250] = {0};
+    uint8_t method[6] = {0}, target[250] = {0}, instance[36] = {0}, service[36] = {0}, plan[36] = {0};
     size_t method_length = 0, length = 0;
+    /* The texts of these ids are GUIDs in lower case. */
+    osb_id_to_text(request->id, instance);
+    osb_id_to_text(request->service, service);
+    osb_id_to_text(request->plan, plan);
     if (osb_write_method(request->kind, method, sizeof method, &method_length) == OSB_DONE
-        && osb_write_target((const uint8_t *)"", 0, request, false, (const uint8_t *)"", 0, target, sizeof target,
-                            &length)
+        && osb_write_named_target((const uint8_t *)"", 0, request, instance, 36, service, 36, plan, 36, false,
+                                  (const uint8_t *)"", 0, target, sizeof target, &length)
             == OSB_DONE)
         printf("sent   %.*s %.*s\n", (int)method_length, (const char *)method, (int)length, (const char *)target);
 }

@@ -91,21 +91,24 @@ static struct given handle(struct story *story, const struct sent *sent)
 {
     const struct osb_broker_row row = story->holding.row;
     struct osb_asked asked = {0};
+    struct osb_received received = {0};
     struct osb_request request = {0};
     struct osb_begun begun = {0};
     struct given given = {0};
+    struct text texts = {0};
 
-    done(osb_read_request((const uint8_t *)"", 0, 1000, sent->method.bytes, sent->method.length, sent->target.bytes,
-                          sent->target.length, sent->body.bytes, sent->body.length, &asked),
-         "osb_read_request");
+    done(osb_receive_request((const uint8_t *)"", 0, 1000, sent->method.bytes, sent->method.length, sent->target.bytes,
+                             sent->target.length, sent->body.bytes, sent->body.length, &asked, &received, texts.bytes,
+                             sizeof texts.bytes, &texts.length),
+         "osb_receive_request");
     done(osb_asked_request(&asked, story->holding.has_row, row.service, row.plan, &request), "osb_asked_request");
     done(osb_holding_begin(&story->holding, MODE, false, &request, no_attributes, &begun), "osb_holding_begin");
     if (begun.work != OSB_WORK_NONE)
         begun.answer = work(story, begun.work);
     given.status = begun.answer.status;
-    done(osb_write_answer(begun.answer, false, (const uint8_t *)"", 0, given.body.bytes, sizeof given.body.bytes,
-                          &given.body.length),
-         "osb_write_answer");
+    done(osb_write_told_answer(begun.answer, false, (const uint8_t *)"", 0, false, (const uint8_t *)"", 0,
+                               given.body.bytes, sizeof given.body.bytes, &given.body.length),
+         "osb_write_told_answer");
     return given;
 }
 
@@ -116,16 +119,21 @@ static struct sent send(const struct story *story, const struct osb_request *req
 {
     static const uint8_t nothing[] = "", guid[] = "guid", no_members[] = "{}";
     struct sent sent = {0};
+    uint8_t id[36] = {0}, of_service[36] = {0}, of_plan[36] = {0};
     char what[16];
 
+    /* The texts of these ids are GUIDs in lower case. */
+    osb_id_to_text(request->id, id);
+    osb_id_to_text(request->service, of_service);
+    osb_id_to_text(request->plan, of_plan);
     done(osb_write_method(request->kind, sent.method.bytes, sizeof sent.method.bytes, &sent.method.length),
          "osb_write_method");
-    done(osb_write_target(nothing, 0, request, false, nothing, 0, sent.target.bytes, sizeof sent.target.bytes,
-                          &sent.target.length),
-         "osb_write_target");
-    done(osb_write_body(request, guid, 4, guid, 4, no_members, 2, sent.body.bytes, sizeof sent.body.bytes,
-                        &sent.body.length),
-         "osb_write_body");
+    done(osb_write_named_target(nothing, 0, request, id, 36, of_service, 36, of_plan, 36, false, nothing, 0,
+                                sent.target.bytes, sizeof sent.target.bytes, &sent.target.length),
+         "osb_write_named_target");
+    done(osb_write_named_body(request->kind, of_service, 36, of_plan, 36, guid, 4, guid, 4, no_members, 2,
+                              sent.body.bytes, sizeof sent.body.bytes, &sent.body.length),
+         "osb_write_named_body");
     snprintf(what, sizeof what, "sends %.*s", (int)sent.method.length, (const char *)sent.method.bytes);
     step(story, "platform", what);
     return sent;

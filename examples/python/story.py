@@ -6,7 +6,15 @@ find it.
 from __future__ import annotations
 
 from osb import Answer, Holding, Id, Mode, Outcome, Record, Request, Work
-from osb.wire import read_answer, read_request, write_answer, write_body, write_method, write_target
+from osb.wire import (
+    Names,
+    read_answer,
+    receive_request,
+    write_answer,
+    write_method,
+    write_named_body,
+    write_named_target,
+)
 
 SERVICE = Id.of("00000000-0000-0000-0000-0000000000a0")
 PLAN = Id.of("00000000-0000-0000-0000-0000000000b1")
@@ -44,15 +52,16 @@ class Story:
 
     def send(self, request: Request) -> Sent:
         """Writes a request. Its record is stored before the request is sent."""
-        method, target = write_method(request.kind), write_target(request)
+        names = Names(str(request.id), str(request.service), str(request.plan))
+        method, target = write_method(request.kind), write_named_target(request, names)
         self.step("platform", f"sends {method}")
-        return method, target.encode(), write_body(request, "an organization", "a space")
+        return method, target.encode(), write_named_body(request.kind, names, "an organization", "a space")
 
     def handle(self, sent: Sent) -> Given:
         """The broker: the work that is due is stored before it begins, and its end before the answer is sent."""
         method, target, body = sent
         row = self.holding.row
-        asked = read_request(method, target, body, 1000)
+        asked = receive_request(method, target, body, 1000).asked
         request = asked.request(None if row is None else (row.service, row.plan))
         self.holding, begun = self.holding.begin(MODE, request)
         if isinstance(begun, Answer):

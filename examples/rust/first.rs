@@ -61,10 +61,17 @@ mod osb {
         fn osb_record_timeout(record: *mut Record, attempt: u64) -> u32;
         fn osb_record_to_text(record: *const Record, buffer: *mut u8, bytes: usize, needed: *mut usize) -> u32;
         fn osb_write_method(kind: u8, buffer: *mut u8, bytes: usize, needed: *mut usize) -> u32;
-        fn osb_write_target(
+        fn osb_id_to_text(id: Id, text: *mut u8);
+        fn osb_write_named_target(
             prefix: *const u8,
             prefix_length: usize,
             request: *const Request,
+            instance: *const u8,
+            instance_length: usize,
+            service: *const u8,
+            service_length: usize,
+            plan: *const u8,
+            plan_length: usize,
             has_operation: bool,
             operation: *const u8,
             operation_length: usize,
@@ -126,10 +133,21 @@ mod osb {
         written(|buffer, bytes, needed| unsafe { osb_write_method(kind, buffer, bytes, needed) })
     }
 
+    /// The text of an id that is a GUID in lower case.
+    fn guid(id: Id) -> [u8; 36] {
+        let mut text = [0; 36];
+        unsafe { osb_id_to_text(id, text.as_mut_ptr()) };
+        text
+    }
+
     pub fn write_target(request: &Request) -> Result<String, Status> {
-        let none = b"";
+        let none = b"".as_ptr();
+        let (id, service, plan) = (guid(request.id), guid(request.service), guid(request.plan));
+        let (id, service, plan) = (id.as_ptr(), service.as_ptr(), plan.as_ptr());
         written(|buffer, bytes, needed| unsafe {
-            osb_write_target(none.as_ptr(), 0, request, false, none.as_ptr(), 0, buffer, bytes, needed)
+            osb_write_named_target(
+                none, 0, request, id, 36, service, 36, plan, 36, false, none, 0, buffer, bytes, needed,
+            )
         })
     }
 

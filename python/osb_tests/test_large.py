@@ -9,7 +9,7 @@ import base64
 import hashlib
 import json
 from typing import Any
-from urllib.parse import parse_qs, quote, unquote
+from urllib.parse import parse_qs, quote
 
 import pytest
 from osb import (
@@ -34,7 +34,6 @@ from osb.binding_wire import (
     bindings_retrievable,
     check_binding,
     read_binding,
-    read_binding_request,
     read_fetched,
     receive_binding_request,
     requires_app,
@@ -45,7 +44,6 @@ from osb.binding_wire import (
 from osb.wire import (
     Details,
     Names,
-    asked_operation,
     attributes_digest,
     basic_auth,
     catalogue_plans,
@@ -57,17 +55,13 @@ from osb.wire import (
     plan_version,
     read_answer,
     read_details,
-    read_operation,
-    read_request,
     receive_request,
     served_catalogue,
     write_answer,
-    write_body,
     write_named_body,
     write_named_target,
-    write_target,
 )
-from osb_tests.support import ASYNC, ONE, SERVICE, SYNC, TWO, authorization, request, status_of
+from osb_tests.support import ASYNC, ONE, SERVICE, SYNC, TWO, authorization, guids, request, status_of
 
 OPERATION = "a" * 10_000
 LONG = "\u00e9" * 1_000_000  # 2 MB
@@ -134,13 +128,6 @@ def test_a_string_of_two_megabytes_is_read() -> None:
     assert read_answer(Kind.PROVISION, 202, body) == Answer(202, Body.EMPTY)
 
 
-def test_an_operation_of_10000_characters_goes_into_a_target_and_back() -> None:
-    assert read_operation(json.dumps({"operation": OPERATION}).encode()) == OPERATION
-    target = write_target(request(Kind.POLL), OPERATION)
-    assert len(target) == len(write_target(request(Kind.POLL), "a")) + 9_999
-    assert asked_operation(target.encode()) == OPERATION
-
-
 def test_blanks_around_a_text_of_one_instance_change_nothing() -> None:
     record = Record(SERVICE, SYNC, 7, State.READY, None)
     assert Record.from_text(BLANKS + record.to_text() + BLANKS) == record
@@ -173,7 +160,8 @@ def test_the_largest_numbers_are_written() -> None:
 
 def test_17_further_members_of_a_body_are_written() -> None:
     further = {f"member{number}": number for number in range(17)}
-    body = write_body(request(Kind.PROVISION), "organization", "space", json.dumps(further))
+    names = guids(request(Kind.PROVISION))
+    body = write_named_body(Kind.PROVISION, names, "organization", "space", json.dumps(further))
     written = json.loads(body)
     assert {name: written.pop(name) for name in further} == further
     assert sorted(written) == ["organization_guid", "plan_id", "service_id", "space_guid"]
@@ -182,14 +170,14 @@ def test_17_further_members_of_a_body_are_written() -> None:
 @pytest.mark.parametrize("depth", [126, 127, 128])
 def test_further_members_that_nest_too_deep_are_refused(depth: int) -> None:
     """The text of the further members is itself JSON, which is read up to a depth of 127, the object included."""
-    further = '{"parameters":' + "[" * depth + "]" * depth + "}"
+    further, names = '{"parameters":' + "[" * depth + "]" * depth + "}", guids(request(Kind.PROVISION))
     if depth > 126:
         with pytest.raises(OsbError) as refused:
-            write_body(request(Kind.PROVISION), "organization", "space", further)
+            write_named_body(Kind.PROVISION, names, "organization", "space", further)
         assert refused.value.status == Status.NOT_JSON
         return
-    body = write_body(request(Kind.PROVISION), "organization", "space", further)
-    asked = read_request("PUT", f"/v2/service_instances/{ONE}".encode(), body, len(body))
+    body = write_named_body(Kind.PROVISION, names, "organization", "space", further)
+    asked = receive_request("PUT", f"/v2/service_instances/{ONE}".encode(), body, len(body)).asked
     assert (asked.kind, asked.service) == (Kind.PROVISION, SERVICE)
 
 
@@ -229,7 +217,6 @@ def test_long_texts_go_into_a_target() -> None:
     assert path == f"{prefix}/v2/service_instances/{escaped}/last_operation"
     ids = {"service_id": [LONGEST_ID], "plan_id": [LONGEST_ID], "accepts_incomplete": ["true"]}
     assert parse_qs(query) == ids | {"operation": [LONG]}
-    assert asked_operation(target.encode()) == LONG
     target = write_binding_target(asked, asked.id, LONG_BINDING, LONG, prefix)
     path, _, query = target.partition("?")
     assert path == f"{prefix}/v2/service_instances/{escaped}/service_bindings/{escaped}/last_operation"
@@ -238,14 +225,11 @@ def test_long_texts_go_into_a_target() -> None:
     path, _, query = target.partition("?")
     assert path == f"{prefix}/v2/service_instances/{escaped}/service_bindings/{escaped}"
     assert parse_qs(query) == {"service_id": [LONGEST_ID], "plan_id": [LONGEST_ID]}
-    assert unquote(write_target(request(Kind.POLL), LONG)).endswith(f"&operation={LONG}")
 
 
 def test_long_members_go_into_a_body() -> None:
     further = compact(FURTHER).decode()
-    guids = {"service_id": str(SERVICE), "plan_id": str(SYNC)}
     of_space = {"organization_guid": LONG, "space_guid": LONG}
-    assert write_body(request(Kind.PROVISION), LONG, LONG, further) == compact(FURTHER | guids | of_space)
     ids = {"service_id": LONGEST_ID, "plan_id": LONGEST_ID}
     written = write_named_body(Kind.PROVISION, LONG_NAMES, LONG, LONG, further)
     assert written == compact(FURTHER | ids | of_space)
@@ -261,7 +245,6 @@ def test_a_long_provision_is_read() -> None:
     body = compact({**MEMBERS, **parts, **of_space, "service_id": LONGEST_ID, "plan_id": LONGEST_ID})
     target = f"/v2/service_instances/{quote(LONGEST_ID, safe='')}?other={quote(LONG)}".encode()
     received = receive_request("PUT", target, body, len(body))
-    assert read_request("PUT", target, body, len(body)) == received.asked
     assert (received.asked.kind, received.asked.service) == (Kind.PROVISION, Id.of_text(LONGEST_ID))
     assert (received.instance, received.service, received.plan) == (LONGEST_ID, LONGEST_ID, LONGEST_ID)
     assert received.parts.context == received.parts.parameters == compact({"long": LONG}).decode()
@@ -275,7 +258,6 @@ def test_a_long_bind_is_read() -> None:
     escaped = quote(LONGEST_ID, safe="")
     target = f"/v2/service_instances/{escaped}/service_bindings/{escaped}?other={quote(LONG)}".encode()
     received = receive_binding_request("PUT", target, body, len(body))
-    assert read_binding_request("PUT", target, body, len(body)) == received.asked
     assert (received.instance, received.binding) == (LONGEST_ID, LONGEST_ID)
     assert (received.service, received.plan) == (LONGEST_ID, LONGEST_ID)
     assert received.parts.context == received.parts.parameters == compact({"long": LONG}).decode()
@@ -290,10 +272,8 @@ def test_a_query_of_many_parameters_is_read(method: str, kind: Kind) -> None:
     query = f"?{more}service_id={SERVICE}&plan_id={SYNC}&accepts_incomplete=true&operation={quote(LONG)}"
     last = "/last_operation" if kind == Kind.POLL else ""
     target = f"/v2/service_instances/{ONE}{last}{query}".encode()
-    asked = read_request(method, target, b"", 0)
-    assert (asked.kind, asked.service, asked.plan) == (kind, SERVICE, SYNC)
-    assert asked_operation(target) == LONG
     received = receive_request(method, target, b"", 0)
+    assert (received.asked.kind, received.asked.service, received.asked.plan) == (kind, SERVICE, SYNC)
     assert (received.service, received.plan) == (str(SERVICE), str(SYNC))
     target = f"/v2/service_instances/{ONE}/service_bindings/{TWO}{last}{query}".encode()
     binding = receive_binding_request(method, target, b"", 0)

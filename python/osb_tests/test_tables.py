@@ -1,4 +1,4 @@
-"""What test_rules.py leaves of the platform's tables, the library's version, and libraries that can't be loaded."""
+"""The status of an answer, the library's version, and libraries that can't be loaded."""
 from __future__ import annotations
 
 import os
@@ -6,17 +6,11 @@ import subprocess
 import sys
 import unittest
 
-from osb import Answer, Body, Kind, State, __version__, version
-from osb.tables import decide_restart, decide_timeout, well_formed
+from osb import Answer, Body, __version__, version
 
 
-class Tables(unittest.TestCase):
-    def test_tables(self) -> None:
-        self.assertTrue(well_formed(Kind.POLL, Answer(200, Body.SUCCEEDED)))
-        self.assertFalse(well_formed(Kind.PROVISION, Answer(200, Body.SUCCEEDED)))
-        self.assertEqual(
-            (decide_timeout(State.WANTED), decide_restart(State.UNSETTLED)), (State.CLEANING, State.UNSETTLED)
-        )
+class Numbers(unittest.TestCase):
+    def test_status(self) -> None:
         self.assertRaises(ValueError, Answer, 2**16 + 200, Body.EMPTY)
 
     def test_version(self) -> None:

@@ -4,7 +4,9 @@
 //! written as they are.
 #![tactic(auto)]
 
+mod binding_wire;
 mod broker;
+mod faults;
 mod instance;
 mod language;
 mod message;
@@ -12,6 +14,7 @@ mod network;
 mod platform;
 mod wire;
 mod words;
+mod world;
 
 use anyhow::Result;
 use osb_platform::Platform;
@@ -19,18 +22,23 @@ use osb_platform::Platform;
 // Whose cases follow.
 #[derive(Clone, Copy)]
 enum Library {
+    BindingWire,
     Broker,
+    Faults,
     Instance,
     Language,
     Message,
     Network,
     Platform,
     Wire,
+    World,
 }
 
 // The library of this name.
 fn named(name: &str) -> Result<Library> {
     match name {
+        "osb_binding" | "osb_device" | "osb_words" => Ok(Library::Faults),
+        "osb_binding_wire" => Ok(Library::BindingWire),
         "osb_broker" => Ok(Library::Broker),
         "osb_instance" => Ok(Library::Instance),
         "osb_language" => Ok(Library::Language),
@@ -38,6 +46,7 @@ fn named(name: &str) -> Result<Library> {
         "osb_network" => Ok(Library::Network),
         "osb_platform" => Ok(Library::Platform),
         "osb_wire" => Ok(Library::Wire),
+        "osb_world" => Ok(Library::World),
         _ => anyhow::bail!("no such library: {name}"),
     }
 }
@@ -57,13 +66,16 @@ fn main(rt: HostRuntime) -> Result<()> {
         } else {
             print!(rt; "{text}")?;
             match of {
+                Library::BindingWire => binding_wire::tell(&rt, rt.alloc(), text)?,
                 Library::Broker => broker::tell(&rt, rt.alloc(), text)?,
+                Library::Faults => faults::tell(&rt, rt.alloc(), text)?,
                 Library::Instance => instance::tell(&rt, text)?,
                 Library::Language => language::tell(&rt, text)?,
                 Library::Message => message::tell(&rt, rt.alloc(), text)?,
                 Library::Network => begun = network::tell(&rt, rt.alloc(), begun, text)?,
                 Library::Platform => platform::tell(&rt, rt.alloc(), &mut platform, text)?,
                 Library::Wire => wire::tell(&rt, rt.alloc(), text)?,
+                Library::World => world::tell(&rt, rt.alloc(), text)?,
             }
         }
     }

@@ -2,9 +2,10 @@
 //! `sync`, `async`, or `-` for a plan that isn't on sale, and with the rule of the first Poll or without. Each further
 //! line is an event that happens to it, or `settle`. A line `many MODE accepts|refuses first-poll|-: ID EVENT, ..` has
 //! three instances, with the ids 1 to 3, and lets a list of events happen to them. A line `instances COUNT` has as
-//! many, and asks how many exist. A line `alone MODE MODE first-poll|-` begins an instance at a broker alone
-//! (`network/alone.rt`). A line `run-alone MODE MODE first-poll|-: EVENT, ..` lets a list of events happen to one.
-//! Behind each line stands what has become of the event, and all that exists then.
+//! many, and asks how many exist. A line `arrivals COUNT` lets as many events happen to an instance in one call. A line
+//! `alone MODE MODE first-poll|-` begins an instance at a broker alone (`network/alone.rt`). A line `run-alone MODE MODE
+//! first-poll|-: EVENT, ..` lets a list of events happen to one. Behind each line stands what has become of the event, and
+//! all that exists then.
 //!
 //! What exists: the platform's record, as its state, the kind of the request that is out, and the number of the latest
 //! request; the broker's holding, as its row's phase, the kind of the pending work, and its tombstone; the resource;
@@ -89,6 +90,10 @@ pub(crate) fn tell(rt: &impl Print, alloc: Global, begun: Begun, line: &str) -> 
     }
     if let Some(count) = line.strip_prefix("instances ") {
         many::large(rt, alloc, count)?;
+        return Ok(begun);
+    }
+    if let Some(count) = line.strip_prefix("arrivals ") {
+        many::arrivals(rt, alloc, count)?;
         return Ok(begun);
     }
     if let Some(words) = line.strip_prefix("order ") {

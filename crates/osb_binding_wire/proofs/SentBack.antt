@@ -12,12 +12,13 @@ use Rattle.osb_wire.specs.Asking.{asked_by}
 use Rattle.osb_wire.specs.Bodies.{and_then}
 use Rattle.osb_wire.specs.IdTexts.{number_of}
 use Rattle.osb_wire.specs.Paths.{segment_of, segment_text, is_dots}
+use Rattle.osb_wire.specs.Requests.{text_under}
 use Rattle.osb_wire.specs.Targets as targets
 use Rattle.osb_wire.specs.Targets.{Parameter, AreUtf8, IsTextIfAny, query_of, parameters_of, parameters_in, parameters_of_target, operation_asked, value_in, method_of}
 use Rattle.osb_wire.proofs.IdBytes.{short_id}
 use Rattle.osb_wire.proofs.Paths as paths
 use Rattle.osb_wire.proofs.Paths.{segment_back}
-use Rattle.osb_wire.proofs.RequestsBack.{parameters, asked, within, same_request}
+use Rattle.osb_wire.proofs.RequestsBack.{parameters, asked, within, same_request, TextsAre, texts_in_query}
 use Rattle.osb_wire.proofs.TargetsBack.{path_back, query_back, parameters_back, operation_back}
 use Rattle.osb_binding_wire.specs.Asking.{binding_request, request_of, asked_of, fetch_of}
 use Rattle.osb_binding_wire.specs.Binds.{Names}
@@ -77,6 +78,13 @@ module _ (prefix : List ℕ) (r : Request) (last : Bool) (t : Texts) (operation 
   pub operation_comes_back : operation_asked target ≡ Ok operation
   operation_comes_back =
       ap (value_in (codes "operation")) same_parameters ∙ operation_back [] r (life_texts t) operation (All-nil (λ b. b ≢ 63)) utf8 text
+
+  pub texts_come_back : (body : List ℕ) → r.kind ≢ Provision → TextsAre r.kind target body t.service t.plan
+  texts_come_back body other =
+      let alone = texts_in_query [] r (life_texts t) operation (All-nil (λ b. b ≢ 63)) text utf8 body other in (
+        ap (λ ps. text_under (codes "service_id") r.kind ps body) same_parameters ∙ alone.0,
+        ap (λ ps. text_under (codes "plan_id") r.kind ps body) same_parameters ∙ alone.1,
+      )
 
   module _ (i b : ℕ) (instance_utf8 : IsTextIfAny (Some t.instance)) (is_instance : number_of t.instance ≡ Some i) (is_binding : number_of t.binding ≡ Some b) (no_dots : is_dots t.instance ≡ false) (no_binding_dots : is_dots t.binding ≡ false) where
     reads_instance : segment_text (segment_of t.instance) ≡ Some t.instance

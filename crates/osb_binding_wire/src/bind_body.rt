@@ -4,6 +4,7 @@ ghost use Rattle.serde_json.specs.Data.{object, depth};
 ghost use Rattle.serde_json.specs.Find.{get, get_member};
 ghost use Rattle.serde_json.specs.Read.{read, max_depth};
 ghost use Rattle.serde_json.specs.View.{view, members_view};
+ghost use Rattle.serde_json.specs.Written.{IsInOrder};
 ghost use Rattle.osb_json.specs.Members.{text_at};
 ghost use Rattle.osb_wire.specs.Bodies.{object_in};
 ghost use Rattle.osb_wire.specs.IdTexts.{number_of};
@@ -82,6 +83,8 @@ pub(crate) fn write_bind(
         → depth (object (members_view further.entries)) ≤ max_depth
         → IfOk result (λ text. option_and_then (get name) (read (string_bytes text))
         ≡ get_member name (members_view further.entries)) }
+    ensures order { IfOk result (λ text. IsInOrder (string_bytes text)
+        (object (binds.members_with service.now plan.now (members_view further.entries)))) }
 {
     let value = bind_value(alloc, service, plan, further)?;
     let text = value.to_string(alloc)?;

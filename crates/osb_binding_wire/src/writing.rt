@@ -5,11 +5,13 @@ ghost use Rattle.serde_json.specs.Data.{object, depth};
 ghost use Rattle.serde_json.specs.Find.{get, get_member};
 ghost use Rattle.serde_json.specs.Read.{read, max_depth};
 ghost use Rattle.serde_json.specs.View.{members_view};
+ghost use Rattle.serde_json.specs.Written.{IsInOrder};
 ghost use Rattle.osb_json.specs.Members.{text_at};
 ghost use Rattle.osb_message.specs.declared.messages.Kind.TheVariants as Kind;
 ghost use Rattle.osb_wire.specs.Bodies.{object_in};
 ghost use Rattle.osb_wire.specs.IdTexts.{number_of};
 ghost use Rattle.osb_wire.specs.Paths as paths;
+ghost use Rattle.osb_wire.specs.Requests.{service_text, plan_text};
 ghost use Rattle.osb_wire.specs.Targets as targets;
 ghost use Rattle.osb_binding_wire.specs.Asking as asking;
 ghost use Rattle.osb_binding_wire.specs.Binds as binds;
@@ -140,6 +142,9 @@ pub fn write_binding_target(
         requests.instance_text_in prefix.now (string_bytes text) ≡ Some names.now.instance.now) }
     ensures binding { All (λ b. b ≢ 63) prefix.now → IfOk result (λ text.
         requests.binding_text_in prefix.now (string_bytes text) ≡ Some names.now.binding.now) }
+    ensures texts { (body : List ℕ) → All (λ b. b ≢ 63) prefix.now → request.now.kind ≢ Kind.Provision
+        → IfOk result (λ text. (service_text request.now.kind (string_bytes text) body ≡ Some names.now.service.now)
+        × (plan_text request.now.kind (string_bytes text) body ≡ Some names.now.plan.now)) }
     ensures operation { All (λ b. b ≢ 63) prefix.now → IfOk result (λ text.
         targets.operation_asked (string_bytes text)
         ≡ Ok (option_map (λ text. text.now) operation.entry)) }
@@ -192,6 +197,8 @@ pub fn write_binding_body(
         → depth (object (members_view further.entries)) ≤ max_depth
         → IfOk result (λ text. option_and_then (get name) (read (string_bytes text))
         ≡ get_member name (members_view further.entries)) }
+    ensures order { kind ≡ Kind.Provision → IfOk result (λ text. IsInOrder (string_bytes text)
+        (object (binds.members_with names.now.service.now names.now.plan.now (members_view further.entries)))) }
 {
     match kind {
         Kind::Provision => write_bind(alloc, names.service, names.plan, further),
@@ -207,8 +214,9 @@ pub fn write_binding_body(
 /// and the further members are passed over.
 ///
 /// [`read_binding_request`](crate::read_binding_request) with the same prefix gives this request and these texts back,
-/// where the further members as an object nest at most 127 deep. Deeper ones are written, and rejected by the broker
-/// that reads them. Sections Binding, Unbinding and Polling Last Operation for Service Bindings.
+/// where the further members as an object nest at most 127 deep. Deeper ones are written all the same, each member once
+/// and in order, and rejected by the broker that reads them. Sections Binding, Unbinding and Polling Last Operation for
+/// Service Bindings.
 ///
 /// # Errors
 ///
@@ -236,6 +244,8 @@ pub fn write_binding_request(
         → depth (object (members_view further.entries)) ≤ max_depth
         → IfOk result (λ sent. option_and_then (get name) (read (string_bytes sent.body))
         ≡ get_member name (members_view further.entries)) }
+    ensures order { request.now.kind ≡ Kind.Provision → IfOk result (λ sent. IsInOrder (string_bytes sent.body)
+        (object (binds.members_with names.now.service.now names.now.plan.now (members_view further.entries)))) }
     ensures back { (longest : ℕ) → All (λ b. b ≢ 63) prefix.now
         → binds.CanBeRead request.now.kind (members_view further.entries)
         → IfOk result (λ sent. length (string_bytes sent.body) ≤ longest
@@ -247,6 +257,12 @@ pub fn write_binding_request(
         requests.instance_text_in prefix.now (string_bytes sent.target) ≡ Some names.now.instance.now) }
     ensures binding { All (λ b. b ≢ 63) prefix.now → IfOk result (λ sent.
         requests.binding_text_in prefix.now (string_bytes sent.target) ≡ Some names.now.binding.now) }
+    ensures texts { All (λ b. b ≢ 63) prefix.now
+        → binds.CanBeRead request.now.kind (members_view further.entries)
+        → IfOk result (λ sent. (service_text request.now.kind (string_bytes sent.target) (string_bytes sent.body)
+        ≡ Some names.now.service.now)
+        × (plan_text request.now.kind (string_bytes sent.target) (string_bytes sent.body)
+        ≡ Some names.now.plan.now)) }
     ensures operation { All (λ b. b ≢ 63) prefix.now → IfOk result (λ sent.
         targets.operation_asked (string_bytes sent.target)
         ≡ Ok (option_map (λ text. text.now) operation.entry)) }
@@ -273,7 +289,7 @@ pub fn write_binding_request(
 /// The method, the target and the body of a Fetch of a request's binding, with its service and its plan in the query
 /// (section Fetching a Service Binding). The kind of the request and `accepts_incomplete` are passed over. The prefix
 /// and the texts are as those of [`write_binding_request`], and [`read_binding_request`](crate::read_binding_request)
-/// with the same prefix gives the ids back.
+/// with the same prefix gives the ids and their texts back.
 ///
 /// # Errors
 ///
@@ -296,6 +312,9 @@ pub fn write_fetch(
         requests.instance_text_in prefix.now (string_bytes sent.target) ≡ Some names.now.instance.now) }
     ensures binding { All (λ b. b ≢ 63) prefix.now → IfOk result (λ sent.
         requests.binding_text_in prefix.now (string_bytes sent.target) ≡ Some names.now.binding.now) }
+    ensures texts { (body : List ℕ) → All (λ b. b ≢ 63) prefix.now → IfOk result (λ sent.
+        (service_text Kind.Poll (string_bytes sent.target) body ≡ Some names.now.service.now)
+        × (plan_text Kind.Poll (string_bytes sent.target) body ≡ Some names.now.plan.now)) }
     ensures rejected { (fault : BindingNameFault)
         → naming.names_judged request.now (naming.texts_of names.now) ≡ Err fault → result ≡ Err fault }
     ensures err { IfErr result (λ fault. (fault ≡ BindingNameFault.Memory)

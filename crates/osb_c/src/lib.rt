@@ -1,4 +1,4 @@
-//! Ids, the platform's tables and the version, callable from C.
+//! Ids, two of the platform's tables and the version, callable from C.
 //!
 //! Each export is one call of the crates below, and its contract repeats what that call's contract says, about the
 //! values that cross: an enum crosses as a number, an id as two halves, a text as a pointer and a length. What can fail

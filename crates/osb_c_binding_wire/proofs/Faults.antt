@@ -170,32 +170,24 @@ is_met prefix longest method target body fault which =
     ⊎_elim (λ is. subst IsMet (sym is) tt) (λ is. subst (IsFor IsMet) is (request_met prefix longest method target body)) which
 
 -- one of the statuses with which a request is read
-abbrev pub IsOfReading : ℕ → Type 0
-IsOfReading n =
-    IsTrue (is_one_of
-    (Done ∷ NotUtf8 ∷ RefusedTarget ∷ RefusedMethod ∷ RefusedInstance ∷ RefusedBinding ∷ RefusedLength ∷ RefusedRepeated
-    ∷ RefusedService ∷ RefusedPlan ∷ RefusedAcceptsIncomplete ∷ RefusedBody ∷ Status.Memory ∷ []) n)
-
--- and one of those with which its texts are written too
 abbrev pub IsOfReceiving : ℕ → Type 0
 IsOfReceiving n =
     IsTrue (is_one_of
     (Done ∷ NotUtf8 ∷ RefusedTarget ∷ RefusedMethod ∷ RefusedInstance ∷ RefusedBinding ∷ RefusedLength ∷ RefusedRepeated
     ∷ RefusedService ∷ RefusedPlan ∷ RefusedAcceptsIncomplete ∷ RefusedBody ∷ TooSmall ∷ Status.Memory ∷ []) n)
 
-pub status_met : (fault : BindingRefusal) → IsMet fault
-    → IsOfReading (code (refusal_status fault)) × IsOfReceiving (code (refusal_status fault))
-status_met BadBinding h = (refl, refl)
-status_met (Refused NoSuchTarget) h = (refl, refl)
-status_met (Refused NoSuchMethod) h = (refl, refl)
+pub status_met : (fault : BindingRefusal) → IsMet fault → IsOfReceiving (code (refusal_status fault))
+status_met BadBinding h = refl
+status_met (Refused NoSuchTarget) h = refl
+status_met (Refused NoSuchMethod) h = refl
 status_met (Refused BadVersion) h = absurd h
-status_met (Refused TooLong) h = (refl, refl)
-status_met (Refused BadInstance) h = (refl, refl)
-status_met (Refused Repeated) h = (refl, refl)
-status_met (Refused BadService) h = (refl, refl)
-status_met (Refused BadPlan) h = (refl, refl)
-status_met (Refused BadAcceptsIncomplete) h = (refl, refl)
-status_met (Refused NotAnObject) h = (refl, refl)
+status_met (Refused TooLong) h = refl
+status_met (Refused BadInstance) h = refl
+status_met (Refused Repeated) h = refl
+status_met (Refused BadService) h = refl
+status_met (Refused BadPlan) h = refl
+status_met (Refused BadAcceptsIncomplete) h = refl
+status_met (Refused NotAnObject) h = refl
 status_met (Refused BadOrganization) h = absurd h
 status_met (Refused BadSpace) h = absurd h
-status_met (Refused Refusal.Memory) h = (refl, refl)
+status_met (Refused Refusal.Memory) h = refl

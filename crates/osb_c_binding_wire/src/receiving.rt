@@ -162,14 +162,15 @@ fn write_received(
     }
 }
 
-/// Reads what a request asks of a binding, as [`osb_read_binding_request`](crate::asking::osb_read_binding_request)
-/// does, and writes the texts of its ids and the parts of its body to the front of `buffer`, one after the other, and
-/// the length of all to `needed`; the rest of the buffer is as before. `received` says which there are and how long
-/// each is. They stand in this order: the texts of the instance's id and of the binding's, those of the service's and
-/// of the plan's, if the request names them, and of the body of a Bind `bind_resource`, `parameters`, `context` and
-/// `predecessor_binding_id`; each with no spaces, numbers as they are written, members in their order (sections
-/// Binding, Unbinding, Polling Last Operation for Service Bindings and Fetching a Service Binding; the order of the
-/// refusals is this project's choice).
+/// Reads what a request asks of a binding, from its method, its target (the path and the query, as the request line has
+/// them) and all of its body. The path begins with the prefix, which is empty or what the broker's own URL has before
+/// `/v2`. A body of more than `longest_body` bytes is refused unread. The texts of the ids and the parts of the body go
+/// to the front of `buffer`, one after the other, and the length of all to `needed`; the rest of the buffer is as
+/// before. `received` says which there are and how long each is. They stand in this order: the texts of the instance's
+/// id and of the binding's, those of the service's and of the plan's, if the request names them, and of the body of a
+/// Bind `bind_resource`, `parameters`, `context` and `predecessor_binding_id`; each with no spaces, numbers as they are
+/// written, members in their order (sections Binding, Unbinding, Polling Last Operation for Service Bindings and
+/// Fetching a Service Binding; the order of the refusals is this project's choice).
 ///
 /// It returns `Done`, or the first of these that fits: `NotUtf8` if the prefix or the method isn't UTF-8;
 /// `RefusedTarget`, `RefusedMethod`, `RefusedInstance` and `RefusedBinding`; `RefusedLength`; and the first of

@@ -7,7 +7,7 @@ use Rattle.osb_c_types.specs.declared.status.Status.TheVariants.{BadOutcome, Not
 use Rattle.osb_c_types.specs.declared.status.Status.TheVariants.{NotAnObject, BadVersion, BadOuter, BadMember}
 use Rattle.osb_c_types.specs.declared.status.Status.TheVariants.{BadRecord, BadHolding, BadRow, BadAsked, BadMode}
 use Rattle.osb_c_types.specs.declared.status.Status.TheVariants.{AttemptsUsedUp, NotInFlight, NothingBegun, Impossible}
-use Rattle.osb_c_types.specs.declared.status.Status.TheVariants.{NoAnswer, NoOperation, NoSeconds, Unauthorized}
+use Rattle.osb_c_types.specs.declared.status.Status.TheVariants.{NoAnswer, NoSeconds, Unauthorized}
 use Rattle.osb_c_types.specs.declared.status.Status.TheVariants.{NotRefused, RefusedTarget, RefusedMethod}
 use Rattle.osb_c_types.specs.declared.status.Status.TheVariants.{RefusedVersion, RefusedLength, RefusedInstance}
 use Rattle.osb_c_types.specs.declared.status.Status.TheVariants.{RefusedRepeated, RefusedService, RefusedPlan}
@@ -52,7 +52,6 @@ code NotInFlight = 31
 code NothingBegun = 32
 code Impossible = 33
 code NoAnswer = 34
-code NoOperation = 35
 code NoSeconds = 36
 code Unauthorized = 37
 code NotRefused = 38

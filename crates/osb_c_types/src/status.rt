@@ -63,8 +63,6 @@ pub enum Status {
     Impossible,
     /// The response isn't surely the broker's: a timeout takes its place.
     NoAnswer,
-    /// No operation is named.
-    NoOperation,
     /// The value is no number of seconds.
     NoSeconds,
     /// The value doesn't name this user and this password.
@@ -195,7 +193,6 @@ impl Status {
             Status::NothingBegun => 32,
             Status::Impossible => 33,
             Status::NoAnswer => 34,
-            Status::NoOperation => 35,
             Status::NoSeconds => 36,
             Status::Unauthorized => 37,
             Status::NotRefused => 38,

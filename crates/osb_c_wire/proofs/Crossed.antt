@@ -6,7 +6,7 @@ use Rattle.osb_message.specs.declared.messages.Kind.{Kind}
 use Rattle.osb_message.specs.declared.messages.Kind.TheVariants.{Provision}
 use Rattle.osb_message.specs.declared.messages.Request.{Request}
 use Rattle.osb_wire.specs.Asking.{asked_of}
-use Rattle.osb_wire.specs.Provisions.{Names, IsFurther}
+use Rattle.osb_wire.specs.Provisions.{Names}
 use Rattle.osb_wire.specs.Requests.{request_in}
 use Rattle.osb_wire.specs.Targets.{method_of}
 
@@ -23,13 +23,7 @@ IsReadAs prefix target r =
     (longest : ℕ) (body : List ℕ) → length body ≤ longest → Names r.kind body r.service r.plan
     → request_in prefix longest (method_of r.kind) target body ≡ Ok (asked_of r)
 
--- the further members stand in a body
-abbrev pub IsKept : List ℕ → List ℕ → Request → Type 0
-IsKept further body r =
-    r.kind ≡ Provision → (name : List ℕ) → IsFurther name
-    → option_and_then (get name) (read body) ≡ option_and_then (get name) (read further)
-
--- and where the kind alone crosses
+-- the further members stand in a body of the kind that crosses
 pub kept_in : (Is : List ℕ → Type 0) (kind : Kind) (crossed : Option Kind) (text given made written : List ℕ)
     → text ≡ given → written ≡ made → Some kind ≡ crossed
     → (kind ≡ Provision → (name : List ℕ) → Is name

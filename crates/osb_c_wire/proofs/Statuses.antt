@@ -12,29 +12,6 @@ use Rattle.osb_wire.specs.declared.refusal.Refusal.TheVariants.{NoSuchTarget, No
 use Rattle.osb_wire.specs.declared.refusal.Refusal.TheVariants.{BadService, BadPlan, BadAcceptsIncomplete, NotAnObject, BadOrganization, BadSpace}
 
 -- one of the statuses with which a request is read
-abbrev pub IsOfReading : ℕ → Type 0
-IsOfReading n =
-    IsTrue (is_one_of
-    (Done ∷ NotUtf8 ∷ RefusedTarget ∷ RefusedMethod ∷ RefusedInstance ∷ RefusedLength ∷ RefusedRepeated ∷ RefusedService
-    ∷ RefusedPlan ∷ RefusedAcceptsIncomplete ∷ RefusedBody ∷ RefusedOrganization ∷ RefusedSpace ∷ Status.Memory ∷ [])
-    n)
-
-pub status_of_reading : (fault : Refusal) → fault ≢ BadVersion → IsOfReading (code (refusal_status fault))
-status_of_reading NoSuchTarget h = refl
-status_of_reading NoSuchMethod h = refl
-status_of_reading BadVersion h = absurd (h refl)
-status_of_reading TooLong h = refl
-status_of_reading BadInstance h = refl
-status_of_reading Repeated h = refl
-status_of_reading BadService h = refl
-status_of_reading BadPlan h = refl
-status_of_reading BadAcceptsIncomplete h = refl
-status_of_reading NotAnObject h = refl
-status_of_reading BadOrganization h = refl
-status_of_reading BadSpace h = refl
-status_of_reading Refusal.Memory h = refl
-
--- and one of those with which its texts are written too
 abbrev pub IsOfReceiving : ℕ → Type 0
 IsOfReceiving n =
     IsTrue (is_one_of

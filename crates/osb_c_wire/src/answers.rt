@@ -55,92 +55,12 @@ pub extern "C" fn osb_read_answer(
     }
 }
 
-/// Writes the operation that a broker names in the body of an accepted request, which a platform sends back in its
-/// Polls, to the front of `buffer`, and its length to `needed`; the rest of the buffer is as before (section
-/// Provisioning; that one of more than 10,000 characters counts as none is this project's choice).
-///
-/// It returns `Done`; `NoOperation` where the body names none; `TooSmall` where the buffer is shorter than `needed`
-/// bytes, a number that is written all the same; or, in place of any of these, `Memory` where an allocation failed.
-/// Where it isn't `Done`, the buffer is as before, and where it is neither that nor `TooSmall`, `needed` too.
-#[unsafe(no_mangle)]
-pub extern "C" fn osb_read_operation(
-    alloc: Global,
-    body: &[u8],
-    buffer: &mut [u8],
-    needed: &mut usize,
-) -> u32
-    ensures operation { result ≡ code Status.Done → IsSomeAnd (operation_in body.now) (λ text.
-        texts.IsWritten text needed.new buffer.new) }
-    ensures rest { result ≡ code Status.Done → drop needed.new buffer.new ≡ drop needed.new buffer.old }
-
-    ensures no_operation { result ≡ code Status.NoOperation → operation_in body.now ≡ None }
-    ensures too_small { result ≡ code Status.TooSmall → IsSomeAnd (operation_in body.now) (λ text.
-        texts.IsTooLong text needed.new buffer.old) }
-    ensures statuses { IsTrue (is_one_of
-        (Status.Done ∷ Status.NoOperation ∷ Status.TooSmall ∷ Status.Memory ∷ []) result) }
-    ensures unwritten { result ≢ code Status.Done → buffer.new ≡ buffer.old }
-    ensures unmeasured { result ≢ code Status.Done → result ≢ code Status.TooSmall → needed.new ≡ needed.old }
-{
-    match osb_wire::read_operation(alloc, body) {
-        Ok(Some(text)) => write_text(text.as_str(), buffer, needed).code(),
-        Ok(None) => Status::NoOperation.code(),
-        Err(Memory) => Status::Memory.code(),
-    }
-}
-
 /// Writes the body of an answer to the front of `buffer`, and its length to `needed`; the rest of the buffer is as
-/// before. The operation counts where `has_operation` is true, and is written in a 202 alone (sections Provisioning,
-/// Polling Last Operation for Service Instances, Deprovisioning and Service Broker Errors; the word of an error other
-/// than the standard's two, by the status, is this project's choice).
-///
-/// It returns `Done`; `NotUtf8` exactly where the operation counts and isn't UTF-8; `TooSmall` where the buffer is
-/// shorter than `needed` bytes, a number that is written all the same; or, in place of `Done` and of `TooSmall`,
-/// `Memory` where an allocation failed. Where it isn't `Done`, the buffer is as before, and where it is neither that
-/// nor `TooSmall`, `needed` too.
-#[unsafe(no_mangle)]
-pub extern "C" fn osb_write_answer(
-    alloc: Global,
-    answer: OsbAnswer,
-    has_operation: bool,
-    operation: &[u8],
-    buffer: &mut [u8],
-    needed: &mut usize,
-) -> u32
-    ensures text { result ≡ code Status.Done → texts.IsWritten
-        (written.answer_text (answer_of answer) (texts.text_if has_operation operation.now) None) needed.new buffer.new }
-    ensures object { result ≡ code Status.Done → object_in (take needed.new buffer.new)
-        ≡ written.body_value answer.status (texts.text_if has_operation operation.now) None (body_of answer.body) }
-    ensures reads { result ≡ code Status.Done → (kind : Kind) → written.is_carried kind (answer_of answer) ≡ true
-        → answer_in kind answer.status (take needed.new buffer.new) ≡ Some (answer_of answer) }
-    ensures given { result ≡ code Status.Done → (kind : Kind) → written.is_given kind (answer_of answer) ≡ true
-        → answer_in kind answer.status (take needed.new buffer.new) ≡ Some (answer_of answer) }
-    ensures operation { result ≡ code Status.Done → answer.status ≡ 202 → body_of answer.body ≡ Body.Empty
-        → operation_in (take needed.new buffer.new)
-        ≡ option_and_then if_short (texts.text_if has_operation operation.now) }
-    ensures rest { result ≡ code Status.Done → drop needed.new buffer.new ≡ drop needed.new buffer.old }
-
-    ensures not_utf8 { (result ≡ code Status.NotUtf8) ↔ ¬ (texts.IsUtf8If has_operation operation.now) }
-    ensures too_small { result ≡ code Status.TooSmall → texts.IsTooLong
-        (written.answer_text (answer_of answer) (texts.text_if has_operation operation.now) None) needed.new buffer.old }
-    ensures statuses { IsTrue (is_one_of
-        (Status.Done ∷ Status.NotUtf8 ∷ Status.TooSmall ∷ Status.Memory ∷ []) result) }
-    ensures unwritten { result ≢ code Status.Done → buffer.new ≡ buffer.old }
-    ensures unmeasured { result ≢ code Status.Done → result ≢ code Status.TooSmall → needed.new ≡ needed.old }
-{
-    let Some(operation) = text_if(has_operation, operation) else {
-        return Status::NotUtf8.code();
-    };
-    let Ok(text) = osb_wire::write_answer(alloc, answer_from(answer), operation, None) else {
-        return Status::Memory.code();
-    };
-    write_text(text.as_str(), buffer, needed).code()
-}
-
-/// Writes the body of an answer as [`osb_write_answer`] does, with a description for a person, which counts where
-/// `has_description` is true. It stands in the body of an error in place of the usual sentence, and beside the state
-/// `failed`; of one with more than 1,000 characters the first 1,000 do (sections Provisioning, Polling Last Operation
-/// for Service Instances, Deprovisioning and Service Broker Errors; that length, and the word of an error other than the
-/// standard's two, by the status, are this project's choice).
+/// before. The operation counts if `has_operation` is true, and is written in a 202 alone. The description, for a
+/// person, counts if `has_description` is true. It stands in the body of an error in place of the usual sentence, and
+/// beside the state `failed`; of one with more than 1,000 characters the first 1,000 do (sections Provisioning, Polling
+/// Last Operation for Service Instances, Deprovisioning and Service Broker Errors; that length, and the word of an error
+/// other than the standard's two, by the status, are this project's choice).
 ///
 /// It returns `Done`; `NotUtf8` exactly where the operation or the description counts and isn't UTF-8; `TooSmall` where
 /// the buffer is shorter than `needed` bytes, a number that is written all the same; or, in place of `Done` and of

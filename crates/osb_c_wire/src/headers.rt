@@ -42,8 +42,8 @@ pub extern "C" fn osb_api_version(has_value: bool, value: &[u8]) -> u32
 }
 
 /// Judges whether the header Authorization names this user and this password, by HTTP's Basic scheme (section
-/// Authentication). The time that it takes doesn't tell where they differ, as the code is written; no proof speaks of
-/// time.
+/// Authentication). An empty user with an empty password is never accepted (this project's choice). The time that it
+/// takes doesn't tell where they differ, as the code is written; no proof speaks of time.
 ///
 /// It returns `Done`; `NotUtf8` exactly where any of the three isn't UTF-8; `Unauthorized` where they aren't named;
 /// or, in place of `Done` and of `Unauthorized`, `Memory` where an allocation failed.

@@ -26,11 +26,13 @@ abbrev pub version_judged : Option (List ℕ) → Result (Unit {0}) Refusal
 version_judged None = Err BadVersion
 version_judged (Some value) = if is_version value then Ok tt else Err BadVersion
 
--- a user and a password, as HTTP Basic has them: `Basic `, in either case, and their base64
+-- a user and a password, as HTTP Basic has them: `Basic `, in either case, and their base64; an empty user with an empty
+-- password is never accepted
 abbrev pub is_authorized : List ℕ → List ℕ → List ℕ → Bool
 is_authorized value user password =
-    str_eq_ignore_ascii_case (take 6 value) (codes "Basic ")
-    && bytes_eq (drop 6 value) (encode_of standard (user ++ 58 ∷ password))
+    not (length user == 0 && length password == 0)
+    && (str_eq_ignore_ascii_case (take 6 value) (codes "Basic ")
+    && bytes_eq (drop 6 value) (encode_of standard (user ++ 58 ∷ password)))
 
 -- seconds (section Polling Last Operation for Service Instances)
 abbrev pub seconds_in : List ℕ → Option ℕ

@@ -93,7 +93,9 @@ fn are_same(left: &[u8], right: &[u8]) -> bool
 /// Whether a platform names this user and this password in the header `Authorization`, by HTTP's Basic
 /// scheme (section Authentication): `Basic`, in letters of either case, one blank, and the base64 of the user, a colon
 /// and the password, padded, with nothing after it. Where it isn't so, HTTP wants a 401 with the header
-/// `WWW-Authenticate`. The user must have no colon, since another user and password would read the same.
+/// `WWW-Authenticate`. The user must have no colon, since another user and password would read the same. An empty
+/// user with an empty password, as a program has them that was started without a login, is never accepted (this
+/// project's choice). Either of them alone may be empty.
 ///
 /// Of values of the right length every byte is compared, wherever they differ, so that the time tells no
 /// more than the length. That is how the code is written; no proof speaks of time.
@@ -105,6 +107,9 @@ pub fn basic_auth(alloc: Global, value: &str, user: &str, password: &str) -> Res
     ensures authorized { IfOk result (λ authorized. authorized
         ≡ headers.is_authorized value.now user.now password.now) }
 {
+    if user.is_empty() && password.is_empty() {
+        return Ok(false);
+    }
     let Some((scheme, given)) = value.as_bytes().split_at_checked(6) else {
         return Ok(false);
     };

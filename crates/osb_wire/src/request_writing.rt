@@ -5,6 +5,7 @@ ghost use Rattle.serde_json.specs.Data.{object, depth};
 ghost use Rattle.serde_json.specs.Find.{get, get_member};
 ghost use Rattle.serde_json.specs.Read.{read, max_depth};
 ghost use Rattle.serde_json.specs.View.{members_view};
+ghost use Rattle.serde_json.specs.Written.{IsInOrder};
 ghost use Rattle.osb_message.specs.declared.messages.Kind.TheVariants as Kind;
 ghost use Rattle.osb_json.specs.Members.{text_at};
 ghost use Rattle.osb_wire.specs.Asking as asking;
@@ -60,6 +61,9 @@ pub fn write_body(
         → depth (object (members_view further.entries)) ≤ max_depth
         → IfOk result (λ text. option_and_then (get name) (read (string_bytes text))
         ≡ get_member name (members_view further.entries)) }
+    ensures order { request.now.kind ≡ Kind.Provision → IfOk result (λ text. IsInOrder (string_bytes text)
+        (object (provisions.provision_members request.now.service request.now.plan organization.now space.now
+        (members_view further.entries)))) }
 {
     match request.kind {
         Kind::Provision => {
@@ -85,8 +89,9 @@ pub fn write_body(
 /// are passed over.
 ///
 /// It is read as it was meant where the further members as an object nest at most 127 deep: a value under a name,
-/// then, at most 126. Deeper ones are written, and rejected by the broker that reads them, as an empty organization or
-/// space is. Sections Provisioning, Polling Last Operation and Deprovisioning of the standard.
+/// then, at most 126. Deeper ones are written all the same, each member once and in order, and rejected by the broker
+/// that reads them, as an empty organization or space is. Sections Provisioning, Polling Last Operation and
+/// Deprovisioning of the standard.
 ///
 /// # Errors
 ///
@@ -116,6 +121,9 @@ pub fn write_named_body(
         → depth (object (members_view further.entries)) ≤ max_depth
         → IfOk result (λ text. option_and_then (get name) (read (string_bytes text))
         ≡ get_member name (members_view further.entries)) }
+    ensures order { kind ≡ Kind.Provision → IfOk result (λ text. IsInOrder (string_bytes text)
+        (object (provisions.members_with names.now.service.now names.now.plan.now organization.now space.now
+        (members_view further.entries)))) }
 {
     match kind {
         Kind::Provision => write_provision(
@@ -141,9 +149,9 @@ pub fn write_named_body(
 /// organization, space and further members are passed over.
 ///
 /// [`read_request`](crate::read_request) with the same prefix gives this request and these texts back, where the further
-/// members as an object nest at most 127 deep: a value under a name, then, at most 126. Deeper ones are
-/// written, and rejected by the broker that reads them, as an empty organization or space is. Sections Provisioning,
-/// Polling Last Operation and Deprovisioning of the standard.
+/// members as an object nest at most 127 deep: a value under a name, then, at most 126. Deeper ones are written all the
+/// same, each member once and in order, and rejected by the broker that reads them, as an empty organization or space
+/// is. Sections Provisioning, Polling Last Operation and Deprovisioning of the standard.
 ///
 /// # Errors
 ///
@@ -173,6 +181,9 @@ pub fn write_request(
         → depth (object (members_view further.entries)) ≤ max_depth
         → IfOk result (λ written. option_and_then (get name) (read (string_bytes written.body))
         ≡ get_member name (members_view further.entries)) }
+    ensures order { request.now.kind ≡ Kind.Provision → IfOk result (λ written. IsInOrder (string_bytes written.body)
+        (object (provisions.members_with names.now.service.now names.now.plan.now organization.now space.now
+        (members_view further.entries)))) }
     ensures back { (longest : ℕ) → All (λ b. b ≢ 63) prefix.now
         → provisions.CanBeRead request.now.kind organization.now space.now (members_view further.entries)
         → IfOk result (λ written. length (string_bytes written.body) ≤ longest

@@ -4,7 +4,7 @@ osb-platform, with an API over HTTP (docs/platform-guide.md).
 
 - `Record` and `Holding`: one instance as a value, as a platform and as a broker keep it in a database, with its text.
 - `osb.wire`: requests and answers as HTTP and JSON have them. `osb.binding_wire`: those of bindings.
-- `osb.tables`: the platform's tables.
+- `osb.tables`: two of the platform's tables.
 
 The environment variable LIBOSB names the library's file. If it isn't set, libosb.so.0 is loaded: in a wheel the file
 beside the package, else the one that the system finds. If the library doesn't do what a call asks, the call raises

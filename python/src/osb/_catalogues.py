@@ -57,7 +57,7 @@ def served_catalogue(document: bytes) -> bytes:
 
 def asks_for_catalogue(target: bytes, prefix: str = "") -> bool:
     """Whether a target asks for the catalogue: the path is the prefix and /v2/catalog, or stands for that as in
-    `read_request` (section Catalog Management). False too where the prefix isn't UTF-8.
+    `receive_request` (section Catalog Management). False too where the prefix isn't UTF-8.
     """
     front = utf8(prefix)
     return bool(lib.osb_asks_for_catalogue(front, len(front), target, len(target)))

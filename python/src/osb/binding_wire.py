@@ -1,8 +1,7 @@
 """Requests and answers of bindings as HTTP and JSON have them (docs/binding.md), as `osb.wire` has those of instances.
 
 These calls of `osb.wire` serve for bindings too: `write_method` (a Fetch has the method of a Poll), `read_answer` for a
-Bind, an Unbind and a Poll, `read_operation`, `asked_operation`, `write_answer` and `member_text`. Each call may raise
-MEMORY.
+Bind, an Unbind and a Poll, `read_details`, `write_answer` and `member_text`. Each call may raise MEMORY.
 """
 from __future__ import annotations
 
@@ -29,7 +28,6 @@ __all__ = [
     "bindings_retrievable",
     "check_binding",
     "read_binding",
-    "read_binding_request",
     "read_fetched",
     "receive_binding_request",
     "requires_app",
@@ -57,7 +55,7 @@ def write_binding_target(
     """The target of a Bind, an Unbind or a Poll of a binding's last operation, with the texts of its ids, escaped as a
     path and a query need it (sections Binding, Unbinding and Polling Last Operation for Service Bindings). The id of
     the request is the binding's. Each text must be that of the request's id, or of the instance, so no other binding is
-    asked for. The rest is as in `osb.wire.write_target`. Raises NOT_UTF8, NOT_INSTANCE_TEXT, NOT_BINDING_TEXT,
+    asked for. The rest is as in `osb.wire.write_named_target`. Raises NOT_UTF8, NOT_INSTANCE_TEXT, NOT_BINDING_TEXT,
     NOT_SERVICE_TEXT, NOT_PLAN_TEXT; an instance or a binding named `.` or `..` is no such text either, since HTTP
     clients resolve such a path.
     """
@@ -143,18 +141,6 @@ class BindingAsked:
     """
 
 
-def read_binding_request(method: str, target: bytes, body: bytes, longest_body: int, prefix: str = "") -> BindingAsked:
-    """Reads what a request asks of a binding, as `osb.wire.read_request` does of an instance: a Bind, an Unbind, a Poll
-    of a binding's last operation, or a Fetch (sections Binding, Unbinding, Polling Last Operation for Service Bindings
-    and Fetching a Service Binding). Raises `Refusal`, the first that fits in the order of docs/binding.md, NOT_UTF8,
-    and ValueError if `longest_body` is below 0 or above `sys.maxsize`.
-    """
-    texts = [*with_lengths(prefix), longest_to(longest_body), *with_lengths(method)]
-    asked = CBindingAsked()
-    check(lib.osb_read_binding_request(*texts, target, len(target), body, len(body), asked))
-    return _asked_from(asked)
-
-
 @dataclass(frozen=True)
 class BindingParts:
     """The parts of a Bind's body, in the form of `osb.wire.Parts`. Each is None if the body doesn't have it."""
@@ -187,8 +173,10 @@ class BindingReceived:
 def receive_binding_request(
     method: str, target: bytes, body: bytes, longest_body: int, prefix: str = ""
 ) -> BindingReceived:
-    """Reads what a request asks of a binding as `read_binding_request` does, with the texts of its ids and the parts of
-    a Bind's body (section Binding). Raises what `read_binding_request` does.
+    """Reads what a request asks of a binding, as `osb.wire.receive_request` does of an instance: a Bind, an Unbind, a
+    Poll of a binding's last operation, or a Fetch (sections Binding, Unbinding, Polling Last Operation for Service
+    Bindings and Fetching a Service Binding). Raises `Refusal`, the first that fits in the order of docs/binding.md,
+    NOT_UTF8, and ValueError if `longest_body` is below 0 or above `sys.maxsize`.
     """
     texts = [*with_lengths(prefix), longest_to(longest_body), *with_lengths(method)]
     texts += [target, len(target), body, len(body)]

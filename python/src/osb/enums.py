@@ -41,7 +41,6 @@ class Status(Named):
     NOTHING_BEGUN = 32, "no work is pending"
     IMPOSSIBLE = 33, "each member is one of its kind, and together they can't come about"
     NO_ANSWER = 34, "the response isn't surely the broker's: a timeout takes its place"
-    NO_OPERATION = 35, "no operation is named"
     NO_SECONDS = 36, "the value is no number of seconds"
     UNAUTHORIZED = 37, "the value doesn't name this user and this password"
     NOT_REFUSED = 38, "the status is no refusal"

@@ -39,7 +39,6 @@ __all__ = [
     "Received",
     "Refusal",
     "api_version",
-    "asked_operation",
     "asks_for_catalogue",
     "attributes_digest",
     "basic_auth",
@@ -52,18 +51,14 @@ __all__ = [
     "plan_version",
     "read_answer",
     "read_details",
-    "read_operation",
-    "read_request",
     "receive_request",
     "request_identity",
     "retry_after",
     "served_catalogue",
     "write_answer",
-    "write_body",
     "write_method",
     "write_named_body",
     "write_named_target",
-    "write_target",
 ]
 
 # ---- The platform's side.
@@ -81,16 +76,6 @@ def read_answer(kind: Kind, status: int, body: bytes) -> Answer | None:
     return answer_from(answer)
 
 
-def read_operation(body: bytes) -> str | None:
-    """The operation that a broker names in the body of an accepted request, which a platform sends back in its Polls.
-    None where it names none.
-    """
-    return found(
-        lambda buffer, length, needed: int(lib.osb_read_operation(body, len(body), buffer, length, needed)),
-        Status.NO_OPERATION,
-    )
-
-
 @dataclass(frozen=True)
 class Details:
     """What the body of an answer says besides the answer.
@@ -105,7 +90,7 @@ class Details:
     dashboard_url: str | None = None
     """Where the instance is managed."""
     operation: str | None = None
-    """What the broker calls its operation, if that has at most 10,000 characters: `read_operation` has the same."""
+    """What the broker calls its operation, if that has at most 10,000 characters. A platform sends it in its Polls."""
     metadata: str | None = None
     """JSON, in the form of `Parts`."""
     instance_usable: bool | None = None
@@ -144,21 +129,6 @@ def write_method(kind: Kind) -> str:
     ).decode()
 
 
-def write_target(request: Request, operation: str | None = None, prefix: str = "") -> str:
-    """The target of a request: the path, which begins with the prefix (what the broker's URL has before /v2, with no
-    `?`), and the query. The operation is the broker's; give one to a Poll alone. The ids are sent as GUIDs in lower
-    case: `write_named_target` sends others. Raises NOT_UTF8.
-    """
-    front, named, given = utf8(prefix), utf8(operation or ""), request_to(request)
-    return text_of(
-        lambda buffer, length, needed: int(
-            lib.osb_write_target(
-                front, len(front), given, operation is not None, named, len(named), buffer, length, needed
-            )
-        )
-    ).decode()
-
-
 @dataclass(frozen=True)
 class Names:
     """The texts of a request's ids, as the platform and the catalogue have them.
@@ -172,10 +142,12 @@ class Names:
 
 
 def write_named_target(request: Request, names: Names, operation: str | None = None, prefix: str = "") -> str:
-    """The target of a request with the texts of its ids, escaped as a path and a query need it (sections Provisioning,
-    Polling Last Operation for Service Instances and Deprovisioning). Each text must be that of the request's id, so no
-    other instance is asked for. The rest is as in `write_target`. Raises NOT_UTF8, NOT_INSTANCE_TEXT, NOT_SERVICE_TEXT,
-    NOT_PLAN_TEXT; an instance named `.` or `..` is NOT_INSTANCE_TEXT too, since HTTP clients resolve such a path.
+    """The target of a request: the path, which begins with the prefix (what the broker's URL has before /v2, with no
+    `?`), and the query. The texts of the ids are escaped as a path and a query need it (sections Provisioning, Polling
+    Last Operation for Service Instances and Deprovisioning). Each text must be that of the request's id, so no other
+    instance is asked for. The operation is the broker's; give one to a Poll alone. Raises NOT_UTF8, NOT_INSTANCE_TEXT,
+    NOT_SERVICE_TEXT, NOT_PLAN_TEXT; an instance named `.` or `..` is NOT_INSTANCE_TEXT too, since HTTP clients resolve
+    such a path.
     """
     front, given, named = with_lengths(prefix), request_to(request), utf8(operation or "")
     texts = with_lengths(names.instance, names.service, names.plan)
@@ -188,21 +160,11 @@ def write_named_target(request: Request, names: Names, operation: str | None = N
     ).decode()
 
 
-def write_body(request: Request, organization: str, space: str, further: str = "{}") -> bytes:
-    """The body of a request: of a Provision an object of the ids, the organization and the space, neither of which may
-    be empty, and the members of `further`, the text of an object, as context, parameters or maintenance_info; else an
-    empty text. The ids are sent as GUIDs in lower case: `write_named_body` sends others. Raises NOT_UTF8, NOT_JSON,
-    NOT_AN_OBJECT.
-    """
-    given, texts = request_to(request), with_lengths(organization, space, further)
-    return text_of(lambda buffer, length, needed: int(lib.osb_write_body(given, *texts, buffer, length, needed)))
-
-
 def write_named_body(kind: Kind, names: Names, organization: str, space: str, further: str = "{}") -> bytes:
     """The body of a request of the kind with the texts of its ids: of a Provision an object of the service, the plan,
-    the organization and the space, and the members of `further`, as in `write_body`; else an empty text (section
-    Provisioning). It doesn't compare the texts with a request: `write_named_target` does. Raises NOT_UTF8, NOT_JSON,
-    NOT_AN_OBJECT.
+    the organization and the space, neither of which may be empty, and the members of `further`, the text of an object,
+    as context, parameters or maintenance_info; else an empty text (section Provisioning). It doesn't compare the texts
+    with a request: `write_named_target` does. Raises NOT_UTF8, NOT_JSON, NOT_AN_OBJECT.
     """
     number, texts = Kind(kind).value, with_lengths(names.service, names.plan, organization, space, further)
     return text_of(lambda buffer, length, needed: int(lib.osb_write_named_body(number, *texts, buffer, length, needed)))
@@ -233,7 +195,7 @@ class Asked:
 
     def request(self, held: tuple[Id, Id] | None) -> Request:
         """The request for a broker, with the service and the plan that are held, or None: they stand in the place of
-        those that a Poll lacks. Raises BAD_ASKED where this is nothing that `read_request` gives.
+        those that a Poll lacks. Raises BAD_ASKED where this is nothing that `receive_request` gives.
         """
         nothing = Id(0, 0)
         asked = CAsked(
@@ -249,16 +211,6 @@ class Asked:
         request = CRequest()
         check(lib.osb_asked_request(asked, held is not None, id_to(service), id_to(plan), request))
         return request_from(request)
-
-
-def read_request(method: str, target: bytes, body: bytes, longest_body: int, prefix: str = "") -> Asked:
-    """Reads what a request asks of a broker, from its method, its target (path and query, as the request line has them)
-    and all of its body. A body of more than `longest_body` bytes is refused unread. Raises `Refusal`, the first that
-    fits in the order of docs/wire.md, NOT_UTF8, and ValueError if `longest_body` is below 0 or above `sys.maxsize`.
-    """
-    front, way, longest, asked = utf8(prefix), utf8(method), longest_to(longest_body), CAsked()
-    check(lib.osb_read_request(front, len(front), longest, way, len(way), target, len(target), body, len(body), asked))
-    return asked_from(asked)
 
 
 @dataclass(frozen=True)
@@ -294,9 +246,11 @@ class Received:
 
 
 def receive_request(method: str, target: bytes, body: bytes, longest_body: int, prefix: str = "") -> Received:
-    """Reads what a request asks of a broker as `read_request` does, with the texts of its ids and the parts of a
-    Provision's body (sections Provisioning, Polling Last Operation for Service Instances and Deprovisioning). Raises
-    what `read_request` does.
+    """Reads what a request asks of a broker, from its method, its target (path and query, as the request line has them)
+    and all of its body, with the texts of its ids and the parts of a Provision's body (sections Provisioning, Polling
+    Last Operation for Service Instances and Deprovisioning). A body of more than `longest_body` bytes is refused
+    unread. Raises `Refusal`, the first that fits in the order of docs/wire.md, NOT_UTF8, and ValueError if
+    `longest_body` is below 0 or above `sys.maxsize`.
     """
     texts = [*with_lengths(prefix), longest_to(longest_body), *with_lengths(method)]
     asked, lengths = CAsked(), CReceived()
@@ -345,14 +299,6 @@ def parameters_digest(parameters: bytes) -> bytes:
     return digest.raw
 
 
-def asked_operation(target: bytes) -> str | None:
-    """The operation that the target of a Poll names, or None. Raises `Refusal`: it stands twice."""
-    return found(
-        lambda buffer, length, needed: int(lib.osb_asked_operation(target, len(target), buffer, length, needed)),
-        Status.NO_OPERATION,
-    )
-
-
 def write_answer(answer: Answer, operation: str | None = None, description: str | None = None) -> bytes:
     """The body of an answer. The operation is written in a 202 alone. The description, for a person, is written for an
     error, in place of the usual sentence, and for a last operation that failed (sections Polling Last Operation for
@@ -360,13 +306,9 @@ def write_answer(answer: Answer, operation: str | None = None, description: str 
     project's choice. Raises NOT_UTF8.
     """
     given, named = answer_to(answer), (operation is not None, *with_lengths(operation or ""))
-    if description is None:
-        return text_of(lambda buffer, length, needed: int(lib.osb_write_answer(given, *named, buffer, length, needed)))
-    told = with_lengths(description)
+    told = (description is not None, *with_lengths(description or ""))
     return text_of(
-        lambda buffer, length, needed: int(
-            lib.osb_write_told_answer(given, *named, True, *told, buffer, length, needed)
-        )
+        lambda buffer, length, needed: int(lib.osb_write_told_answer(given, *named, *told, buffer, length, needed))
     )
 
 
@@ -380,7 +322,7 @@ def api_version(value: str | None) -> None:
 
 def basic_auth(value: str | None, user: str, password: str) -> bool:
     """Whether the header Authorization, None where a request has no such header, names this user and this password, by
-    HTTP's Basic scheme. Raises NOT_UTF8.
+    HTTP's Basic scheme. An empty user with an empty password is never accepted. Raises NOT_UTF8.
     """
     if value is None:
         return False

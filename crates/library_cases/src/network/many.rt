@@ -3,7 +3,7 @@ use super::{events, orders, sides};
 use crate::words::first;
 use anyhow::{Context, Result};
 use osb_message::InstanceId;
-use osb_network::{Event, InstanceEvent, Network, Order};
+use osb_network::{Event, InstanceEvent, Network, Order, run};
 use std::alloc::Global;
 
 // The event of `ID EVENT`.
@@ -78,4 +78,22 @@ pub(crate) fn large(rt: &impl Print, alloc: Global, rest: &str) -> Result<()> {
     }
     tell_since(rt, &network, 1, usize::MAX)?;
     tell_one(rt, &network, count)
+}
+
+// `arrivals COUNT`: an instance whose Provision, whose work goes on, has arrived once and then as often again, all in one
+// call
+pub(crate) fn arrivals(rt: &impl Print, alloc: Global, rest: &str) -> Result<()> {
+    let count: u128 = rest.parse::<u128>()?;
+    let mut happening = Vec::new(alloc);
+    happening.push(Event::Create)?;
+    for _ in 0..=count {
+        happening.push(Event::Arrive { attempt: 1 })?;
+    }
+    let instance = run(
+        alloc,
+        orders::order("sync accepts -")?,
+        happening.as_slice(),
+    )?;
+    print!(rt; "  ")?;
+    sides::tell(rt, &instance, usize::MAX)
 }

@@ -1,6 +1,6 @@
 //! Each refusal and each fault, as it is printed.
 use anyhow::Result;
-use osb_wire::{CatalogueFault, NameFault, Refusal, RuleFault};
+use osb_wire::{CatalogueFault, DocumentFault, NameFault, Refusal, RuleFault};
 
 // `refusals`: the status and the text of each refusal
 pub(crate) fn refusals(rt: &impl Print) -> Result<()> {
@@ -56,6 +56,17 @@ pub(crate) fn rule(rt: &impl Print) -> Result<()> {
         RuleFault::BindingsRetrievable,
         RuleFault::SameNumber,
         RuleFault::Memory,
+    ] {
+        println!(rt; "  {fault}")?;
+    }
+    Ok(())
+}
+
+// `document-faults`: why a document's catalogue can't be kept
+pub(crate) fn document(rt: &impl Print) -> Result<()> {
+    for fault in &[
+        DocumentFault::Plans(CatalogueFault::NoPlans),
+        DocumentFault::Rule(RuleFault::NameTwice),
     ] {
         println!(rt; "  {fault}")?;
     }

@@ -1,11 +1,13 @@
-use Rattle.std.proofs.Common.{option_map, sym, ap, ◌∙◌}
+use Rattle.std.proofs.Common.{ℕ, List, option_map, sym, ap, subst, ◌∙◌}
 use Rattle.osb_binding.specs.Requests.{life_request}
 use Rattle.osb_wire.specs.Targets.{method_of, operation_asked}
+use Rattle.osb_wire.proofs.RequestsBack.{TextsAre}
 use Rattle.osb_binding_wire.specs.Names.{texts_of}
 use Rattle.osb_binding_wire.specs.Requests.{request_in, instance_text_in, binding_text_in}
 use Rattle.osb_binding_wire.specs.Targets.{target_of, is_poll}
 use Rattle.osb_binding_wire.proofs.NamesJudged.{judged_so}
 use Rattle.osb_binding_wire.proofs.SentBack.{request_back, instance_comes_back, binding_comes_back, operation_comes_back}
+use Rattle.osb_binding_wire.proofs.SentBack.{texts_come_back}
 use Rattle.osb_binding_wire.proofs.writing.write_binding_target.Goals as goal
 
 pub returns-in-Ok-target_of-clause-target : goal.returns-in-Ok-target_of-clause-target
@@ -49,3 +51,13 @@ returns-in-Ok-target_of-clause-operation c = λ no_mark.
     let operation = option_map (λ o. o.now) c.args.operation in
     ap operation_asked (returns-in-Ok-target_of-clause-target c)
     ∙ operation_comes_back c.args.prefix.now (life_request c.args.request.now) (is_poll c.args.request.now.kind) t operation no_mark c.in-Ok-target_of.ensures.life c.in-Ok-target_of.ensures.operation
+
+pub returns-in-Ok-target_of-clause-texts : goal.returns-in-Ok-target_of-clause-texts
+returns-in-Ok-target_of-clause-texts c = λ body no_mark other.
+    let r = c.args.request.now in
+    let t = texts_of c.args.names.now in
+    let operation = option_map (λ o. o.now) c.args.operation in
+    subst (λ (target : List ℕ). TextsAre r.kind target body t.service t.plan)
+    (sym (returns-in-Ok-target_of-clause-target c))
+    (texts_come_back c.args.prefix.now (life_request r) (is_poll r.kind) t operation no_mark
+    c.in-Ok-target_of.ensures.life c.in-Ok-target_of.ensures.operation body other)

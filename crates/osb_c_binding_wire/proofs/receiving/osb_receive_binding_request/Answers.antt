@@ -9,4 +9,4 @@ returns-in-Err-clause-statuses c =
     is_met c.in-Ok.prefix.now c.args.longest_body c.in-Ok-from_utf8.method.now c.args.target.now c.args.body.now c.in-Err.fault
     c.in-Err.ensures.err
     in
-    subst IsOfReceiving (sym (c.code-in-Err.ensures.code ∙ ap code c.status_from.ensures.status)) (status_met c.in-Err.fault met).1
+    subst IsOfReceiving (sym (c.code-in-Err.ensures.code ∙ ap code c.status_from.ensures.status)) (status_met c.in-Err.fault met)

@@ -1,7 +1,8 @@
-use Rattle.std.proofs.Common.{Some, ap, ◌∙◌, option_and_then}
+use Rattle.std.proofs.Common.{Some, ap, ◌∙◌, option_and_then, string_bytes, subst}
 use Rattle.std.proofs.lemmas.Str.{IsUtf8-string_bytes}
 use Rattle.serde_json.specs.Find.{get}
 use Rattle.serde_json.specs.View.{members_view}
+use Rattle.serde_json.specs.Written.{IsInOrder}
 use Rattle.osb_wire.proofs.ProvisionsBack.{provision_depth, further_kept, provision_back, texts_kept}
 use Rattle.osb_wire.proofs.provision_writing.write_provision.Goals as goal
 
@@ -25,3 +26,7 @@ pub returns-clause-texts : goal.returns-clause-texts
 returns-clause-texts c = λ flat.
     texts_kept _ c.args.service.now c.args.plan.now c.args.organization.now c.args.space.now (members_view c.args.further.entries)
     (IsUtf8-string_bytes c.in_ok-text.text) (returns-clause-object c flat)
+
+pub returns-clause-order : goal.returns-clause-order
+returns-clause-order c =
+    subst (IsInOrder (string_bytes c.in_ok-text.text)) c.in_ok-value.ensures.value c.in_ok-text.ensures.order

@@ -1,0 +1,143 @@
+"""Reads api/cases.txt, whose head says how it is written."""
+from __future__ import annotations
+
+import itertools
+import re
+from pathlib import Path
+from typing import Iterator, NamedTuple, Optional
+
+FILE = Path(__file__).with_name("cases.txt")
+
+_ESCAPE = re.compile(rb"\\(?:x([0-9a-f]{2})|\{(.+?)\*(\d+)\}|(.))")
+_LETTERS = {b"t": b"\t", b"n": b"\n", b"r": b"\r"}
+
+Cells = dict[str, Optional[bytes]]
+
+INSTANCE, BINDING, SERVICE, _SYNC, _ASYNC = (
+    b"00000000-0000-0000-0000-0000000000" + it for it in (b"01", b"02", b"a0", b"b1", b"b2")
+)
+PLANS = {"sync": _SYNC, "async": _ASYNC}
+OF_A_BINDING = {"bind": "provision", "unbind": "deprovision", "poll-binding": "poll"}
+PHASES = "waiting making ready failed deleting delete-failed".split()
+
+
+class Case(NamedTuple):
+    """A call with what it is given and what comes of it, by the names of the columns. What is missing is None."""
+
+    call: str
+    """The name of the call, without osb_."""
+    given: Cells
+    status: str
+    """The status, as in DONE."""
+    gives: Cells
+    """What the call gives if it is done."""
+    line: int
+
+
+def _plain(cell: bytes) -> bytes:
+    """The text that a cell stands for."""
+
+    def meant(found: re.Match[bytes]) -> bytes:
+        if found[1]:
+            return bytes.fromhex(found[1].decode())
+        return _plain(found[2]) * int(found[3]) if found[2] else _LETTERS.get(found[4], found[4])
+
+    return _ESCAPE.sub(meant, cell)
+
+
+def _value(cell: bytes, texts: dict[bytes, bytes]) -> bytes | None:
+    if cell in (b"-", b'""'):
+        return None if cell == b"-" else b""
+    if not cell.startswith(b"\\["):
+        return _plain(cell)
+    name, *changes = cell[2:-1].split(b"|")
+    text = texts[name]
+    for old, new in zip(changes[::2], changes[1::2]):
+        assert _plain(old) in text, f"the text {name.decode()} hasn't {old.decode()}"
+        text = text.replace(_plain(old), _plain(new))
+    return text
+
+
+class Record(NamedTuple):
+    state: str
+    attempt: int
+    out: str
+
+
+class Request(NamedTuple):
+    kind: str
+    accepts_incomplete: bool
+    id: bytes
+    plan: bytes
+
+
+class Holding(NamedTuple):
+    row: Optional[tuple[str, bytes]]
+    """Its phase and its plan."""
+    work: Optional[Request]
+    has_tombstone: bool
+    attributes: bytes
+
+
+def record(cell: bytes) -> Record:
+    """The record that a cell stands for. Its service is SERVICE, and its plan PLANS["sync"]."""
+    state, attempt, *out = cell.decode().split()
+    return Record(state, int(attempt), out[0] if out else "none")
+
+
+def request(cell: bytes) -> Request:
+    """The request that a cell stands for. Its service is SERVICE."""
+    word, plan, *refuses = cell.decode().split(":")
+    kind = OF_A_BINDING.get(word, word)
+    return Request(kind, not refuses, INSTANCE if kind == word else BINDING, PLANS[plan])
+
+
+def digest(cell: bytes | None) -> bytes:
+    """The digest of attributes that a cell stands for."""
+    return (bytes.fromhex((cell or b"00").decode()) * 32)[:32]
+
+
+def holding(cell: bytes) -> Holding:
+    """The holding that a cell stands for. Its service is SERVICE."""
+    found = Holding(None, None, False, digest(None))
+    for word in cell.split():
+        name, _, plan = word.decode().partition(":")
+        if word.startswith(b"#"):
+            found = found._replace(attributes=digest(word[1:]))
+        elif word == b"tombstone":
+            found = found._replace(has_tombstone=True)
+        elif name in PHASES:
+            found = found._replace(row=(name, PLANS[plan]))
+        elif word != b"none":
+            found = found._replace(work=request(word))
+    return found
+
+
+def cases() -> Iterator[Case]:
+    """Each case of the file."""
+    texts: dict[bytes, bytes] = {}
+    head: list[bytes] = []
+    first: list[bytes] = []
+    for number, line in enumerate(FILE.read_bytes().split(b"\n"), 1):
+        cells = line.split(b"\t")
+        if not line or line.startswith(b"#"):
+            head, first = [], []
+        elif line.startswith(b"text "):
+            texts[cells[0][5:]] = _plain(cells[1])
+        elif not head:
+            head = cells
+            split = head.index(b"=")
+            call, *given, _ = (name.decode() for name in head[: split + 1])
+            gives = [name.decode() for name in head[split + 1 :]]
+        else:
+            ended = cells.index(b"=", len(given))
+            assert ended == len(given), f"line {number} of {FILE} has {ended} cells before ="
+            first = first or cells[:ended]
+            rows = [first[at] if cell == b"." else cell for at, cell in enumerate(cells[:ended])]
+            is_done = not cells[ended + 1].startswith(b"!")
+            results = cells[ended + 1 :] if is_done else []
+            status = "DONE" if is_done else cells[ended + 1][1:].decode()
+            for row in itertools.product(*(re.split(rb"(?<!\\)\\\|", cell) for cell in rows)):
+                of = dict(zip(given, (_value(cell, texts) for cell in row)))
+                values = (of[name] if cell == b"." else _value(cell, texts) for name, cell in zip(gives, results))
+                yield Case(call, of, status, dict(zip(gives, values)), number)

@@ -1,0 +1,386 @@
+"""The cases of api/cases.txt by this package."""
+from __future__ import annotations
+
+import json
+import re
+from typing import Any, Callable
+
+import osb
+import pytest
+from osb import Answer, Holding, Id, Kind, OsbError, Record, Refusal, Request, State, Status, binding_wire, wire
+from osb._lib import lib
+from osb._texts import written
+from osb.tables import decide_deprovision, decide_poll
+from osb_tests.support import SERVICE, SYNC, hashed
+
+import api.cases
+from api.cases import Case, Cells, cases, digest
+
+GUID = re.compile(r"[0-9a-f]{8}(?:-[0-9a-f]{4}){3}-[0-9a-f]{12}")
+
+
+class Given:
+    """What a call is given, by the names of its columns."""
+
+    def __init__(self, cells: Cells) -> None:
+        self.cells = cells
+
+    def bytes(self, name: str) -> bytes:
+        value = self.cells[name]
+        assert value is not None, name
+        return value
+
+    def text(self, name: str) -> str:
+        """Bytes that aren't UTF-8 become surrogates, which the package passes on as bytes that aren't UTF-8 either."""
+        return self.bytes(name).decode("utf-8", "surrogateescape")
+
+    def optional(self, name: str) -> str | None:
+        return None if self.cells[name] is None else self.text(name)
+
+    def texts(self, *names: str) -> list[str]:
+        return [self.text(name) for name in names]
+
+    def number(self, name: str) -> int:
+        return int(self.bytes(name))
+
+    def flag(self, name: str) -> bool:
+        return self.bytes(name) == b"yes"
+
+    def id(self, name: str) -> Id:
+        return id_of(self.bytes(name))
+
+    def id_if(self, name: str) -> Id | None:
+        return None if self.cells[name] is None else self.id(name)
+
+    def kind(self) -> Kind:
+        return Kind(named(Kind, self.text("kind")))
+
+    def mode(self) -> Any:
+        return named(osb.Mode, self.text("mode"))
+
+    def answer(self) -> Answer:
+        return Answer(self.number("status"), named(osb.Body, self.text("body")))
+
+    def request(self) -> Request:
+        accepts = self.flag("accepts") if "accepts" in self.cells else True
+        return Request(self.kind(), accepts, self.id("id"), self.id("service_id"), self.id("plan_id"))
+
+    def record(self) -> Record:
+        return record_of(self.bytes("record"))
+
+    def holding(self, name: str = "holding") -> Holding:
+        return holding_of(self.bytes(name))
+
+    def asked(self) -> tuple[Any, Request]:
+        """The mode and the request that begins."""
+        return self.mode(), request_of(api.cases.request(self.bytes("request")))
+
+    def rules(self) -> dict[str, Any]:
+        return {"first_poll": self.flag("first_poll"), "attributes": digest(self.cells["attributes"])}
+
+    def refusal(self) -> Status:
+        return Status[self.text("refusal")]
+
+
+def named(enum: Any, word: str) -> Any:
+    """The number with this name, or None for `none`. A number that has no name is a ValueError."""
+    if word == "none":
+        return None
+    return enum(int(word)) if word.isdigit() else enum[word.upper().replace("-", "_")]
+
+
+def record_of(cell: bytes) -> Record:
+    it = api.cases.record(cell)
+    return Record(SERVICE, SYNC, it.attempt, named(State, it.state), named(Kind, it.out))
+
+
+def request_of(it: api.cases.Request) -> Request:
+    return Request(named(Kind, it.kind), it.accepts_incomplete, id_of(it.id), SERVICE, id_of(it.plan))
+
+
+def holding_of(cell: bytes) -> Holding:
+    it = api.cases.holding(cell)
+    row = osb.BrokerRow(SERVICE, id_of(it.row[1]), named(osb.Phase, it.row[0])) if it.row else None
+    return Holding(row, request_of(it.work) if it.work else None, it.has_tombstone, it.attributes)
+
+
+def answer_of(cell: bytes) -> Answer:
+    status, body = cell.decode().split()
+    return Answer(int(status), named(osb.Body, body))
+
+
+# What the words of a column mean.
+VALUES: dict[str, Callable[[bytes], Any]] = {
+    "record": record_of,
+    "request": lambda cell: request_of(api.cases.request(cell)),
+    "holding": holding_of,
+    "answer": answer_of,
+    "begun": lambda cell: answer_of(cell) if b" " in cell else named(osb.Work, cell.decode()),
+}
+
+
+def id_of(text: bytes) -> Id:
+    return Id.of(text.decode()) if GUID.fullmatch(text.decode()) else hashed(text.decode())
+
+
+def plans(found: list[osb.Plan]) -> str:
+    return ", ".join(f"{it.service} {it.plan} {'async' if it.is_asynchronous else 'sync'}" for it in found)
+
+
+def error(body: bytes) -> str:
+    """The code of an error, whose body has a description too, and nothing else."""
+    object = json.loads(body)
+    assert set(object) == {"description", "error"} and object["description"]
+    return str(object["error"])
+
+
+def read_details(of: Given) -> list[Any]:
+    return list(vars(wire.read_details(of.bytes("body"))).values())
+
+
+def write_named_target(of: Given) -> str:
+    names = wire.Names(*of.texts("instance", "service", "plan"))
+    return wire.write_named_target(of.request(), names, of.optional("operation"), of.text("prefix"))
+
+
+def write_named_body(of: Given) -> bytes:
+    names = wire.Names("", *of.texts("service", "plan"))
+    return wire.write_named_body(of.kind(), names, *of.texts("organization", "space", "further"))
+
+
+def receiving(of: Given) -> tuple[str, bytes, bytes, int, str]:
+    return (of.text("method"), of.bytes("target"), of.bytes("body"), of.number("longest_body"), of.text("prefix"))
+
+
+def asked(it: wire.Asked, id: str, service: str | None, plan: str | None) -> list[Any]:
+    """The kind, and whether the operation may be asynchronous. The numbers of the ids are those of their texts."""
+    numbers = [None if text is None else id_of(text.encode()) for text in (id, service, plan)]
+    assert [it.id, it.service, it.plan] == numbers
+    return [it.kind, it.accepts_incomplete]
+
+
+def receive_request(of: Given) -> list[Any]:
+    it = wire.receive_request(*receiving(of))
+    found = asked(it.asked, it.instance, it.service, it.plan)
+    return [*found, it.instance, it.service, it.plan, *vars(it.parts).values()]
+
+
+def asked_request(of: Given) -> list[Any]:
+    held = of.id_if("held_service"), of.id_if("held_plan")
+    it = wire.Asked(of.kind(), of.flag("accepts"), of.id("id"), of.id_if("service"), of.id_if("plan"))
+    made = it.request((held[0], held[1]) if held[0] and held[1] else None)
+    assert (made.kind, made.accepts_incomplete, made.id) == (it.kind, it.accepts_incomplete, it.id)
+    return [made.service, made.plan]
+
+
+def write_told_answer(of: Given) -> bytes:
+    return wire.write_answer(of.answer(), of.optional("operation"), of.optional("description"))
+
+
+def refusal_status(of: Given) -> int:
+    try:
+        return Refusal(of.refusal()).http_status
+    except OsbError:  # no refusal
+        return 0
+
+
+def binding_refusal_body(of: Given) -> str:
+    status, body = written(lambda *to: int(lib.osb_binding_refusal_body(of.refusal(), *to)))
+    if status != Status.DONE:
+        raise OsbError(status)
+    return error(body)
+
+
+def originating_identity(of: Given) -> list[Any] | None:
+    found = wire.originating_identity(of.text("value"))
+    return None if found is None else [found.platform, found.object]
+
+
+def request_identity(of: Given) -> list[Any] | None:
+    found = wire.request_identity(of.text("value"))
+    assert found in (None, of.text("value"))
+    return None if found is None else []
+
+
+def check_catalogue(of: Given) -> None:
+    wire.check_catalogue(of.bytes("document"), osb.Endpoints(**{name: True for name in of.text("serves").split()}))
+
+
+def write_binding_target(of: Given) -> str:
+    names = binding_wire.BindingNames(*of.texts("instance", "binding", "service", "plan"))
+    to = of.request(), of.id("instance_id"), names
+    if of.flag("is_fetch"):
+        return binding_wire.write_fetch_target(*to, of.text("prefix"))
+    return binding_wire.write_binding_target(*to, of.optional("operation"), of.text("prefix"))
+
+
+def write_binding_body(of: Given) -> bytes:
+    names = binding_wire.BindingNames("", "", *of.texts("service", "plan"))
+    return binding_wire.write_binding_body(of.kind(), names, of.text("further"))
+
+
+def receive_binding_request(of: Given) -> list[Any]:
+    it = binding_wire.receive_binding_request(*receiving(of))
+    assert it.asked.instance == id_of(it.instance.encode())
+    found = asked(it.asked.asked, it.binding, it.service, it.plan)
+    texts = it.instance, it.binding, it.service, it.plan
+    return [it.asked.is_fetch, *found, *texts, *vars(it.parts).values()]
+
+
+def read_binding(of: Given) -> list[Any] | None:
+    """The object is the whole body."""
+    body, status = of.bytes("body"), of.number("status")
+    is_fetch = of.flag("is_fetch")
+    found = binding_wire.read_fetched(status, body) if is_fetch else binding_wire.read_binding(of.kind(), status, body)
+    assert found in (None, body)
+    return None if found is None else []
+
+
+def record_from_row(of: Given) -> Record:
+    state, out = (named(enum, of.text(name)) for enum, name in ((State, "state"), (Kind, "out")))
+    return Record.from_platform_row(osb.PlatformRow(SERVICE, SYNC, state, out))
+
+
+CALLS: dict[str, Callable[[Given], Any]] = {
+    "id_of_text": lambda of: Id.of_text(of.text("text")),
+    "id_from_text": lambda of: Id.of(of.text("text")),
+    "decide_deprovision": lambda of: decide_deprovision(of.answer()),
+    "decide_poll": lambda of: decide_poll(named(State, of.text("state")), of.answer()),
+    "read_answer": lambda of: getattr(wire.read_answer(of.kind(), of.number("status"), of.bytes("body")), "body", None),
+    "read_details": read_details,
+    "retry_after": lambda of: wire.retry_after(of.text("value")),
+    "write_method": lambda of: wire.write_method(of.kind()),
+    "write_named_target": write_named_target,
+    "write_named_body": write_named_body,
+    "receive_request": receive_request,
+    "asked_request": asked_request,
+    "member_text": lambda of: wire.member_text(of.bytes("body"), of.text("name")),
+    "parameters_digest": lambda of: wire.parameters_digest(of.bytes("parameters")).hex(),
+    "attributes_digest": lambda of: wire.attributes_digest(of.bytes("body")).hex(),
+    "write_told_answer": write_told_answer,
+    "refusal_status": refusal_status,
+    "refusal_body": lambda of: error(Refusal(of.refusal()).body),
+    "api_version": lambda of: wire.api_version(of.optional("value")),
+    "basic_auth": lambda of: [] if wire.basic_auth(*of.texts("value", "user", "password")) else None,
+    "originating_identity": originating_identity,
+    "request_identity": request_identity,
+    "catalogue_plans": lambda of: plans(wire.catalogue_plans(of.bytes("document"))),
+    "catalogue_check": check_catalogue,
+    "served_catalogue": lambda of: wire.served_catalogue(of.bytes("document")),
+    "asks_for_catalogue": lambda of: wire.asks_for_catalogue(of.bytes("target"), of.text("prefix")),
+    "plan_version": lambda of: wire.plan_version(of.bytes("document"), of.id("service"), of.id("plan")),
+    "maintenance_conflict": lambda of: wire.maintenance_conflict(of.optional("version"), of.bytes("body")),
+    "write_binding_target": write_binding_target,
+    "write_binding_body": write_binding_body,
+    "receive_binding_request": receive_binding_request,
+    "binding_refusal_status": lambda of: int(lib.osb_binding_refusal_status(of.refusal())),
+    "binding_refusal_body": binding_refusal_body,
+    "requires_app": lambda of: binding_wire.requires_app(of.flag("needs_app"), of.bytes("body")),
+    "write_binding": lambda of: binding_wire.check_binding(of.bytes("object")),
+    "read_binding": read_binding,
+    "binding_modes": lambda of: plans(binding_wire.binding_modes(of.bytes("document"))),
+    "bindings_retrievable": lambda of: binding_wire.bindings_retrievable(of.bytes("document"), of.id("service")),
+    "record_create": lambda of: Record.create(
+        of.id("id"), of.id("service"), of.id("plan"), of.flag("accepts_incomplete")
+    ),
+    "record_from_row": record_from_row,
+    "record_send": lambda of: of.record().send(of.id("id")),
+    "record_answer": lambda of: of.record().answer(of.number("attempt"), of.answer()),
+    "record_timeout": lambda of: of.record().timeout(of.number("attempt")),
+    "record_expire": lambda of: of.record().expire(),
+    "record_retry": lambda of: of.record().retry(),
+    "record_remove": lambda of: of.record().remove(),
+    "record_remove_if": lambda of: of.record().remove_if(of.flag("all_gone")),
+    "record_is_ready": lambda of: of.record().is_ready,
+    "record_is_gone": lambda of: of.record().is_gone,
+    "record_to_text": lambda of: of.record().to_text(),
+    "record_from_text": lambda of: Record.from_text(of.text("text")),
+    "binding_create": lambda of: of.record().create_binding(of.id("binding"), of.flag("accepts_incomplete")),
+    "binding_answer": lambda of: of.record().answer_binding(
+        of.number("attempt"), of.answer(), retrievable=of.flag("retrievable")
+    ),
+    "binding_record_to_text": lambda of: of.record().to_binding_text(),
+    "binding_record_from_text": lambda of: Record.from_binding_text(of.text("text")),
+    "work_of": lambda of: str(osb.work_of(of.kind(), of.mode()) or "none"),
+    "holding_fits": lambda of: of.holding().fits(of.mode()),
+    "holding_begin": lambda of: of.holding().begin(*of.asked(), **of.rules()),
+    "holding_begin_if": lambda of: of.holding().begin_if(*of.asked(), may_begin=of.flag("may_begin"), **of.rules()),
+    "holding_end": lambda of: of.holding().end(of.mode(), named(osb.Outcome, of.text("outcome"))),
+    "holding_finish": lambda of: of.holding().finish(of.flag("ok")),
+    "holding_give_up_waiting": lambda of: of.holding().give_up_waiting(),
+    "holding_is_held": lambda of: of.holding().is_held,
+    "holding_is_there": lambda of: of.holding().is_there(of.id("service"), of.id("plan")),
+    "holding_to_text": lambda of: of.holding().to_text(),
+    "holding_from_text": lambda of: Holding.from_text(of.text("text")),
+    "binding_begin": lambda of: of.holding().begin_binding(of.holding("instance"), *of.asked(), **of.rules()),
+    "binding_fetch": lambda of: of.holding().fetch(),
+    "binding_holding_to_text": lambda of: of.holding().to_binding_text(),
+    "binding_holding_from_text": lambda of: Holding.from_binding_text(of.text("text")),
+}
+# The columns that may have a number instead of a name.
+NUMBERED = ("kind", "state", "mode", "outcome", "record", "request")
+# The status for which a call of this package returns None or False.
+NOTHING = {
+    "read_answer": "NO_ANSWER",
+    "retry_after": "NO_SECONDS",
+    "member_text": "NO_MEMBER",
+    "basic_auth": "UNAUTHORIZED",
+    "originating_identity": "NO_IDENTITY",
+    "request_identity": "NO_IDENTITY",
+    "plan_version": "NO_PLAN_VERSION",
+    "read_binding": "NO_BINDING",
+}
+
+
+def said(value: Any) -> Any:
+    """A result as a cell has it, or the value of which a cell has the words."""
+    if value is None or isinstance(value, (bytes, Record, Holding, Request, Answer, osb.Work)):
+        return value
+    return ("yes" if value else "no").encode() if isinstance(value, bool) else str(value).encode()
+
+
+def wanted(case: Case) -> list[Any]:
+    """The results that a case wants. Where the package has a number or plans, the numbers of the texts."""
+    values: list[Any] = []
+    for name, value in case.gives.items():
+        if name in VALUES and value is not None:
+            values.append(VALUES[name](value))
+            continue
+        if name in ("id", "service_id", "plan_id") and value is not None:
+            value = str(id_of(value)).encode()
+        if name == "plans" and value:
+            rows = [it.split(b" ") for it in value.split(b", ")]
+            value = ", ".join(f"{id_of(of)} {id_of(plan)} {mode.decode()}" for of, plan, mode in rows).encode()
+        values.append(value)
+    return values
+
+
+@pytest.mark.parametrize("call", CALLS)
+def test_a_call(call: str) -> None:
+    found = [case for case in cases() if case.call == call]
+    assert found
+    for case in found:
+        check(case)
+
+
+def check(case: Case) -> None:
+    of = Given(case.given)
+    if any((case.given.get(name) or b"")[:1].isdigit() for name in NUMBERED):
+        with pytest.raises(ValueError):  # the enums don't take a number that has no name
+            CALLS[case.call](of)
+        return
+    try:
+        result = CALLS[case.call](of)
+    except OsbError as raised:
+        assert raised.status.name == case.status, case
+        assert not isinstance(raised, Refusal) or raised.http_status >= 400
+        return
+    if result is None and case.call in NOTHING:
+        assert case.status == NOTHING[case.call], case
+        return
+    results = list(result) if isinstance(result, (list, tuple)) else [] if result is None else [result]
+    assert (case.status, list(map(said, results))) == ("DONE", wanted(case)), case
+
+
+def test_each_case_has_its_call() -> None:
+    assert {case.call for case in cases()} == set(CALLS)
